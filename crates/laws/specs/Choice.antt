@@ -1,0 +1,34 @@
+-- What a choice by a test is, from a fact on the numbers: lemmas for `search`, with which a `return` follows the tests that led to it.
+-- Assumes nothing.
+use mathlib.Core.Path.{_≡_, refl, sym, ap, _∙_}
+use mathlib.Core.Bool.{Bool, true, false, cond}
+use Prim.Native.Nat.{ℕ, _<_, _≤_}
+use lib.Dec.{ltb, leb, eqb}
+use borrow.Author.Tests.{le-ltb, lt-ltb, le-leb, lt-leb, eq-eqb, ne-eqb}
+
+module _ {X : Type 0} (x y : X) {z : X} where
+  pub at-yes : (b : Bool) → b ≡ true → z ≡ x → z ≡ cond b x y
+  at-yes b e q = rw e q
+
+  pub at-no : (b : Bool) → b ≡ false → z ≡ y → z ≡ cond b x y
+  at-no b e q = rw e q
+
+  pub at-lt : (a b : ℕ) → a < b → z ≡ x → z ≡ cond (ltb a b) x y
+  at-lt a b h q = rw (lt-ltb a b h) q
+
+  pub at-ge : (a b : ℕ) → b ≤ a → z ≡ y → z ≡ cond (ltb a b) x y
+  at-ge a b h q = rw (le-ltb a b h) q
+
+  pub at-le : (a b : ℕ) → a ≤ b → z ≡ x → z ≡ cond (leb a b) x y
+  at-le a b h q = rw (le-leb a b h) q
+
+  pub at-gt : (a b : ℕ) → b < a → z ≡ y → z ≡ cond (leb a b) x y
+  at-gt a b h q = rw (lt-leb a b h) q
+
+  pub at-eq : (a b : ℕ) → a ≡ b → z ≡ x → z ≡ cond (eqb a b) x y
+  at-eq a b h q = rw (eq-eqb a b h) q
+
+  pub at-ne : (a b : ℕ) → (a ≡ b → ⊥) → z ≡ y → z ≡ cond (eqb a b) x y
+  at-ne a b h q = rw (ne-eqb a b h) q
+
+pub ruleset choices = (at-lt, at-ge, at-eq, at-ne, at-le, at-gt, at-yes, at-no)
