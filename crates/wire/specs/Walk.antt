@@ -1,0 +1,65 @@
+-- What the walk over a message's parameters finds.
+-- Assumes nothing.
+use Prim.Native.Nat.{ℕ, zero, suc, _+_, _-_, _*_, _/_}
+use mathlib.Core.Bool.{Bool, true, false, cond}
+use mathlib.Core.List.{List, [], _∷_}
+use lib.ListN.{length, take, drop}
+use lib.Dec.{ltb, leb}
+use Rattle.wire.specs.Number.{be}
+use Rattle.wire.specs.declared.Step.{Step}
+use Rattle.wire.specs.declared.Step.the-variants.{Param, End, Fault}
+
+-- "0 to 3 padding bytes (ignored) to a multiple of 4": a length with its padding
+abbrev pub padded : ℕ → ℕ
+padded n = (n + 3) / 4 * 4
+
+-- What stands at a position. "16-bit tag, 16-bit length that counts these 4 bytes and the value but no padding": a parameter, with the position
+-- after its padding. Nothing left: the end. "a length below 4, or a padded end beyond the message", or fewer than 4 bytes left: a fault.
+unfoldable pub stepAt : List ℕ → ℕ → Step
+stepAt s at =
+    cond (leb (length s) at) End
+    (cond (ltb (length s - at) 4) Fault
+    (cond (ltb (be 2 s (at + 2)) 4) Fault
+    (cond (leb (padded (be 2 s (at + 2))) (length s - at))
+    (Param (be 2 s at) (be 2 s (at + 2)) (at + padded (be 2 s (at + 2))))
+    Fault)))
+
+-- a parameter: its tag and its value
+pub record Par : Type 0 where
+  pub tag : ℕ
+  pub body : List ℕ
+
+-- "the first reading that isn't a parameter ends the walk": the parameters before it, and whether it is the end and no fault
+pub record Walk : Type 0 where
+  pub pars : List Par
+  pub whole : Bool
+
+-- one reading, and the walk from the next position on. "The value of a parameter is read as a part of the message that starts at its fifth byte."
+abbrev pub onStep : List ℕ → ℕ → Step → (ℕ → Walk) → Walk
+onStep s at (Param t l n) rest =
+    record { pars = record { tag = t; body = take (l - 4) (drop (at + 4) s) } ∷ rest n .pars; whole = rest n .whole }
+onStep s at End rest = record { pars = []; whole = true }
+onStep s at Fault rest = record { pars = []; whole = false }
+
+-- the walk in at most so many readings
+unfoldable pub walkF : ℕ → List ℕ → ℕ → Walk
+walkF zero s at = record { pars = []; whole = false }
+walkF (suc f) s at = onStep s at (stepAt s at) (walkF f s)
+
+-- the walk from a position on. Each parameter takes four bytes at least, so the count never runs out.
+unfoldable pub walk : List ℕ → ℕ → Walk
+walk s at = walkF (suc (length s - at)) s at
+
+-- the reading is the end and no fault
+abbrev pub atEnd : Step → Bool
+atEnd (Param t l n) = false
+atEnd End = true
+atEnd Fault = false
+
+-- the value of the parameter at a position whose length field is len; nothing where it does not lie within the message
+unfoldable pub partOf : List ℕ → ℕ → ℕ → List ℕ
+partOf s at len =
+    cond (ltb len 4) []
+    (cond (ltb (length s) len) []
+    (cond (ltb (length s - len) at) []
+    (take (at + len - (at + 4)) (drop (at + 4) s))))

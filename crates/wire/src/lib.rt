@@ -1,0 +1,88 @@
+// The wire format below the messages: big-endian numbers, the walk over parameters, the reading place.
+ghost use mathlib.Core.Path.{_≡_};
+ghost use Prim.Native.Nat.{_+_, _≤_};
+ghost use lib.ListN.{length};
+ghost use Rattle.wire.specs.Number.{be};
+ghost use Rattle.wire.specs.Walk.{stepAt, walk, atEnd, partOf};
+
+// What stands at a position of a message: a parameter with the position after its padding, the end, or a fault.
+pub enum Step {
+    Param { tag: u16, len: u16, next: usize },
+    End,
+    Fault,
+}
+
+// The 16-bit number at a position.
+pub fn get16(s: &[u8], at: usize) -> u16
+    requires { ⌜ at + 2 ≤ length (now s) ⌝ }
+    ensures { λ r. ⌜ r ≡ be 2 (now (s .entry)) at ⌝ }
+{
+    (s[at] as u16) * 256 + s[at + 1] as u16
+}
+
+// The 32-bit number at a position.
+pub fn get32(s: &[u8], at: usize) -> u32
+    requires { ⌜ at + 4 ≤ length (now s) ⌝ }
+    ensures { λ r. ⌜ r ≡ be 4 (now (s .entry)) at ⌝ }
+{
+    (get16(s, at) as u32) * 65536 + get16(s, at + 2) as u32
+}
+
+// What stands at a position.
+pub fn step_at(s: &[u8], at: usize) -> Step
+    ensures { λ r. ⌜ r ≡ stepAt (now (s .entry)) at ⌝ }
+{
+    if s.len() <= at {
+        return Step::End;
+    }
+    let left = s.len() - at;
+    if left < 4 {
+        return Step::Fault;
+    }
+    let tag = get16(s, at);
+    let len = get16(s, at + 2);
+    if len < 4 {
+        return Step::Fault;
+    }
+    let size = ((len as usize) + 3) / 4 * 4;
+    if size <= left {
+        Step::Param {
+            tag,
+            len,
+            next: at + size,
+        }
+    } else {
+        Step::Fault
+    }
+}
+
+// The reading is the end and no fault.
+pub fn is_end(w: Step) -> bool
+    ensures { λ r. ⌜ r ≡ atEnd w ⌝ }
+{
+    match w {
+        Step::End => true,
+        Step::Fault => false,
+        Step::Param {
+            tag: _,
+            len: _,
+            next: _,
+        } => false,
+    }
+}
+
+// The value of the parameter at a position whose length field is len, as a part of the message; nothing where it is not there.
+pub fn part_at(s: &[u8], at: usize, len: usize) -> &[u8]
+    ensures { λ r. ⌜ now r ≡ partOf (now (s .entry)) at len ⌝ }
+{
+    if len < 4 {
+        return &s[..0];
+    }
+    if s.len() < len {
+        return &s[..0];
+    }
+    if s.len() - len < at {
+        return &s[..0];
+    }
+    &s[at + 4..at + len]
+}
