@@ -12,7 +12,7 @@ use Rattle.wire.specs.Number.{be}
 use mathlib.Core.Logic.{_⊎_, ⊎-elim}
 use denote.Enum.Declared.{tagOf, declared}
 use Rattle.wire.proofs.Step.{enum}
-use Rattle.wire.specs.Walk.{stepAt, padded, Walk, walkF, walk, onStep, atEnd}
+use Rattle.wire.specs.Walk.{stepAt, padded, Walk, walkF, walk, onStep, stepCode}
 use Rattle.wire.specs.declared.Step.{Step}
 use Rattle.wire.specs.declared.Step.the-variants.{Param, End, Fault}
 
@@ -86,7 +86,7 @@ walk-step s at End e = ap (λ (w : Step). onStep s at w (walkF (length s - at) s
 walk-step s at Fault e = ap (λ (w : Step). onStep s at w (walkF (length s - at) s)) e
 
 -- a reading that is no parameter ends the walk
-pub walk-stop : (s : List ℕ) (at : ℕ) (w : Step) → stepAt s at ≡ w → (tagOf (declared enum) w ≡ 1) ⊎ (tagOf (declared enum) w ≡ 2) → walk s at ≡ record { pars = []; whole = atEnd w }
+pub walk-stop : (s : List ℕ) (at : ℕ) (w : Step) → stepAt s at ≡ w → (tagOf (declared enum) w ≡ 1) ⊎ (tagOf (declared enum) w ≡ 2) → walk s at ≡ record { pars = []; code = stepCode w }
 walk-stop s at (Param t l n) e k = absurd (⊎-elim (λ q. omega arith) (λ q. omega arith) k)
 walk-stop s at End e k = walk-step s at End e
 walk-stop s at Fault e k = walk-step s at Fault e

@@ -1,7 +1,7 @@
 -- What the walk over a message's parameters finds.
 -- Assumes nothing.
 use Prim.Native.Nat.{ℕ, zero, suc, _+_, _-_, _*_, _/_}
-use mathlib.Core.Bool.{Bool, true, false, cond}
+use mathlib.Core.Bool.{cond}
 use mathlib.Core.List.{List, [], _∷_}
 use lib.ListN.{length, take, drop}
 use lib.Dec.{ltb, leb}
@@ -29,32 +29,32 @@ pub record Par : Type 0 where
   pub tag : ℕ
   pub body : List ℕ
 
--- "the first reading that isn't a parameter ends the walk": the parameters before it, and whether it is the end and no fault
+-- document 01's number for each case of a reading: "a length below 4, or a padded end beyond the message: 18"
+abbrev pub stepCode : Step → ℕ
+stepCode (Param t l n) = 0
+stepCode End = 0
+stepCode Fault = 18
+
+-- "the first reading that isn't a parameter ends the walk": the parameters before it, and the number of that reading
 pub record Walk : Type 0 where
   pub pars : List Par
-  pub whole : Bool
+  pub code : ℕ
 
 -- one reading, and the walk from the next position on. "The value of a parameter is read as a part of the message that starts at its fifth byte."
 abbrev pub onStep : List ℕ → ℕ → Step → (ℕ → Walk) → Walk
 onStep s at (Param t l n) rest =
-    record { pars = record { tag = t; body = take (l - 4) (drop (at + 4) s) } ∷ rest n .pars; whole = rest n .whole }
-onStep s at End rest = record { pars = []; whole = true }
-onStep s at Fault rest = record { pars = []; whole = false }
+    record { pars = record { tag = t; body = take (l - 4) (drop (at + 4) s) } ∷ rest n .pars; code = rest n .code }
+onStep s at End rest = record { pars = []; code = stepCode End }
+onStep s at Fault rest = record { pars = []; code = stepCode Fault }
 
 -- the walk in at most so many readings
 unfoldable pub walkF : ℕ → List ℕ → ℕ → Walk
-walkF zero s at = record { pars = []; whole = false }
+walkF zero s at = record { pars = []; code = stepCode Fault }
 walkF (suc f) s at = onStep s at (stepAt s at) (walkF f s)
 
 -- the walk from a position on. Each parameter takes four bytes at least, so the count never runs out.
 unfoldable pub walk : List ℕ → ℕ → Walk
 walk s at = walkF (suc (length s - at)) s at
-
--- the reading is the end and no fault
-abbrev pub atEnd : Step → Bool
-atEnd (Param t l n) = false
-atEnd End = true
-atEnd Fault = false
 
 -- the value of the parameter at a position whose length field is len; nothing where it does not lie within the message
 unfoldable pub partOf : List ℕ → ℕ → ℕ → List ℕ

@@ -3,7 +3,7 @@ ghost use mathlib.Core.Path.{_≡_};
 ghost use Prim.Native.Nat.{_+_, _≤_};
 ghost use lib.ListN.{length};
 ghost use Rattle.wire.specs.Number.{be};
-ghost use Rattle.wire.specs.Walk.{stepAt, walk, atEnd, partOf};
+ghost use Rattle.wire.specs.Walk.{stepAt, stepCode, walk, partOf};
 
 // What stands at a position of a message: a parameter with the position after its padding, the end, or a fault.
 pub enum Step {
@@ -56,18 +56,37 @@ pub fn step_at(s: &[u8], at: usize) -> Step
     }
 }
 
-// The reading is the end and no fault.
-pub fn is_end(w: Step) -> bool
-    ensures { λ r. ⌜ r ≡ atEnd w ⌝ }
+// Document 01's number for a reading: 18 for a fault.
+pub fn step_code(w: Step) -> u32
+    ensures { λ r. ⌜ r ≡ stepCode w ⌝ }
 {
     match w {
-        Step::End => true,
-        Step::Fault => false,
+        Step::Fault => 18,
+        Step::End => 0,
         Step::Param {
             tag: _,
             len: _,
             next: _,
-        } => false,
+        } => 0,
+    }
+}
+
+// The walk from a position on: 0, or the number of the fault that ends it.
+pub fn walk_code(s: &[u8], from: usize) -> u32
+    ensures { λ r. ⌜ r ≡ walk (now (s .entry)) from .code ⌝ }
+{
+    let mut at = from;
+    loop {
+        let w = step_at(s, at);
+        let Step::Param {
+            tag: _,
+            len: _,
+            next,
+        } = w
+        else {
+            return step_code(w);
+        };
+        at = next;
     }
 }
 
