@@ -2,7 +2,7 @@
 -- Assumes nothing.
 use Prim.Native.Nat.{ℕ, zero, suc, _+_, _%_}
 use mathlib.Core.Bool.{Bool, true, false, cond, not, _&&_, _||_}
-use mathlib.Core.List.{List, [], _∷_}
+use mathlib.Core.List.{List, [], _∷_, _++_}
 use lib.ListN.{length, getD}
 use lib.Dec.{ltb, eqb}
 use Rattle.wire.specs.Number.{be}
@@ -47,12 +47,12 @@ unfoldable pub isNone : List Par → Bool
 isNone [] = true
 isNone (p ∷ ps) = false
 
--- "each parameter in turn": the row's index, the parameters before (the last first), and those left
+-- "each parameter in turn": the row's index, the parameters before, and those left
 unfoldable pub inTurn : ℕ → List Par → List Par → ℕ
 inTurn i before [] = 0
 inTurn i before (p ∷ ps) =
     parCode (usage i 0x1) (usage i (p .tag)) (isNone before) (has (p .tag) before) (p .tag) (p .body)
-    orElse inTurn i (p ∷ before) ps
+    orElse inTurn i (before ++ (p ∷ [])) ps
 
 -- ---- check 8
 
@@ -110,6 +110,10 @@ check8 i c t ps = (22 if not (allThere (entriesIn table i) ps)) orElse sequenceC
 unfoldable pub parsCode : ℕ → ℕ → List Par → ℕ
 parsCode c t ps = check7 (rowIn table c t) ps orElse check8 (rowIn table c t) c t ps
 
+-- the checks 6 to 8
+unfoldable pub lastChecks : List ℕ → ℕ
+lastChecks s = check6 s orElse parsCode (getD s 2 0) (getD s 3 0) (walk s 8 .pars)
+
 -- The verdict on a message: 0, or the number of the first check that applies.
 unfoldable pub verdict : List ℕ → ℕ
 verdict s =
@@ -118,5 +122,4 @@ verdict s =
     orElse check3 (getD s 2 0)
     orElse check4 (rowIn table (getD s 2 0) (getD s 3 0))
     orElse check5 s
-    orElse check6 s
-    orElse parsCode (getD s 2 0) (getD s 3 0) (walk s 8 .pars)
+    orElse lastChecks s

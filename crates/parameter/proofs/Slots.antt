@@ -123,7 +123,7 @@ same-slot u t h = go (ℕ-discrete (slot u) (slot t))
 unfoldable pub near : ℕ → Bool
 near t = ltb t 20 || (leb 0x300 t && ltb t 0x309)
 
-all-near : List Entry → Bool
+unfoldable pub all-near : List Entry → Bool
 all-near [] = true
 all-near (e ∷ es) = near (e .tag) && all-near es
 
@@ -141,6 +141,10 @@ entries-near [] i h = refl
 entries-near (r ∷ rs) zero h = both-true (all-near (r .entries)) (rows-near rs) h .0
 entries-near (r ∷ rs) (suc i) h = entries-near rs i (both-true (all-near (r .entries)) (rows-near rs) h .1)
 
+-- each tag of a row has a slot of its own
+pub row-near : (i : ℕ) → all-near (entriesIn table i) ≡ true
+row-near i = entries-near table i table-near
+
 far : (es : List Entry) (t : ℕ) → all-near es ≡ true → near t ≡ false → useIn es t ≡ never
 unfolding useIn near all-near
 far [] t h n = refl
@@ -153,7 +157,7 @@ far (e ∷ es) t h n =
 -- no message has such a tag
 pub usage-far : (i t : ℕ) → near t ≡ false → usage i t ≡ never
 unfolding usage
-usage-far i t n = far (entriesIn table i) t (entries-near table i table-near) n
+usage-far i t n = far (entriesIn table i) t (row-near i) n
 
 near-between : (t : ℕ) → 20 ≤ t → t < 0x300 → near t ≡ false
 unfolding near
@@ -190,16 +194,24 @@ module _ (i t : ℕ) where
       go (between a b) = far-same (near-between t a b) (slot-between t a b)
       go (above a) = far-same (near-above t a) (slot-above t a)
 
-  -- a tag that may stand in some message has a slot of its own
-  pub listed-slot : (usage i t ≡ never → ⊥) → slot t < 31
-  listed-slot h = go (lies t)
+  -- a tag that is near has a slot of its own
+  pub near-slot : near t ≡ true → slot t < 31
+  near-slot h = go (lies t)
     where
       go : Lies t → slot t < 31
       go (low a) = let e = slot-low t a in omega arith
       go (high a b n) = let e = slot-high t a b n in omega arith
       go (twin e) = rw e twin-small
-      go (between a b) = absurd (h (usage-far i t (near-between t a b)))
-      go (above a) = absurd (h (usage-far i t (near-above t a)))
+      go (between a b) = absurd (false≢true (sym (near-between t a b) ∙ h))
+      go (above a) = absurd (false≢true (sym (near-above t a) ∙ h))
+
+  -- a tag that may stand in some message has a slot of its own
+  pub listed-slot : (usage i t ≡ never → ⊥) → slot t < 31
+  listed-slot h = go (near t) refl
+    where
+      go : (b : Bool) → near t ≡ b → slot t < 31
+      go true e = near-slot e
+      go false e = absurd (h (usage-far i t e))
 
 limits-far : (t : ℕ) → 20 ≤ t → ((0x300 ≤ t) → t < 0x309 → ⊥) → limitsOf t ≡ limitsOf 779
 unfolding limitsOf
