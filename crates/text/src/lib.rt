@@ -357,3 +357,13 @@ pub fn collect(line: &mut [u8; 65536], held: usize, part: &[u8]) -> usize
     }
     put_bytes(line, held, &part[..room])
 }
+
+// The first bytes of a buffer; all of it where it has no more.
+pub fn first(s: &[u8], n: usize) -> &[u8]
+    ensures { λ r. ⌜ now r ≡ take n (now (s .entry)) ⌝ }
+{
+    if n < s.len() {
+        return &s[..n];
+    }
+    s
+}
