@@ -1,4 +1,3 @@
 pub mod Seen
-pub mod Musts
 pub mod Turns
 pub mod Order

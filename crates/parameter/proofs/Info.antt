@@ -1,19 +1,30 @@
--- The mandatory slots of each row, as the code lists them: one computed test over the rows.
+-- The packed rows are the table's: computed tests over the rows.
 -- Assumes nothing.
 use mathlib.Core.Path.{_≡_, refl, sym, ap, _∙_}
 use mathlib.Core.Bool.{Bool, true, false, cond, _&&_, false≢true}
 use mathlib.Core.List.{List, [], _∷_}
-use Prim.Native.Nat.{ℕ, zero, suc, _+_, _*_, _<_}
+use Prim.Native.Nat.{ℕ, zero, suc, _+_, _*_, _/_, _%_, _^_, _<_}
 use lib.ListN.{getD}
-use lib.Dec.{ltb, eqb}
-use borrow.Author.Tests.{eqb-true, ltb-true}
+use lib.Dec.{eqb}
+use borrow.Author.Tests.{eqb-true}
 use Rattle.laws.specs.Below.{allBelow, all-at, both-true}
-use Rattle.parameter.specs.Table.{must, Entry, table, entriesIn}
-use Rattle.parameter.specs.Slot.{slot}
-use Rattle.message.specs.Seen.{allMet}
+use Rattle.parameter.specs.Table.{must, Entry, table, entriesIn, useIn, usage}
+use Rattle.parameter.specs.Slot.{slot, tagAt, infoOf, useBits, asked, allAsked, allMet}
 
-unfoldable pub musts : List ℕ
-musts = 12 ∷ 0 ∷ 0 ∷ 13 ∷ 0 ∷ 0 ∷ 0 ∷ 0 ∷ 0 ∷ 0 ∷ 0 ∷ 0 ∷ 0 ∷ 0 ∷ 0 ∷ 0 ∷ 0 ∷ 0 ∷ 0 ∷ 0 ∷ 0 ∷ 1 ∷ 20 ∷ 0 ∷ 1 ∷ 0 ∷ 0 ∷ 1 ∷ 22 ∷ 0 ∷ 1 ∷ 23 ∷ 0 ∷ 1 ∷ 26 ∷ 0 ∷ 1 ∷ 26 ∷ 28 ∷ 1 ∷ 20 ∷ 0 ∷ 1 ∷ 0 ∷ 0 ∷ 1 ∷ 24 ∷ 0 ∷ 1 ∷ 19 ∷ 0 ∷ []
+-- ---- how tags may stand
+
+bits : ℕ → ℕ → Bool
+bits row k = eqb (useBits (infoOf row .uses) k) (usage row (tagAt k))
+
+all-bits : allBelow (λ row. allBelow (bits row) 32) 17 ≡ true
+unfolding allBelow bits infoOf usage useIn entriesIn table tagAt
+all-bits = refl
+
+pub use-bits : (row k : ℕ) → row < 17 → k < 32 → useBits (infoOf row .uses) k ≡ usage row (tagAt k)
+unfolding bits
+use-bits row k hr hk = eqb-true _ _ (all-at (bits row) 32 (all-at (λ r. allBelow (bits r) 32) 17 all-bits row hr) k hk)
+
+-- ---- the mandatory slots
 
 -- the mandatory slots among the parameters of a row
 slots : List Entry → List ℕ
@@ -36,12 +47,8 @@ each-slots (e ∷ es) met = go (eqb (e .use-as) must) (each-slots es met)
     go false ih = ih
 
 -- a slot in front, where it is one
-abbrev pub front : ℕ → List ℕ → List ℕ
+abbrev front : ℕ → List ℕ → List ℕ
 front k ks = cond (eqb k 0) ks (k ∷ ks)
-
--- the code's question for one slot
-abbrev pub asked : List Bool → ℕ → Bool
-asked met k = cond (eqb k 0) true (getD met k false)
 
 each-front : (k : ℕ) (ks : List ℕ) (met : List Bool) → each (front k ks) met ≡ (asked met k && each ks met)
 unfolding each
@@ -51,8 +58,9 @@ each-front k ks met = go (eqb k 0)
     go true = refl
     go false = refl
 
+-- three packed slots
 three : ℕ → List ℕ
-three row = front (getD musts (row * 3) 0) (front (getD musts (row * 3 + 1) 0) (front (getD musts (row * 3 + 2) 0) []))
+three m = front (m % 32) (front (m / 32 % 32) (front (m / 1024 % 32) []))
 
 same : List ℕ → List ℕ → Bool
 same [] [] = true
@@ -68,23 +76,11 @@ same-is (x ∷ xs) [] h = absurd (false≢true h)
 same-is (x ∷ xs) (y ∷ ys) h = let b = both-true (eqb x y) (same xs ys) h in rw (eqb-true x y (b .0), same-is xs ys (b .1))
 
 right : ℕ → Bool
-right row = same (slots (entriesIn table row)) (three row)
+right row = same (slots (entriesIn table row)) (three (infoOf row .musts))
 
 all-right : allBelow right 17 ≡ true
-unfolding allBelow right same slots entriesIn table three musts slot
+unfolding allBelow right same slots entriesIn table three infoOf slot
 all-right = refl
-
-small : ℕ → Bool
-small i = ltb (getD musts i 0) 32
-
-all-small : allBelow small 51 ≡ true
-unfolding allBelow small musts
-all-small = refl
-
--- each entry of the code's table is a slot
-pub must-small : (i : ℕ) → i < 51 → getD musts i 0 < 32
-unfolding small
-must-small i h = ltb-true _ _ (all-at small 51 all-small i h)
 
 and-true : (b : Bool) → (b && true) ≡ b
 and-true true = refl
@@ -94,16 +90,17 @@ and-assoc : (a b c : Bool) → (a && (b && c)) ≡ ((a && b) && c)
 and-assoc true b c = refl
 and-assoc false b c = refl
 
--- the code's three questions are the row's
-pub musts-met : (row : ℕ) (met : List Bool) → row < 17
-    → allMet (entriesIn table row) met ≡ ((asked met (getD musts (row * 3) 0) && asked met (getD musts (row * 3 + 1) 0)) && asked met (getD musts (row * 3 + 2) 0))
-unfolding right three each
-musts-met row met h =
-    let a = getD musts (row * 3) 0 in
-    let b = getD musts (row * 3 + 1) 0 in
-    let d = getD musts (row * 3 + 2) 0 in
-    each-slots (entriesIn table row) met
-    ∙ ap (λ (ks : List ℕ). each ks met) (same-is (slots (entriesIn table row)) (three row) (all-at right 17 all-right row h))
+-- each mandatory slot of a row is met exactly where the three are
+pub musts-row : (row : ℕ) (met : List Bool) → row < 17 → allAsked (infoOf row .musts) met ≡ allMet (entriesIn table row) met
+unfolding right three each allAsked
+musts-row row met h =
+    let m = infoOf row .musts in
+    let a = m % 32 in
+    let b = m / 32 % 32 in
+    let d = m / 1024 % 32 in
+    sym
+    (each-slots (entriesIn table row) met
+    ∙ ap (λ (ks : List ℕ). each ks met) (same-is (slots (entriesIn table row)) (three m) (all-at right 17 all-right row h))
     ∙ each-front a (front b (front d [])) met
     ∙ ap (λ (x : Bool). asked met a && x) (each-front b (front d []) met ∙ ap (λ (x : Bool). asked met b && x) (each-front d [] met ∙ and-true (asked met d)))
-    ∙ and-assoc (asked met a) (asked met b) (asked met d)
+    ∙ and-assoc (asked met a) (asked met b) (asked met d))

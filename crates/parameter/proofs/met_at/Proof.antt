@@ -1,7 +1,7 @@
 use Rattle.laws.specs.Choice.{choices}
 use borrow.Author.Needs.{needs}
-use Rattle.message.proofs.met_at.Statement.{statement}
-use Rattle.message.proofs.met_at.Tie as tie
+use Rattle.parameter.proofs.met_at.Statement.{statement}
+use Rattle.parameter.proofs.met_at.Tie as tie
 
 returns : tie.Need-returns
 returns c = search choices depth 9
