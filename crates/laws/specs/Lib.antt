@@ -1,3 +1,4 @@
 pub mod Below
 pub mod Choice
+pub mod Every
 pub mod Tab
