@@ -3,6 +3,7 @@
 use Prim.Native.Nat.{ℕ, _+_, _*_, _-_}
 use mathlib.Core.Bool.{Bool, _||_, _&&_, cond, not}
 use mathlib.Core.List.{List}
+use lib.ListN.{replicate}
 use lib.Dec.{eqb, leb, ltb}
 use Rattle.laws.specs.Below.{allBelow, countBelow}
 use Rattle.laws.specs.Tab.{col, on}
@@ -118,3 +119,22 @@ abbrev pub consistent : Gateway → Bool
 consistent g =
     consistentOf (g .asps) (g .ases) (g .links) (g .aspid) (g .up) (g .member) (g .active) (g .mode) (g .waiting) (g .iid)
     (g .owner) (g .state)
+
+-- ---- "a board of zeros"
+
+unfoldable pub zeros : Gateway
+zeros =
+    record {
+      asps = 0;
+      ases = 0;
+      links = 0;
+      aspid = replicate 16 0;
+      up = replicate 16 0;
+      member = replicate 256 0;
+      active = replicate 256 0;
+      mode = replicate 16 0;
+      waiting = replicate 16 0;
+      iid = replicate 128 0;
+      owner = replicate 128 0;
+      state = replicate 128 0;
+    }

@@ -5,7 +5,7 @@ ghost use Prim.Native.Nat.{ℕ, _<_, _≤_};
 ghost use lib.Dec.{ltb};
 ghost use lib.ListN.{length};
 ghost use Rattle.laws.specs.Below.{one, allBelow};
-ghost use Rattle.gateway.specs.Sound.{countsIn, blankFrom, differs, upAt, soundAsps, soundRow, activeIn, modeAt, waitingAt, overrideAt, soundAs, ascends, allUnder, soundLinks, consistentOf, consistent};
+ghost use Rattle.gateway.specs.Sound.{countsIn, blankFrom, differs, upAt, soundAsps, soundRow, activeIn, modeAt, waitingAt, overrideAt, soundAs, ascends, allUnder, soundLinks, consistentOf, consistent, zeros};
 
 // Index of a pair: as * 16 + asp. Flags are 0 or 1. Traffic modes: 1 override, 2 load-share, 3 broadcast. States of a link:
 // 0 idle, 1 starting, 2 in service, 3 stopping. `iid` is the interface identifier, `waiting` that the recovery time runs.
@@ -275,6 +275,26 @@ pub fn consistent_of<'a>(
 }
 
 impl Gateway {
+    // What a refused plan hands back.
+    pub fn zeros() -> Gateway
+        ensures { λ r. ⌜ r ≡ zeros ⌝ }
+    {
+        Gateway {
+            asps: 0,
+            ases: 0,
+            links: 0,
+            aspid: [0; 16],
+            up: [0; 16],
+            member: [0; 256],
+            active: [0; 256],
+            mode: [0; 16],
+            waiting: [0; 16],
+            iid: [0; 128],
+            owner: [0; 128],
+            state: [0; 128],
+        }
+    }
+
     pub fn is_consistent(self) -> bool
         ensures { λ r. ⌜ r ≡ consistent self ⌝ }
     {
