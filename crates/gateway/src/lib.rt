@@ -78,7 +78,7 @@ fn is_new(aspid: &[u32; 16], p: usize) -> bool
     ok
 }
 
-fn all_new(aspid: &[u32; 16], n: usize) -> bool
+pub fn all_new(aspid: &[u32; 16], n: usize) -> bool
     requires { ⌜ n ≤ 16 ⌝ }
     ensures { λ r. ⌜ r ≡ allBelow (differs (now (aspid .entry))) n ⌝ }
 {
@@ -201,7 +201,7 @@ fn ases_ok<'a>(
     ok
 }
 
-fn ascending(iid: &[u32; 128], n: usize) -> bool
+pub fn ascending(iid: &[u32; 128], n: usize) -> bool
     requires { ⌜ n ≤ 128 ⌝ }
     ensures { λ r. ⌜ r ≡ ascends (now (iid .entry)) n ⌝ }
 {
