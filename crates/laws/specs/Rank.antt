@@ -57,3 +57,17 @@ rank-one f p (suc n) = rw (rank-one f p n) (go (f n) (decLt p (countBelow f n)) 
     go true (no l) (yes e) = rw (le-ltb p (countBelow f n) (omega arith), eq-eqb (countBelow f n) p e, lt-ltb p (countBelow f n + 1) (omega arith))
     go true (no l) (no e) = rw (le-ltb p (countBelow f n) (omega arith), ne-eqb (countBelow f n) p e, le-ltb p (countBelow f n + 1) (omega arith))
     go false d e = let z : countBelow f n + 0 ≡ countBelow f n = omega arith in rw z (omega arith)
+
+-- what a search finds below n has f
+pub first-hit : (f : ℕ → Bool) (n : ℕ) → firstBelow f n < n → f (firstBelow f n) ≡ true
+unfolding firstBelow
+first-hit f zero h = absurd (not-suc-le-zero h)
+first-hit f (suc n) h = go (decLt (firstBelow f n) n) (f n) refl (first-hit f n) h
+  where
+    go : Dec (firstBelow f n < n) → (u : Bool) → f n ≡ u → (firstBelow f n < n → f (firstBelow f n) ≡ true) → cond (ltb (firstBelow f n) n) (firstBelow f n) (cond (f n) n (suc n)) < suc n → f (cond (ltb (firstBelow f n) n) (firstBelow f n) (cond (f n) n (suc n))) ≡ true
+    go (yes z) u e g k = rw (lt-ltb (firstBelow f n) n z) (g z)
+    go (no z) true e g k = rw (le-ltb (firstBelow f n) n (omega arith), e) e
+    go (no z) false e g k =
+        let q : suc n < suc n = rw (le-ltb (firstBelow f n) n (omega arith), e) at k in
+        let w : ⊥ = omega arith in
+        absurd w
