@@ -38,7 +38,8 @@ pub all-more : (f : ℕ → Bool) (n : ℕ) → allBelow f (n + 1) ≡ (allBelow
 unfolding allBelow
 all-more f n = rw add-one
 
-both-true : (u v : Bool) → (u && v) ≡ true → (u ≡ true) × (v ≡ true)
+-- both parts of a true conjunction are true
+pub both-true : (u v : Bool) → (u && v) ≡ true → (u ≡ true) × (v ≡ true)
 both-true true v h = (refl, h)
 both-true false v h = absurd (false≢true h)
 
@@ -52,6 +53,18 @@ all-at f zero h i q = absurd (not-suc-le-zero q)
 all-at f (suc n) h i q =
     let e = both-true (allBelow f n) (f n) h in
     all-last f n i q (λ l. all-at f n (e .0) i l) (e .1) (decLt i n)
+
+-- a loop over the numbers: one more passes
+pub all-next : (f : ℕ → Bool) (k : ℕ) → allBelow f k ≡ true → f k ≡ true → allBelow f (k + 1) ≡ true
+all-next f k a e = all-more f k ∙ rw (a, e)
+
+-- one fails
+pub all-not : (f : ℕ → Bool) (n k : ℕ) → k < n → f k ≡ false → allBelow f n ≡ false
+all-not f n k h e = go (allBelow f n) refl
+  where
+    go : (b : Bool) → allBelow f n ≡ b → b ≡ false
+    go false a = refl
+    go true a = absurd (false≢true (sym e ∙ all-at f n a k h))
 
 -- at a loop's end: what is known at the count is known at the bound
 pub at-end : {A : Type 0} (f : ℕ → A) {x : A} {n k : ℕ} → x ≡ f k → n ≤ k → k ≤ n → x ≡ f n

@@ -1,0 +1,4 @@
+pub mod Seen
+pub mod Turns
+pub mod Order
+pub mod Samples

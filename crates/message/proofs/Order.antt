@@ -1,0 +1,61 @@
+-- The checks as the document lists them are those that the code asks, in its order.
+-- Assumes nothing.
+use mathlib.Core.Path.{_≡_, refl, sym, ap, _∙_}
+use mathlib.Core.Bool.{Bool, true, false, cond, not, _||_}
+use mathlib.Core.List.{List, [], _∷_}
+use Prim.Native.Nat.{ℕ, zero, suc, _%_, _<_}
+use lib.ListN.{length, getD}
+use lib.Dec.{ltb, eqb}
+use native.Mathlib.Omega.{arith}
+use borrow.Author.Tests.{ne-eqb}
+use Rattle.wire.specs.Number.{be}
+use Rattle.wire.specs.Walk.{Par}
+use Rattle.parameter.specs.Table.{table, hasClass, rowIn, key}
+use Rattle.parameter.specs.Slot.{slot}
+use Rattle.parameter.proofs.Slots.{same-slot}
+use Rattle.laws.specs.Choice.{_orElse_, _if_}
+use Rattle.message.specs.Verdict.{most, check2, check3, check4, check5, lastChecks, verdict}
+use Rattle.message.specs.Meaning.{refusal, outcome, readingOf, bodyIn}
+use Rattle.message.specs.Seen.{bodyAt, rowOutcome, kindOutcome, checksOutcome}
+use Rattle.message.specs.declared.Reading.{Reading}
+
+-- a check that applies decides; else the rest does
+first-applies : (n : ℕ) (b : Bool) (m : ℕ) (s : List ℕ) → outcome (((suc n) if b) orElse m) s ≡ cond b (refusal (suc n)) (outcome m s)
+unfolding outcome
+first-applies n true m s = rw (ne-eqb (suc n) 0 (λ e. omega arith))
+first-applies n false m s = refl
+
+-- two reasons for one number
+either : {X : Type 0} (a b : Bool) (x y : X) → cond (a || b) x y ≡ cond a x (cond b x y)
+either true b x y = refl
+either false b x y = refl
+
+turned : {X : Type 0} (a : Bool) (x y : X) → cond (not a) x y ≡ cond a y x
+turned true x y = refl
+turned false x y = refl
+
+order-row : (s : List ℕ) → outcome (check3 (getD s 2 0) orElse (check4 (rowIn table (getD s 2 0) (getD s 3 0)) orElse (check5 s orElse lastChecks s))) s ≡ kindOutcome s
+unfolding rowOutcome table
+order-row s =
+    first-applies 2 (not (hasClass table (getD s 2 0))) _ s
+    ∙ ap (cond (not (hasClass table (getD s 2 0))) (refusal 3)) (first-applies 3 (eqb (rowIn table (getD s 2 0) (getD s 3 0)) 17) _ s
+    ∙ ap (cond (eqb (rowIn table (getD s 2 0) (getD s 3 0)) 17) (refusal 4)) (first-applies 6 (not (eqb (be 4 s 4) (length s)) || not (eqb (length s % 4) 0)) (lastChecks s) s
+    ∙ either (not (eqb (be 4 s 4) (length s))) (not (eqb (length s % 4) 0)) (refusal 7) (outcome (lastChecks s) s)
+    ∙ turned (eqb (be 4 s 4) (length s)) (refusal 7) _
+    ∙ ap (λ (x : Reading). cond (eqb (be 4 s 4) (length s)) x (refusal 7)) (turned (eqb (length s % 4) 0) (refusal 7) (outcome (lastChecks s) s))))
+
+pub order-same : (s : List ℕ) → checksOutcome s ≡ readingOf s
+unfolding checksOutcome readingOf verdict
+order-same s =
+    sym
+    (first-applies 6 (ltb (length s) 8 || ltb most (length s)) _ s
+    ∙ either (ltb (length s) 8) (ltb most (length s)) (refusal 7) _
+    ∙ ap (λ (x : Reading). cond (ltb (length s) 8) (refusal 7) (cond (ltb most (length s)) (refusal 7) x)) (first-applies 0 (not (eqb (getD s 0 0) 1)) _ s
+    ∙ turned (eqb (getD s 0 0) 1) (refusal 1) _
+    ∙ ap (λ (x : Reading). cond (eqb (getD s 0 0) 1) x (refusal 1)) (order-row s)))
+
+-- the first parameter of a tag is the first of its slot
+pub body-same : (t : ℕ) → slot t < 31 → (ps : List Par) → bodyAt (slot t) ps ≡ bodyIn t ps
+unfolding bodyAt bodyIn
+body-same t h [] = refl
+body-same t h (p ∷ ps) = rw (body-same t h ps, same-slot (p .tag) t h)

@@ -1,0 +1,68 @@
+-- What reading a message gives.
+-- Assumes nothing.
+use Prim.Native.Nat.{ℕ}
+use mathlib.Core.Bool.{Bool, true, false, cond, _||_}
+use mathlib.Core.List.{List, [], _∷_}
+use lib.ListN.{getD}
+use lib.Dec.{eqb}
+use Rattle.wire.specs.Walk.{Par, walk}
+use Rattle.parameter.specs.Table.{key}
+use Rattle.message.specs.Verdict.{has, number, verdict}
+use Rattle.message.specs.declared.Reading.{Reading}
+
+-- a flag as a number
+abbrev pub flag : Bool → ℕ
+flag b = cond b 1 0
+
+-- a refused message: its number alone
+abbrev pub refusal : ℕ → Reading
+refusal n =
+    record {
+      code = n;
+      class = 0;
+      kind = 0;
+      ids = 0;
+      id = 0;
+      mode = 0;
+      identified = 0;
+      aspid = 0;
+      correlated = 0;
+      correlation = 0;
+      state = 0;
+      action = 0;
+    }
+
+-- an accepted message of a class and type with these parameters: what events and hosts ask of it
+unfoldable pub meaning : ℕ → ℕ → List Par → Reading
+meaning c t ps =
+    record {
+      code = 0;
+      class = c;
+      kind = t;
+      ids = flag (has 0x1 ps || has 0x8 ps);
+      id = number 0x1 ps;
+      mode = number 0xb ps;
+      identified = flag (has 0x11 ps);
+      aspid = number 0x11 ps;
+      correlated = flag (has 0x13 ps);
+      correlation = number 0x13 ps;
+      state = number 0x302 ps;
+      action = number 0x306 ps;
+    }
+
+-- what a verdict hands back of a message
+unfoldable pub outcome : ℕ → List ℕ → Reading
+outcome n s = cond (eqb n 0) (meaning (getD s 2 0) (getD s 3 0) (walk s 8 .pars)) (refusal n)
+
+-- what reading a message gives
+unfoldable pub readingOf : List ℕ → Reading
+readingOf s = outcome (verdict s) s
+
+-- the value of the first parameter of a tag; nothing where there is none
+unfoldable pub bodyIn : ℕ → List Par → List ℕ
+bodyIn t [] = []
+bodyIn t (p ∷ ps) = cond (eqb (key (p .tag)) (key t)) (p .body) (bodyIn t ps)
+
+-- "The protocol data is handed back as that part of the lent message": the value of 0x300 or 0x301; nothing where there is none
+unfoldable pub dataOf : List ℕ → List ℕ
+dataOf s = bodyIn 0x300 (walk s 8 .pars)

@@ -1,0 +1,314 @@
+// Reads M2UA messages: the verdict and the meaning of any bytes.
+use parameter::RowInfo;
+use wire::Step;
+ghost use mathlib.Core.Path.{_≡_};
+ghost use Prim.Native.Nat.{_+_, _≤_, _<_};
+ghost use mathlib.Core.Bool.{cond, not, true, false};
+ghost use lib.ListN.{length, getD};
+ghost use lib.Dec.{eqb};
+ghost use Rattle.laws.specs.Choice.{_orElse_, _if_};
+ghost use Rattle.wire.specs.Walk.{walk};
+ghost use Rattle.parameter.specs.Table.{table, rowIn};
+ghost use Rattle.parameter.specs.Slot.{infoOf};
+ghost use Rattle.message.specs.Verdict.{exactly, head, lastChecks};
+ghost use Rattle.message.specs.Meaning.{flag, refusal, outcome, readingOf, dataOf};
+ghost use Rattle.message.specs.Seen.{sequenceAt, endAt, meaningAt, outcomeAt, bodyAt, rowOutcome, kindOutcome, checksOutcome};
+
+// What reading a message gives. A refused message has its number in `code`, and zeros.
+#[repr(C)]
+pub struct Reading {
+    // 0, or the number of the refusal
+    pub code: u32,
+    pub class: u32,
+    pub kind: u32,
+    // 1 where identifiers or ranges of them are given, else 0
+    pub ids: u32,
+    // the first interface identifier
+    pub id: u32,
+    // the traffic mode; 0 where none is given
+    pub mode: u32,
+    // 1 where an ASP identifier is given, and it
+    pub identified: u32,
+    pub aspid: u32,
+    // 1 where a correlation id is given, and it
+    pub correlated: u32,
+    pub correlation: u32,
+    // of a State Request or Confirm
+    pub state: u32,
+    // of a Retrieval Request or Confirm
+    pub action: u32,
+}
+
+fn unit(b: bool) -> u32
+    ensures { λ r. ⌜ r ≡ flag b ⌝ }
+{
+    if b { 1 } else { 0 }
+}
+
+// A refused message: its number alone.
+fn refused(code: u32) -> Reading
+    ensures { λ r. ⌜ r ≡ refusal code ⌝ }
+{
+    Reading {
+        code,
+        class: 0,
+        kind: 0,
+        ids: 0,
+        id: 0,
+        mode: 0,
+        identified: 0,
+        aspid: 0,
+        correlated: 0,
+        correlation: 0,
+        state: 0,
+        action: 0,
+    }
+}
+
+// A sequence number where one is wanted, and only there.
+fn exact(wanted: bool, given: bool) -> u32
+    ensures { λ r. ⌜ r ≡ exactly wanted given ⌝ }
+{
+    if wanted {
+        if given {
+            return 0;
+        }
+        return 22;
+    }
+    if given {
+        return 19;
+    }
+    0
+}
+
+// The sequence number rules.
+fn sequence_code(c: u8, t: u8, action: u32, result: u32, given: bool) -> u32
+    ensures { λ r. ⌜ r ≡ sequenceAt c t action result given ⌝ }
+{
+    if c == 6 {
+        if t == 10 {
+            return exact(action == 2, given);
+        }
+        if t == 11 {
+            if action == 1 {
+                return exact(result == 0, given);
+            }
+            return exact(false, given);
+        }
+        return 0;
+    }
+    0
+}
+
+// The meaning of an accepted message, from the slots met and the numbers seen.
+fn meaning_at(c: u8, t: u8, met: &[bool; 32], words: &[u32; 32]) -> Reading
+    ensures { λ r. ⌜ r ≡ meaningAt c t (now (met .entry)) (now (words .entry)) ⌝ }
+{
+    Reading {
+        code: 0,
+        class: c as u32,
+        kind: t as u32,
+        ids: unit(met[1] | met[8]),
+        id: words[1],
+        mode: words[11],
+        identified: unit(met[17]),
+        aspid: words[17],
+        correlated: unit(met[19]),
+        correlation: words[19],
+        state: words[22],
+        action: words[26],
+    }
+}
+
+// The first of two numbers that applies.
+fn first_of(a: u32, b: u32) -> u32
+    ensures { λ r. ⌜ r ≡ a orElse b ⌝ }
+{
+    if a == 0 {
+        return b;
+    }
+    a
+}
+
+// A missing mandatory parameter, then the sequence number rules.
+fn end_of(all: bool, sequence: u32) -> u32
+    ensures { λ r. ⌜ r ≡ (22 if not all) orElse sequence ⌝ }
+{
+    if all {
+        return sequence;
+    }
+    22
+}
+
+// Check 8, of a row whose mandatory slots are packed.
+fn end_code(musts: u32, c: u8, t: u8, met: &[bool; 32], words: &[u32; 32]) -> u32
+    ensures { λ r. ⌜ r ≡ endAt musts c t (now (met .entry)) (now (words .entry)) ⌝ }
+{
+    end_of(
+        parameter::musts_met(musts, met),
+        sequence_code(c, t, words[26], words[28], met[27]),
+    )
+}
+
+// What a number hands back: the meaning, or the refusal.
+fn outcome_of(code: u32, c: u8, t: u8, met: &[bool; 32], words: &[u32; 32]) -> Reading
+    ensures { λ r. ⌜ r ≡ outcomeAt code c t (now (met .entry)) (now (words .entry)) ⌝ }
+{
+    if code == 0 {
+        return meaning_at(c, t, met, words);
+    }
+    refused(code)
+}
+
+// The walk has ended, with the number `fault`.
+fn finish(fault: u32, musts: u32, c: u8, t: u8, met: &[bool; 32], words: &[u32; 32]) -> Reading
+    ensures { λ r. ⌜ r ≡ outcomeAt (fault orElse endAt musts c t (now (met .entry)) (now (words .entry))) c t (now (met .entry)) (now (words .entry)) ⌝ }
+{
+    outcome_of(
+        first_of(fault, end_code(musts, c, t, met, words)),
+        c,
+        t,
+        met,
+        words,
+    )
+}
+
+// The number that a value of four bytes or more begins with.
+fn head_of(v: &[u8]) -> u32
+    ensures { λ r. ⌜ r ≡ head (now (v .entry)) ⌝ }
+{
+    if v.len() < 4 {
+        return 0;
+    }
+    wire::get32(v, 0)
+}
+
+// The number kept of a slot is that of its first parameter.
+fn kept(again: bool, old: u32, v: &[u8]) -> u32
+    ensures { λ r. ⌜ r ≡ cond again old (head (now (v .entry))) ⌝ }
+{
+    if again {
+        return old;
+    }
+    head_of(v)
+}
+
+// A parameter was refused: a fault in the rest of the walk comes before it.
+fn refused_at(s: &[u8], next: usize, code: u32) -> Reading
+    ensures { λ r. ⌜ r ≡ refusal (walk (now (s .entry)) next .code orElse code) ⌝ }
+{
+    refused(first_of(wire::walk_code(s, next), code))
+}
+
+// The checks 6 to 8 in one walk, of a message whose row is known.
+fn read_pars(s: &[u8], info: RowInfo) -> Reading
+    requires { ⌜ (8 ≤ length (now s)) × ((rowIn table (getD (now s) 2 0) (getD (now s) 3 0) < 17) × (info ≡ infoOf (rowIn table (getD (now s) 2 0) (getD (now s) 3 0)))) ⌝ }
+    ensures { λ r. ⌜ r ≡ outcome (lastChecks (now (s .entry))) (now (s .entry)) ⌝ }
+{
+    let mut met = [false; 32];
+    let mut words = [0u32; 32];
+    let mut first = true;
+    let mut at: usize = 8;
+    loop {
+        let w = wire::step_at(s, at);
+        let Step::Param { tag, len, next } = w else {
+            return finish(wire::step_code(w), info.musts, s[2], s[3], &met, &words);
+        };
+        let k = parameter::slot_of(tag);
+        let again = met[k];
+        let start = at + 4;
+        let stop = at + len as usize;
+        let code = parameter::par_at(info.uses, first, again, k, tag, &s[start..stop]);
+        if code != 0 {
+            return refused_at(s, next, code);
+        }
+        words[k] = kept(again, words[k], &s[start..stop]);
+        met[k] = true;
+        first = false;
+        at = next;
+    }
+}
+
+// The checks 3 to 8, of whether the class is listed, the row, and the length field.
+fn read_row(listed: bool, row: usize, n: u32, s: &[u8]) -> Reading
+    requires { ⌜ (8 ≤ length (now s)) × ((row ≤ 17) × (row ≡ rowIn table (getD (now s) 2 0) (getD (now s) 3 0))) ⌝ }
+    ensures { λ r. ⌜ r ≡ rowOutcome listed row n (now (s .entry)) ⌝ }
+{
+    if !listed {
+        return refused(3);
+    }
+    if row == 17 {
+        return refused(4);
+    }
+    if n as usize != s.len() {
+        return refused(7);
+    }
+    if s.len() % 4 != 0 {
+        return refused(7);
+    }
+    read_pars(s, parameter::row_info(row))
+}
+
+// The checks 3 to 8.
+fn read_kind(s: &[u8]) -> Reading
+    requires { ⌜ 8 ≤ length (now s) ⌝ }
+    ensures { λ r. ⌜ r ≡ kindOutcome (now (s .entry)) ⌝ }
+{
+    let c = s[2];
+    let t = s[3];
+    read_row(
+        parameter::class_ok(c),
+        parameter::row_of(c, t),
+        wire::get32(s, 4),
+        s,
+    )
+}
+
+// The checks in their order.
+fn read_checks(s: &[u8]) -> Reading
+    ensures { λ r. ⌜ r ≡ checksOutcome (now (s .entry)) ⌝ }
+{
+    if s.len() < 8 {
+        return refused(7);
+    }
+    if 2048 < s.len() {
+        return refused(7);
+    }
+    if s[0] != 1 {
+        return refused(1);
+    }
+    read_kind(s)
+}
+
+// Reads a message: its verdict, and of an accepted one what it means.
+pub fn read(s: &[u8]) -> Reading
+    ensures { λ r. ⌜ r ≡ readingOf (now (s .entry)) ⌝ }
+{
+    read_checks(s)
+}
+
+// The value of the first parameter of a tag's slot from a position on, as a part of the message; nothing where there is none.
+fn find(s: &[u8], from: usize, k: usize) -> &[u8]
+    ensures { λ r. ⌜ now r ≡ bodyAt k (walk (now (s .entry)) from .pars) ⌝ }
+{
+    let mut at = from;
+    loop {
+        let w = wire::step_at(s, at);
+        let Step::Param { tag, len, next } = w else {
+            return &s[..0];
+        };
+        if parameter::slot_of(tag) == k {
+            let start = at + 4;
+            let stop = at + len as usize;
+            return &s[start..stop];
+        }
+        at = next;
+    }
+}
+
+// The protocol data of a message, the SS7 signalling unit: the value of 0x300 or 0x301, as a part of the message; nothing where there is none.
+pub fn protocol_data(s: &[u8]) -> &[u8]
+    ensures { λ r. ⌜ now r ≡ dataOf (now (s .entry)) ⌝ }
+{
+    find(s, 8, 20)
+}

@@ -1,0 +1,4 @@
+pub mod Table
+pub mod Value
+pub mod Slot
+pub mod Check

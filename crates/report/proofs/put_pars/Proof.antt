@@ -1,0 +1,50 @@
+use lib.ListN.{length}
+use Prim.Native.Nat.{_-_}
+use Rattle.wire.proofs.Steps.{step-next}
+use Rattle.report.proofs.Rest.{Rest, rest-used, rest-stop, rest-room, rest-next}
+use mathlib.Core.Path.{refl, sym, _∙_}
+use native.Mathlib.Omega.{arith}
+use borrow.Author.Needs.{needs}
+use Rattle.report.proofs.put_pars.Statement.{statement}
+use Rattle.report.proofs.put_pars.Tie as tie
+
+abbrev Inv-loop : tie.InvT-loop
+Inv-loop style s out₀ from at₀ used₀ out at used = Rest style s out₀ from out at used
+
+abbrev μ-loop : tie.MeasureT-loop
+μ-loop style s out₀ from at₀ used₀ out at used = length s - at
+
+loop-holds : tie.Need-loop-holds Inv-loop μ-loop
+loop-holds c = record { bytes = refl; place = refl }
+
+step-at-requires : tie.Need-step-at-requires Inv-loop μ-loop
+step-at-requires c κs = search needs
+
+enum-known-w : tie.Need-enum-known-w Inv-loop μ-loop
+enum-known-w c = search needs
+
+returns : tie.Need-returns Inv-loop μ-loop
+returns c = (rest-stop (c .before .before .loop .inv) _ (sym (c .before .step-at .ensures)) (c .match .keys2), rest-used (c .before .before .loop .inv))
+
+put-at-requires : tie.Need-put-at-requires Inv-loop μ-loop
+put-at-requires c κs = let k = rest-room (c .before .before .before .before .before .loop .inv) _ _ _ (sym (c .before .before .before .before .step-at .ensures) ∙ c .before .before .w .given .1) in omega arith
+
+loop-less : tie.Need-loop-less Inv-loop μ-loop
+loop-less c = let k = step-next _ _ _ _ _ (sym (c .before .before .before .before .before .step-at .ensures) ∙ c .before .before .before .w .given .1) in omega arith
+
+loop-again : tie.Need-loop-again Inv-loop μ-loop
+loop-again c = rest-next (c .before .before .before .before .before .before .loop .inv) _ _ _ (sym (c .before .before .before .before .before .step-at .ensures) ∙ c .before .before .before .w .given .1) _ _ (c .put-at .ensures)
+
+pub put-pars-spec : {M : Type 1} → statement M
+put-pars-spec =
+    tie.close
+    (tie.spec
+    Inv-loop
+    μ-loop
+    loop-holds
+    step-at-requires
+    enum-known-w
+    returns
+    put-at-requires
+    loop-less
+    loop-again)

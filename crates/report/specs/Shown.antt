@@ -1,0 +1,84 @@
+-- Messages as text: the line of `read` and the lines of `show`.
+-- Assumes nothing.
+use Prim.Native.Nat.{ℕ, _+_}
+use mathlib.Core.Bool.{cond}
+use mathlib.Core.List.{List, [], _∷_, _++_}
+use lib.ListN.{length}
+use lib.Dec.{eqb}
+use Rattle.wire.specs.Walk.{Par, walk}
+use Rattle.text.specs.Digits.{decimal, hex}
+use Rattle.message.specs.Meaning.{readingOf}
+use Rattle.report.specs.declared.Style.{Style}
+use Rattle.report.specs.declared.Style.the-variants.{Plain, Bars, Lines}
+
+abbrev pub blank : ℕ
+blank = 32
+
+abbrev pub colon : ℕ
+colon = 58
+
+-- `param `, `message ` and `verdict `
+abbrev pub paramWord : List ℕ
+paramWord = 112 ∷ 97 ∷ 114 ∷ 97 ∷ 109 ∷ blank ∷ []
+
+abbrev pub messageWord : List ℕ
+messageWord = 109 ∷ 101 ∷ 115 ∷ 115 ∷ 97 ∷ 103 ∷ 101 ∷ blank ∷ []
+
+abbrev pub verdictWord : List ℕ
+verdictWord = 118 ∷ 101 ∷ 114 ∷ 100 ∷ 105 ∷ 99 ∷ 116 ∷ blank ∷ []
+
+-- what stands before a parameter and before the verdict: a blank, ` | `, or the line's end
+unfoldable pub joint : Style → List ℕ
+joint Plain = blank ∷ []
+joint Bars = blank ∷ 124 ∷ blank ∷ []
+joint Lines = 10 ∷ []
+
+-- two numbers with a character between them
+unfoldable pub two : ℕ → ℕ → ℕ → List ℕ
+two a c b = decimal a ++ ((c ∷ []) ++ decimal b)
+
+-- "`TAG:LEN:HEX`" (decimal tag and length, value in hex without padding, which may be empty)
+unfoldable pub fields : ℕ → List ℕ → List ℕ
+fields t v = two t colon (4 + length v) ++ ((colon ∷ []) ++ hex v)
+
+-- "value in lower-case hex without padding (if empty, the line ends after length)"
+unfoldable pub value : List ℕ → List ℕ
+value v = cond (eqb (length v) 0) [] ((blank ∷ []) ++ hex v)
+
+-- "param 11 8 00000001": tag, length, value
+unfoldable pub named : ℕ → List ℕ → List ℕ
+named t v = paramWord ++ (two t blank (4 + length v) ++ value v)
+
+abbrev pub fieldsIn : Style → ℕ → List ℕ → List ℕ
+fieldsIn Plain t v = fields t v
+fieldsIn Bars t v = named t v
+fieldsIn Lines t v = named t v
+
+abbrev pub par : ℕ → List ℕ → Par
+par t v = record { tag = t; body = v }
+
+unfoldable pub parText : Style → Par → List ℕ
+parText style p = joint style ++ fieldsIn style (p .tag) (p .body)
+
+unfoldable pub parsText : Style → List Par → List ℕ
+parsText style [] = []
+parsText style (p ∷ ps) = parText style p ++ parsText style ps
+
+unfoldable pub verdictLine : ℕ → List ℕ
+verdictLine code = verdictWord ++ decimal code
+
+-- "message 4 1 28": class, type, bytes
+unfoldable pub headLine : ℕ → ℕ → ℕ → List ℕ
+headLine class kind size = messageWord ++ (two class blank kind ++ ((blank ∷ []) ++ decimal size))
+
+unfoldable pub acceptedText : Style → ℕ → ℕ → List ℕ → List ℕ
+acceptedText style class kind s = headLine class kind (length s) ++ (parsText style (walk s 8 .pars) ++ (joint style ++ verdictLine 0))
+
+-- "A refused message prints only `verdict` and its number."
+unfoldable pub shownText : Style → List ℕ → List ℕ
+shownText style s =
+    cond (eqb (readingOf s .code) 0) (acceptedText style (readingOf s .class) (readingOf s .kind) s) (verdictLine (readingOf s .code))
+
+-- "`0 TAG:LEN:HEX TAG:LEN:HEX ..`, or the refusal number alone. No parameters: `0`"
+unfoldable pub readText : List ℕ → List ℕ
+readText s = decimal (readingOf s .code) ++ cond (eqb (readingOf s .code) 0) (parsText Plain (walk s 8 .pars)) []

@@ -1,0 +1,66 @@
+use Prim.Native.Nat.{_<_, _≤_, _-_}
+use Rattle.text.proofs.Parses.{number-empty, number-done, number-next, number-stop, number-some}
+use native.Mathlib.Omega.{arith}
+use Rattle.text.specs.Parse.{numberFrom}
+use lib.ListN.{length, drop}
+use mathlib.Core.Path.{_≡_, refl, sym, _∙_}
+use borrow.Author.Needs.{needs}
+use Rattle.text.proofs.number_of.Statement.{statement}
+use Rattle.text.proofs.number_of.Tie as tie
+
+abbrev Inv-loop : tie.InvT-loop
+Inv-loop w n₀ i₀ n i = (i ≤ length w) × (numberFrom n (drop i w) ≡ numberFrom 0 w)
+
+abbrev μ-loop : tie.MeasureT-loop
+μ-loop w n₀ i₀ n i = length w - i
+
+returns : tie.Need-returns Inv-loop μ-loop
+returns c = number-empty _ (omega arith)
+
+loop-holds : tie.Need-loop-holds Inv-loop μ-loop
+loop-holds c = (omega arith, refl)
+
+shared-slice-read-add-digit : tie.Need-shared-slice-read-add-digit Inv-loop μ-loop
+shared-slice-read-add-digit c = search needs
+
+add-digit-requires : tie.Need-add-digit-requires Inv-loop μ-loop
+add-digit-requires c κs = search needs
+
+enum-known-more : tie.Need-enum-known-more Inv-loop μ-loop
+enum-known-more c = search needs
+
+enum-told : tie.Need-enum-told Inv-loop μ-loop
+enum-told c = search needs
+
+returns-2 : tie.Need-returns-2 Inv-loop μ-loop
+returns-2 c = let w = c .before .before .before .before .before .before .before .before .args .w .now in let l = c .before .before .before .before .before .loop in let h : l .i < length w = omega arith in sym (number-stop w (l .i) (l .n) h (sym (c .before .before .add-digit .ensures) ∙ c .enum-told .given .1)) ∙ l .inv .1 ∙ number-some w (c .before .before .before .before .before .before .if1 .left)
+
+add-i : tie.Need-add-i Inv-loop μ-loop
+add-i c = search needs
+
+loop-less : tie.Need-loop-less Inv-loop μ-loop
+loop-less c = search needs
+
+loop-again : tie.Need-loop-again Inv-loop μ-loop
+loop-again c = let w = c .before .before .before .before .before .before .before .before .before .args .w .now in let l = c .before .before .before .before .before .before .loop in let h : l .i < length w = omega arith in (omega arith, number-next w (l .i) (l .n) _ h (sym (c .before .before .before .add-digit .ensures) ∙ c .before .more .given .1) ∙ l .inv .1)
+
+returns-3 : tie.Need-returns-3 Inv-loop μ-loop
+returns-3 c = let w = c .before .before .before .before .args .w .now in let l = c .before .loop in let h : length w ≤ l .i = omega arith in sym (number-done w (l .i) (l .n) h) ∙ l .inv .1 ∙ number-some w (c .before .before .if1 .left)
+
+pub number-of-spec : {M : Type 1} → statement M
+number-of-spec =
+    tie.close
+    (tie.spec
+    Inv-loop
+    μ-loop
+    returns
+    loop-holds
+    shared-slice-read-add-digit
+    add-digit-requires
+    enum-known-more
+    enum-told
+    returns-2
+    add-i
+    loop-less
+    loop-again
+    returns-3)

@@ -1,0 +1,58 @@
+use Rattle.text.proofs.Puts.{digits-done, digit-step}
+use native.Mathlib.Omega.{arith}
+use Rattle.text.specs.Digits.{digits}
+use Rattle.text.specs.Put.{overlay}
+use Prim.Native.Nat.{_≤_}
+use mathlib.Core.Path.{_≡_, refl, _∙_}
+use borrow.Author.Needs.{needs}
+use Rattle.text.proofs.put_digits.Statement.{statement}
+use Rattle.text.proofs.put_digits.Tie as tie
+
+abbrev Inv-loop : tie.InvT-loop
+Inv-loop out₀ at n k i₀ rest₀ out i rest = (i ≤ k) × (overlay out at (digits i rest) ≡ overlay out₀ at (digits k n))
+
+abbrev μ-loop : tie.MeasureT-loop
+μ-loop out₀ at n k i₀ rest₀ out i rest = i
+
+loop-holds : tie.Need-loop-holds Inv-loop μ-loop
+loop-holds c = (omega arith, refl)
+
+sub-i : tie.Need-sub-i Inv-loop μ-loop
+sub-i c = search needs
+
+last-digit-requires : tie.Need-last-digit-requires Inv-loop μ-loop
+last-digit-requires c κs = search needs
+
+add-out : tie.Need-add-out Inv-loop μ-loop
+add-out c = search needs
+
+add-out-2 : tie.Need-add-out-2 Inv-loop μ-loop
+add-out-2 c = search needs
+
+element-write-out : tie.Need-element-write-out Inv-loop μ-loop
+element-write-out c = search needs
+
+loop-less : tie.Need-loop-less Inv-loop μ-loop
+loop-less c = search needs
+
+loop-again : tie.Need-loop-again Inv-loop μ-loop
+loop-again c = (omega arith, digit-step _ _ _ _ _ (omega arith) (c .last-digit .ensures .0) ∙ c .before .before .loop .inv .1)
+
+returns : tie.Need-returns Inv-loop μ-loop
+returns c = digits-done _ _ _ _ _ _ _ (omega arith) (c .before .loop .inv .1)
+
+pub put-digits-spec : {M : Type 1} → statement M
+put-digits-spec =
+    tie.close
+    (tie.spec
+    Inv-loop
+    μ-loop
+    loop-holds
+    sub-i
+    last-digit-requires
+    add-out
+    add-out-2
+    element-write-out
+    loop-less
+    loop-again
+    returns)
