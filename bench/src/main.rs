@@ -4,6 +4,8 @@ mod proved;
 mod timing;
 
 use second::read::{read, Reading};
+use second::{is_sound, load, Gateway};
+use std::hint::black_box;
 
 fn number(tag: u16, value: u32) -> Vec<u8> {
     let mut p = vec![];
@@ -30,6 +32,50 @@ fn message(class: u8, kind: u8, params: &[Vec<u8>]) -> Vec<u8> {
     m
 }
 
+/// A plan file: ASPs (identifier, mask), ASes (mode), links (identifier, owner).
+fn plan(asps: &[(u32, u16)], ases: &[u32], links: &[(u32, u32)]) -> Vec<u8> {
+    let at = [24, 24 + 8 * asps.len(), 24 + 8 * asps.len() + 4 * ases.len()];
+    let mut f = vec![];
+    for (offset, count) in at.into_iter().zip([asps.len(), ases.len(), links.len()]) {
+        f.extend((offset as u32).to_be_bytes());
+        f.extend((count as u32).to_be_bytes());
+    }
+    for (id, mask) in asps {
+        f.extend(id.to_be_bytes());
+        f.extend(mask.to_be_bytes());
+        f.extend([0, 0]);
+    }
+    for mode in ases {
+        f.extend(mode.to_be_bytes());
+    }
+    for (id, owner) in links {
+        f.extend(id.to_be_bytes());
+        f.extend(owner.to_be_bytes());
+    }
+    f
+}
+
+/// Plan S of document 01.
+fn plan_s() -> Vec<u8> {
+    let mut links: Vec<(u32, u32)> = (100..=115).map(|id| (id, 0)).collect();
+    links.push((200, 1));
+    plan(&[(7, 1), (8, 1), (9, 2)], &[1, 2], &links)
+}
+
+/// 16 ASPs, each in all of 16 ASes, and 128 links.
+fn full_plan() -> Vec<u8> {
+    let asps: Vec<(u32, u16)> = (0..16).map(|p| (1000 + p, 0xffff)).collect();
+    let ases: Vec<u32> = (0..16).map(|a| a % 3 + 1).collect();
+    let links: Vec<(u32, u32)> = (0..128).map(|l| (l * 3, l % 16)).collect();
+    plan(&asps, &ases, &links)
+}
+
+/// The state as the hand-written baseline gets it too: by value.
+#[inline(never)]
+fn by_value(state: Gateway) -> Gateway {
+    state
+}
+
 fn read_both(msg: &[u8]) -> Reading {
     let r = proved::read(msg);
     assert_eq!(r, read(msg), "the two readers differ");
@@ -47,6 +93,12 @@ fn main() {
     let ranges: Vec<u8> = (0..250u32).flat_map(|i| [i * 3, i * 3 + 1]).flat_map(|x| x.to_be_bytes()).collect();
     let active_ranges = message(4, 1, &[bytes(0x8, &ranges)]);
 
+    let plans = [
+        ("smallest plan", plan(&[(7, 1)], &[1], &[])),
+        ("plan S", plan_s()),
+        ("full plan", full_plan()),
+    ];
+
     timing::heading();
     for (name, msg) in [
         ("read sample M", &m),
@@ -56,6 +108,15 @@ fn main() {
         ("read Active of 250 ranges", &active_ranges),
     ] {
         assert_eq!(read_both(msg).code, 0);
-        timing::compare(name, || proved::read(std::hint::black_box(msg)), || read(std::hint::black_box(msg)));
+        timing::compare(name, || proved::read(black_box(msg)), || read(black_box(msg)));
+    }
+    for (name, file) in &plans {
+        let loaded = proved::load(file);
+        assert_eq!(loaded, load(file), "the two loaders differ");
+        assert_eq!(loaded.code, 0);
+        timing::compare(&format!("load {name}"), || proved::load(black_box(file)), || load(black_box(file)));
+        let state = loaded.gateway;
+        assert!(proved::is_consistent(&state) && is_sound(&state));
+        timing::compare(&format!("soundness, {name}"), || proved::is_consistent(black_box(&state)), || is_sound(&by_value(black_box(state))));
     }
 }
