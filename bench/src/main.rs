@@ -1,8 +1,7 @@
 //! Times the proved library against the hand-written second program, both in this one run, on the same inputs. Each pair is first checked to
 //! agree on what is timed.
-mod proved;
-mod timing;
-
+use bench::plans::{full_plan, plan, plan_s};
+use bench::{proved, timing};
 use second::read::{read, Reading};
 use second::{is_sound, load, Gateway};
 use std::hint::black_box;
@@ -32,44 +31,6 @@ fn message(class: u8, kind: u8, params: &[Vec<u8>]) -> Vec<u8> {
     m
 }
 
-/// A plan file: ASPs (identifier, mask), ASes (mode), links (identifier, owner).
-fn plan(asps: &[(u32, u16)], ases: &[u32], links: &[(u32, u32)]) -> Vec<u8> {
-    let at = [24, 24 + 8 * asps.len(), 24 + 8 * asps.len() + 4 * ases.len()];
-    let mut f = vec![];
-    for (offset, count) in at.into_iter().zip([asps.len(), ases.len(), links.len()]) {
-        f.extend((offset as u32).to_be_bytes());
-        f.extend((count as u32).to_be_bytes());
-    }
-    for (id, mask) in asps {
-        f.extend(id.to_be_bytes());
-        f.extend(mask.to_be_bytes());
-        f.extend([0, 0]);
-    }
-    for mode in ases {
-        f.extend(mode.to_be_bytes());
-    }
-    for (id, owner) in links {
-        f.extend(id.to_be_bytes());
-        f.extend(owner.to_be_bytes());
-    }
-    f
-}
-
-/// Plan S of document 01.
-fn plan_s() -> Vec<u8> {
-    let mut links: Vec<(u32, u32)> = (100..=115).map(|id| (id, 0)).collect();
-    links.push((200, 1));
-    plan(&[(7, 1), (8, 1), (9, 2)], &[1, 2], &links)
-}
-
-/// 16 ASPs, each in all of 16 ASes, and 128 links.
-fn full_plan() -> Vec<u8> {
-    let asps: Vec<(u32, u16)> = (0..16).map(|p| (1000 + p, 0xffff)).collect();
-    let ases: Vec<u32> = (0..16).map(|a| a % 3 + 1).collect();
-    let links: Vec<(u32, u32)> = (0..128).map(|l| (l * 3, l % 16)).collect();
-    plan(&asps, &ases, &links)
-}
-
 /// The state as the hand-written baseline gets it too: by value.
 #[inline(never)]
 fn by_value(state: Gateway) -> Gateway {
@@ -86,11 +47,18 @@ fn main() {
     let up = message(3, 1, &[]);
     let range = bytes(0x8, &[0, 0, 0, 100, 0, 0, 0, 115]);
     let m = message(4, 1, &[number(0xb, 1), range]);
-    let data = message(6, 1, &[number(0x1, 100), number(0x13, 7), bytes(0x300, &[0x55; 60])]);
+    let data = message(
+        6,
+        1,
+        &[number(0x1, 100), number(0x13, 7), bytes(0x300, &[0x55; 60])],
+    );
     assert_eq!(data.len(), 88);
     let ids: Vec<u8> = (0..500u32).flat_map(|i| (i * 3).to_be_bytes()).collect();
     let active = message(4, 1, &[bytes(0x1, &ids)]);
-    let ranges: Vec<u8> = (0..250u32).flat_map(|i| [i * 3, i * 3 + 1]).flat_map(|x| x.to_be_bytes()).collect();
+    let ranges: Vec<u8> = (0..250u32)
+        .flat_map(|i| [i * 3, i * 3 + 1])
+        .flat_map(|x| x.to_be_bytes())
+        .collect();
     let active_ranges = message(4, 1, &[bytes(0x8, &ranges)]);
 
     let plans = [
@@ -108,15 +76,27 @@ fn main() {
         ("read Active of 250 ranges", &active_ranges),
     ] {
         assert_eq!(read_both(msg).code, 0);
-        timing::compare(name, || proved::read(black_box(msg)), || read(black_box(msg)));
+        timing::compare(
+            name,
+            || proved::read(black_box(msg)),
+            || read(black_box(msg)),
+        );
     }
     for (name, file) in &plans {
         let loaded = proved::load(file);
         assert_eq!(loaded, load(file), "the two loaders differ");
         assert_eq!(loaded.code, 0);
-        timing::compare(&format!("load {name}"), || proved::load(black_box(file)), || load(black_box(file)));
+        timing::compare(
+            &format!("load {name}"),
+            || proved::load(black_box(file)),
+            || load(black_box(file)),
+        );
         let state = loaded.gateway;
         assert!(proved::is_consistent(&state) && is_sound(&state));
-        timing::compare(&format!("soundness, {name}"), || proved::is_consistent(black_box(&state)), || is_sound(&by_value(black_box(state))));
+        timing::compare(
+            &format!("soundness, {name}"),
+            || proved::is_consistent(black_box(&state)),
+            || is_sound(&by_value(black_box(state))),
+        );
     }
 }
