@@ -2,7 +2,7 @@
 -- Assumes nothing.
 use mathlib.Core.Path.{_≡_, refl, sym, ap, _∙_}
 use mathlib.Core.Bool.{Bool, true, false, cond, Bool·beq, false≢true, true≢false}
-use Prim.Native.Nat.{ℕ, _<_, _≤_}
+use Prim.Native.Nat.{ℕ, zero, suc, _<_, _≤_}
 use lib.Dec.{ltb, leb, eqb}
 use borrow.Author.Tests.{le-ltb, lt-ltb, le-leb, lt-leb, eq-eqb, ne-eqb}
 
@@ -32,6 +32,24 @@ module _ {X : Type 0} (x y : X) {z : X} where
   at-ne a b h q = rw (ne-eqb a b h) q
 
 pub ruleset choices = (at-lt, at-ge, at-eq, at-ne, at-le, at-gt, at-yes, at-no)
+
+-- Numbers of checks: 0 where a check does not apply. The first that applies decides.
+abbrev pub _orElse_ : ℕ → ℕ → ℕ
+zero orElse v = v
+(suc c) orElse v = suc c
+
+infixr 25 _orElse_
+-- the number n where b holds
+abbrev pub _if_ : ℕ → Bool → ℕ
+n if b = cond b n 0
+
+infix 26 _if_
+pub or-not : (c v : ℕ) → (c ≡ 0 → ⊥) → c orElse v ≡ c
+or-not zero v ne = absurd (ne refl)
+or-not (suc c) v ne = refl
+
+pub or-none : (a v r : ℕ) → a ≡ 0 → r ≡ v → r ≡ a orElse v
+or-none a v r e q = rw e q
 
 -- a test for equal flags tells that they are
 pub beq-true : (a b : Bool) → Bool·beq a b ≡ true → a ≡ b

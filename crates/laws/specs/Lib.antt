@@ -1,3 +1,5 @@
 pub mod Below
 pub mod Choice
+pub mod Every
+pub mod Rank
 pub mod Tab

@@ -1,4 +1,4 @@
 pub mod Seen
-pub mod Musts
 pub mod Turns
 pub mod Order
+pub mod Samples

@@ -13,7 +13,8 @@ use Rattle.wire.specs.Walk.{Par}
 use Rattle.parameter.specs.Table.{table, hasClass, rowIn, key}
 use Rattle.parameter.specs.Slot.{slot}
 use Rattle.parameter.proofs.Slots.{same-slot}
-use Rattle.message.specs.Verdict.{_orElse_, _if_, most, check2, check3, check4, check5, lastChecks, verdict}
+use Rattle.laws.specs.Choice.{_orElse_, _if_}
+use Rattle.message.specs.Verdict.{most, check2, check3, check4, check5, lastChecks, verdict}
 use Rattle.message.specs.Meaning.{refusal, outcome, readingOf, bodyIn}
 use Rattle.message.specs.Seen.{bodyAt, rowOutcome, kindOutcome, checksOutcome}
 use Rattle.message.specs.declared.Reading.{Reading}

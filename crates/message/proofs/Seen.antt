@@ -13,12 +13,15 @@ use borrow.Author.Tests.{eq-eqb, ne-eqb, eqb-true, eqb-false}
 use Rattle.laws.specs.Below.{both-true}
 use Rattle.wire.specs.Walk.{Par}
 use Rattle.parameter.specs.Table.{never, must, Entry, table, entriesIn, key, usage}
-use Rattle.parameter.specs.Slot.{slot}
-use Rattle.parameter.specs.Check.{parCode}
-use Rattle.parameter.proofs.Slots.{same-slot, all-near, near, row-near, near-slot, listed-slot}
-use Rattle.message.specs.Verdict.{_orElse_, has, number, head, allThere, exactly, sequenceCode, check8}
+use Rattle.parameter.specs.Slot.{slot, tagAt, infoOf, useBits, allMet}
+use Rattle.parameter.specs.Check.{allowedCode, parCode}
+use Rattle.parameter.specs.Value.{bodyCode}
+use Rattle.parameter.proofs.Slots.{same-slot, tag-one, usage-slot, all-near, near, row-near, near-slot, listed-slot}
+use Rattle.laws.specs.Choice.{_orElse_}
+use Rattle.parameter.proofs.Info.{musts-row, use-bits}
+use Rattle.message.specs.Verdict.{has, number, head, allThere, exactly, sequenceCode, check8}
 use Rattle.message.specs.Meaning.{flag, meaning, refusal}
-use Rattle.message.specs.Seen.{there, word, Seen, allMet, sequenceAt, endAt, meaningAt}
+use Rattle.message.specs.Seen.{there, word, Seen, sequenceAt, endAt, meaningAt}
 use Rattle.message.specs.declared.Reading.{Reading}
 
 -- ---- by tag and by slot
@@ -33,6 +36,15 @@ unfolding number word
 number-word t h [] = refl
 number-word t h (p ∷ ps) = rw (number-word t h ps, same-slot (p .tag) t h)
 
+-- the code's packed uses of a tag and of identifiers
+pub packed-uses : (i t k : ℕ) → i < 17 → k ≡ slot t → k < 32 → (useBits (infoOf i .uses) 1 ≡ usage i 0x1) × (useBits (infoOf i .uses) k ≡ usage i t)
+packed-uses i t k hi ek hk =
+    (use-bits i 1 hi (omega arith) ∙ ap (usage i) tag-one, use-bits i k hi hk ∙ ap (λ (j : ℕ). usage i (tagAt j)) ek ∙ usage-slot i t)
+
+never-again : (u₁ u : ℕ) (first a b : Bool) (t : ℕ) → u ≡ never → allowedCode u₁ u first a t ≡ allowedCode u₁ u first b t
+unfolding allowedCode
+never-again u₁ u first a b t e = rw e refl
+
 -- a parameter is checked by its slot: where the tag may not stand, it does not matter whether it was there before
 pub check-slot : (i t : ℕ) (first : Bool) (ps : List Par) (v : List ℕ)
     → parCode (usage i 0x1) (usage i t) first (has t ps) t v ≡ parCode (usage i 0x1) (usage i t) first (there (slot t) ps) t v
@@ -40,7 +52,7 @@ unfolding parCode
 check-slot i t first ps v = go (ℕ-discrete (usage i t) never)
   where
     go : Dec (usage i t ≡ never) → parCode (usage i 0x1) (usage i t) first (has t ps) t v ≡ parCode (usage i 0x1) (usage i t) first (there (slot t) ps) t v
-    go (yes e) = rw e refl
+    go (yes e) = ap (λ (x : ℕ). x orElse bodyCode (usage i t) t v) (never-again (usage i 0x1) (usage i t) first (has t ps) (there (slot t) ps) t e)
     go (no n) = ap (λ (b : Bool). parCode (usage i 0x1) (usage i t) first b t v) (has-there t (listed-slot i t n) ps)
 
 -- ---- one parameter more
@@ -159,10 +171,10 @@ module _ {met : List Bool} {words : List ℕ} {ps : List Par} (s : Seen met word
   word-number : (t k : ℕ) → slot t ≡ k → k < 31 → getD words k 0 ≡ number t ps
   word-number t k e h = rw (← e) (s .words-is (slot t) (omega arith) ∙ sym (number-word t (omega arith) ps))
 
-  pub end-same : (i c t : ℕ) → endAt i c t met words ≡ check8 i c t ps
+  pub end-same : (i c t : ℕ) → i < 17 → endAt (infoOf i .musts) c t met words ≡ check8 i c t ps
   unfolding endAt slot sequenceCode
-  end-same i c t =
-      rw (all-there (entriesIn table i) (row-near i), word-number 0x306 26 refl (omega arith), word-number 0x308 28 refl (omega arith), met-has 0x307 27 refl (omega arith))
+  end-same i c t h =
+      rw (musts-row i met h, all-there (entriesIn table i) (row-near i), word-number 0x306 26 refl (omega arith), word-number 0x308 28 refl (omega arith), met-has 0x307 27 refl (omega arith))
       (ap (λ (n : ℕ). cond (not (allThere (entriesIn table i) ps)) 22 0 orElse n) (sequence-same c t (number 0x306 ps) (number 0x308 ps) (has 0x307 ps)))
 
   pub meaning-same : (c t : ℕ) → meaningAt c t met words ≡ meaning c t ps

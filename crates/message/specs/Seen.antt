@@ -7,11 +7,12 @@ use mathlib.Core.Bool.{Bool, true, false, cond, not, _&&_, _||_}
 use mathlib.Core.List.{List, [], _∷_}
 use lib.ListN.{length, getD}
 use lib.Dec.{ltb, eqb}
+use Rattle.laws.specs.Choice.{_orElse_, _if_}
 use Rattle.wire.specs.Number.{be}
 use Rattle.wire.specs.Walk.{Par}
-use Rattle.parameter.specs.Table.{must, Entry, table, hasClass, rowIn, entriesIn}
-use Rattle.parameter.specs.Slot.{slot}
-use Rattle.message.specs.Verdict.{_orElse_, _if_, head, exactly, most, lastChecks}
+use Rattle.parameter.specs.Table.{table, hasClass, rowIn}
+use Rattle.parameter.specs.Slot.{slot, allAsked}
+use Rattle.message.specs.Verdict.{head, exactly, most, lastChecks}
 use Rattle.message.specs.Meaning.{flag, refusal, outcome}
 use Rattle.message.specs.declared.Reading.{Reading}
 
@@ -30,11 +31,6 @@ pub record Seen (met : List Bool) (words : List ℕ) (ps : List Par) : Type 0 wh
   pub met-is : (k : ℕ) → k < 32 → getD met k false ≡ there k ps
   pub words-is : (k : ℕ) → k < 32 → getD words k 0 ≡ word k ps
 
--- each mandatory slot of a row is met
-unfoldable pub allMet : List Entry → List Bool → Bool
-allMet [] met = true
-allMet (e ∷ es) met = cond (eqb (e .use-as) must) (getD met (slot (e .tag)) false && allMet es met) (allMet es met)
-
 -- the sequence number rules, of an action, a result, and whether there is a sequence number
 unfoldable pub sequenceAt : ℕ → ℕ → ℕ → ℕ → Bool → ℕ
 sequenceAt c t action result given =
@@ -44,10 +40,10 @@ sequenceAt c t action result given =
     0))
     0
 
--- check 8
+-- check 8, of a row whose mandatory slots are packed
 unfoldable pub endAt : ℕ → ℕ → ℕ → List Bool → List ℕ → ℕ
-endAt i c t met words =
-    (22 if not (allMet (entriesIn table i) met)) orElse sequenceAt c t (getD words 26 0) (getD words 28 0) (getD met 27 false)
+endAt musts c t met words =
+    (22 if not (allAsked musts met)) orElse sequenceAt c t (getD words 26 0) (getD words 28 0) (getD met 27 false)
 
 -- the meaning of an accepted message
 unfoldable pub meaningAt : ℕ → ℕ → List Bool → List ℕ → Reading

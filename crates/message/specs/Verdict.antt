@@ -1,26 +1,17 @@
--- Document 01, "Reading a message": the checks 1 to 8, in the stated order. A check gives its number, or 0 where it does not apply.
+-- Document 01, "Reading a message": the checks 1 to 8, in the stated order. A check gives its number, or 0 where it does not
+-- apply. "The first that applies decides."
 -- Assumes nothing.
 use Prim.Native.Nat.{ℕ, zero, suc, _+_, _%_}
 use mathlib.Core.Bool.{Bool, true, false, cond, not, _&&_, _||_}
 use mathlib.Core.List.{List, [], _∷_, _++_}
 use lib.ListN.{length, getD}
 use lib.Dec.{ltb, eqb}
+use Rattle.laws.specs.Choice.{_orElse_, _if_}
 use Rattle.wire.specs.Number.{be}
 use Rattle.wire.specs.Walk.{Par, walk}
 use Rattle.parameter.specs.Table.{must, Entry, table, hasClass, rowIn, entriesIn, key, usage}
 use Rattle.parameter.specs.Check.{parCode}
 
--- "The first that applies decides."
-abbrev pub _orElse_ : ℕ → ℕ → ℕ
-zero orElse v = v
-(suc c) orElse v = suc c
-
-infixr 25 _orElse_
--- the number n where b holds
-abbrev pub _if_ : ℕ → Bool → ℕ
-n if b = cond b n 0
-
-infix 26 _if_
 -- "over 2,048 (house)"
 abbrev pub most : ℕ
 most = 2048

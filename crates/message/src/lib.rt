@@ -1,15 +1,18 @@
 // Reads M2UA messages: the verdict and the meaning of any bytes.
+use parameter::RowInfo;
 use wire::Step;
 ghost use mathlib.Core.Path.{_≡_};
 ghost use Prim.Native.Nat.{_+_, _≤_, _<_};
 ghost use mathlib.Core.Bool.{cond, not, true, false};
 ghost use lib.ListN.{length, getD};
 ghost use lib.Dec.{eqb};
+ghost use Rattle.laws.specs.Choice.{_orElse_, _if_};
 ghost use Rattle.wire.specs.Walk.{walk};
-ghost use Rattle.parameter.specs.Table.{table, entriesIn, rowIn};
-ghost use Rattle.message.specs.Verdict.{_orElse_, _if_, exactly, head, lastChecks};
+ghost use Rattle.parameter.specs.Table.{table, rowIn};
+ghost use Rattle.parameter.specs.Slot.{infoOf};
+ghost use Rattle.message.specs.Verdict.{exactly, head, lastChecks};
 ghost use Rattle.message.specs.Meaning.{flag, refusal, outcome, readingOf, dataOf};
-ghost use Rattle.message.specs.Seen.{allMet, sequenceAt, endAt, meaningAt, outcomeAt, bodyAt, rowOutcome, kindOutcome, checksOutcome};
+ghost use Rattle.message.specs.Seen.{sequenceAt, endAt, meaningAt, outcomeAt, bodyAt, rowOutcome, kindOutcome, checksOutcome};
 
 // What reading a message gives. A refused message has its number in `code`, and zeros.
 #[repr(C)]
@@ -36,61 +39,6 @@ pub struct Reading {
     pub action: u32,
 }
 
-// The mandatory slots of each row, at most three; 0 stands for none.
-const MUSTS: [usize; 51] = [
-    12,
-    0,
-    0,
-    13,
-    0,
-    0,
-    0,
-    0,
-    0,
-    0,
-    0,
-    0,
-    0,
-    0,
-    0,
-    0,
-    0,
-    0,
-    0,
-    0,
-    0,
-    1,
-    20,
-    0,
-    1,
-    0,
-    0,
-    1,
-    22,
-    0,
-    1,
-    23,
-    0,
-    1,
-    26,
-    0,
-    1,
-    26,
-    28,
-    1,
-    20,
-    0,
-    1,
-    0,
-    0,
-    1,
-    24,
-    0,
-    1,
-    19,
-    0,
-];
-
 fn unit(b: bool) -> u32
     ensures { λ r. ⌜ r ≡ flag b ⌝ }
 {
@@ -115,26 +63,6 @@ fn refused(code: u32) -> Reading
         state: 0,
         action: 0,
     }
-}
-
-// A slot that must be met has been; 0 stands for none.
-fn met_at(met: &[bool; 32], k: usize) -> bool
-    requires { ⌜ k < 32 ⌝ }
-    ensures { λ r. ⌜ r ≡ cond (eqb k 0) true (getD (now (met .entry)) k false) ⌝ }
-{
-    if k == 0 {
-        return true;
-    }
-    met[k]
-}
-
-// Each mandatory slot of a row is met.
-fn musts_met(row: usize, met: &[bool; 32]) -> bool
-    requires { ⌜ row < 17 ⌝ }
-    ensures { λ r. ⌜ r ≡ allMet (entriesIn table row) (now (met .entry)) ⌝ }
-{
-    let at = row * 3;
-    met_at(met, MUSTS[at]) & met_at(met, MUSTS[at + 1]) & met_at(met, MUSTS[at + 2])
 }
 
 // A sequence number where one is wanted, and only there.
@@ -212,13 +140,12 @@ fn end_of(all: bool, sequence: u32) -> u32
     22
 }
 
-// Check 8.
-fn end_code(row: usize, c: u8, t: u8, met: &[bool; 32], words: &[u32; 32]) -> u32
-    requires { ⌜ row < 17 ⌝ }
-    ensures { λ r. ⌜ r ≡ endAt row c t (now (met .entry)) (now (words .entry)) ⌝ }
+// Check 8, of a row whose mandatory slots are packed.
+fn end_code(musts: u32, c: u8, t: u8, met: &[bool; 32], words: &[u32; 32]) -> u32
+    ensures { λ r. ⌜ r ≡ endAt musts c t (now (met .entry)) (now (words .entry)) ⌝ }
 {
     end_of(
-        musts_met(row, met),
+        parameter::musts_met(musts, met),
         sequence_code(c, t, words[26], words[28], met[27]),
     )
 }
@@ -234,12 +161,11 @@ fn outcome_of(code: u32, c: u8, t: u8, met: &[bool; 32], words: &[u32; 32]) -> R
 }
 
 // The walk has ended, with the number `fault`.
-fn finish(fault: u32, row: usize, c: u8, t: u8, met: &[bool; 32], words: &[u32; 32]) -> Reading
-    requires { ⌜ row < 17 ⌝ }
-    ensures { λ r. ⌜ r ≡ outcomeAt (fault orElse endAt row c t (now (met .entry)) (now (words .entry))) c t (now (met .entry)) (now (words .entry)) ⌝ }
+fn finish(fault: u32, musts: u32, c: u8, t: u8, met: &[bool; 32], words: &[u32; 32]) -> Reading
+    ensures { λ r. ⌜ r ≡ outcomeAt (fault orElse endAt musts c t (now (met .entry)) (now (words .entry))) c t (now (met .entry)) (now (words .entry)) ⌝ }
 {
     outcome_of(
-        first_of(fault, end_code(row, c, t, met, words)),
+        first_of(fault, end_code(musts, c, t, met, words)),
         c,
         t,
         met,
@@ -275,8 +201,8 @@ fn refused_at(s: &[u8], next: usize, code: u32) -> Reading
 }
 
 // The checks 6 to 8 in one walk, of a message whose row is known.
-fn read_pars(s: &[u8], row: usize) -> Reading
-    requires { ⌜ (8 ≤ length (now s)) × ((row < 17) × (row ≡ rowIn table (getD (now s) 2 0) (getD (now s) 3 0))) ⌝ }
+fn read_pars(s: &[u8], info: RowInfo) -> Reading
+    requires { ⌜ (8 ≤ length (now s)) × ((rowIn table (getD (now s) 2 0) (getD (now s) 3 0) < 17) × (info ≡ infoOf (rowIn table (getD (now s) 2 0) (getD (now s) 3 0)))) ⌝ }
     ensures { λ r. ⌜ r ≡ outcome (lastChecks (now (s .entry))) (now (s .entry)) ⌝ }
 {
     let mut met = [false; 32];
@@ -286,13 +212,13 @@ fn read_pars(s: &[u8], row: usize) -> Reading
     loop {
         let w = wire::step_at(s, at);
         let Step::Param { tag, len, next } = w else {
-            return finish(wire::step_code(w), row, s[2], s[3], &met, &words);
+            return finish(wire::step_code(w), info.musts, s[2], s[3], &met, &words);
         };
         let k = parameter::slot_of(tag);
         let again = met[k];
         let start = at + 4;
         let stop = at + len as usize;
-        let code = parameter::par_at(row, first, again, k, tag, &s[start..stop]);
+        let code = parameter::par_at(info.uses, first, again, k, tag, &s[start..stop]);
         if code != 0 {
             return refused_at(s, next, code);
         }
@@ -320,7 +246,7 @@ fn read_row(listed: bool, row: usize, n: u32, s: &[u8]) -> Reading
     if s.len() % 4 != 0 {
         return refused(7);
     }
-    read_pars(s, row)
+    read_pars(s, parameter::row_info(row))
 }
 
 // The checks 3 to 8.

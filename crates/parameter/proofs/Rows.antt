@@ -1,15 +1,17 @@
 -- The row of a class and type, by the code's table.
 -- Assumes nothing.
 use mathlib.Core.Path.{_≡_, refl, sym, ap, _∙_}
-use mathlib.Core.Bool.{Bool, true, false, cond, _&&_, _||_, false≢true}
+use mathlib.Core.Bool.{Bool, true, false, cond, not, _&&_, _||_, false≢true}
 use mathlib.Core.List.{List, [], _∷_}
 use Prim.Native.Nat.{ℕ, zero, suc, _+_, _*_, _<_, _≤_}
 use native.Mathlib.Omega.{arith}
+use native.Mathlib.Decide.{decLt}
 use lib.ListN.{length, getD}
 use lib.Dec.{ltb, eqb}
-use borrow.Author.Tests.{eqb-true, ltb-true, ne-eqb}
+use borrow.Author.Tests.{eqb-true, ltb-true, lt-ltb, ne-eqb}
 use Rattle.laws.specs.Below.{allBelow, all-at, both-true}
-use Rattle.parameter.specs.Table.{Row, table, among, rowIn}
+use Rattle.parameter.specs.Table.{Row, table, among, hasClass, rowIn}
+use Rattle.parameter.specs.Slot.{rowBits}
 
 -- each number is below n
 below : ℕ → List ℕ → Bool
@@ -63,20 +65,52 @@ pub no-type : (c t : ℕ) → (10 < c → ⊥) → 15 < t → rowIn table c t �
 unfolding table
 no-type c t n h = far table c t table-small n (omega arith)
 
-unfoldable pub rows : List ℕ
-rows = 0 ∷ 1 ∷ 17 ∷ 17 ∷ 17 ∷ 17 ∷ 17 ∷ 17 ∷ 17 ∷ 17 ∷ 17 ∷ 17 ∷ 17 ∷ 17 ∷ 17 ∷ 17 ∷ 17 ∷ 17 ∷ 17 ∷ 17 ∷ 17 ∷ 17 ∷ 17 ∷ 17 ∷ 17 ∷ 17 ∷ 17 ∷ 17 ∷ 17 ∷ 17 ∷ 17 ∷ 17 ∷ 17 ∷ 17 ∷ 17 ∷ 17 ∷ 17 ∷ 17 ∷ 17 ∷ 17 ∷ 17 ∷ 17 ∷ 17 ∷ 17 ∷ 17 ∷ 17 ∷ 17 ∷ 17 ∷ 17 ∷ 2 ∷ 3 ∷ 4 ∷ 3 ∷ 3 ∷ 4 ∷ 17 ∷ 17 ∷ 17 ∷ 17 ∷ 17 ∷ 17 ∷ 17 ∷ 17 ∷ 17 ∷ 17 ∷ 5 ∷ 6 ∷ 5 ∷ 6 ∷ 17 ∷ 17 ∷ 17 ∷ 17 ∷ 17 ∷ 17 ∷ 17 ∷ 17 ∷ 17 ∷ 17 ∷ 17 ∷ 17 ∷ 17 ∷ 17 ∷ 17 ∷ 17 ∷ 17 ∷ 17 ∷ 17 ∷ 17 ∷ 17 ∷ 17 ∷ 17 ∷ 17 ∷ 17 ∷ 17 ∷ 17 ∷ 17 ∷ 7 ∷ 8 ∷ 8 ∷ 8 ∷ 8 ∷ 8 ∷ 9 ∷ 9 ∷ 10 ∷ 11 ∷ 12 ∷ 13 ∷ 14 ∷ 15 ∷ 16 ∷ 17 ∷ 17 ∷ 17 ∷ 17 ∷ 17 ∷ 17 ∷ 17 ∷ 17 ∷ 17 ∷ 17 ∷ 17 ∷ 17 ∷ 17 ∷ 17 ∷ 17 ∷ 17 ∷ 17 ∷ 17 ∷ 17 ∷ 17 ∷ 17 ∷ 17 ∷ 17 ∷ 17 ∷ 17 ∷ 17 ∷ 17 ∷ 17 ∷ 17 ∷ 17 ∷ 17 ∷ 17 ∷ 17 ∷ 17 ∷ 17 ∷ 17 ∷ 17 ∷ 17 ∷ 17 ∷ 17 ∷ 17 ∷ 17 ∷ 17 ∷ 17 ∷ 17 ∷ 17 ∷ 17 ∷ 17 ∷ 17 ∷ 17 ∷ 17 ∷ 17 ∷ 17 ∷ 17 ∷ 17 ∷ 17 ∷ 17 ∷ 17 ∷ 17 ∷ 17 ∷ 17 ∷ 17 ∷ 17 ∷ 17 ∷ []
+-- ---- the code's packed rows
+
+-- the places of a class's types, 15 for none
+unfoldable pub packed : ℕ → ℕ
+packed c = cond (eqb c 0) 0xffffffffffffff10 (cond (eqb c 3) 0xfffffffff211210f (cond (eqb c 4) 0xfffffffffff1010f 0x987654322111110f))
+
+unfoldable pub base : ℕ → ℕ
+base c = cond (eqb c 0) 0 (cond (eqb c 3) 2 (cond (eqb c 4) 5 7))
+
+far-bits : (rows b t : ℕ) → 16 ≤ t → rowBits rows b t ≡ 17
+unfolding rowBits
+far-bits rows b t h = rw (lt-ltb 15 t h)
 
 right : ℕ → ℕ → Bool
-right c t = eqb (getD rows (c * 16 + t) 0) (rowIn table c t)
+right c t = not (hasClass table c) || eqb (rowBits (packed c) (base c) t) (rowIn table c t)
 
-all-right : allBelow (λ c. allBelow (right c) 16) 11 ≡ true
-unfolding allBelow right rows rowIn among table
+all-right : allBelow (λ c. allBelow (right c) 16) 7 ≡ true
+unfolding allBelow right packed base rowBits hasClass rowIn among table
 all-right = refl
 
--- the code's table has the row of each class and type
-pub row-right : (c t : ℕ) → c < 11 → t < 16 → getD rows (c * 16 + t) 0 ≡ rowIn table c t
+implied : (a b : Bool) → (not a || b) ≡ true → a ≡ true → b ≡ true
+implied true b h e = h
+implied false b h e = absurd (false≢true e)
+
+-- the packed row of a listed class is the table's
+pub row-right : (c t : ℕ) → c < 7 → hasClass table c ≡ true → rowBits (packed c) (base c) t ≡ rowIn table c t
 unfolding right
-row-right c t hc ht = eqb-true _ _ (all-at (right c) 16 (all-at (λ x. allBelow (right x) 16) 11 all-right c hc) t ht)
+row-right c t hc hl = go (decLt t 16)
+  where
+    go : Dec (t < 16) → rowBits (packed c) (base c) t ≡ rowIn table c t
+    go (yes h) = eqb-true _ _ (implied (hasClass table c) _ (all-at (right c) 16 (all-at (λ x. allBelow (right x) 16) 7 all-right c hc) t h) hl)
+    go (no n) = far-bits (packed c) (base c) t (omega arith) ∙ sym (no-type c t (λ h. omega arith) (omega arith))
+
+-- what the code finds in the packed row of the class k is the row of c, which is k
+pub class-row : (k c t r : ℕ) → r ≡ rowBits (packed k) (base k) t → k < 7 → hasClass table k ≡ true → c ≡ k → r ≡ rowIn table c t
+class-row k c t r e h l ek = e ∙ row-right k t h l ∙ ap (λ (x : ℕ). rowIn table x t) (sym ek)
+
+-- a class that is not listed has no row
+pub unlisted : (rs : List Row) (c t : ℕ) → hasClass rs c ≡ false → rowIn rs c t ≡ length rs
+unfolding hasClass rowIn
+unlisted [] c t h = refl
+unlisted (r ∷ rs) c t h = go (eqb c (r .class)) h (unlisted rs c t)
+  where
+    go : (b : Bool) → (b || hasClass rs c) ≡ false → (hasClass rs c ≡ false → rowIn rs c t ≡ length rs) → cond (b && among t (r .types)) 0 (suc (rowIn rs c t)) ≡ suc (length rs)
+    go true e ih = absurd (false≢true (sym e))
+    go false e ih = ap suc (ih e)
 
 -- a row's index is at most the number of rows
 pub row-most : (rs : List Row) (c t : ℕ) → rowIn rs c t ≤ length rs

@@ -10,7 +10,6 @@ use lib.Dec.{ltb, leb, eqb}
 use borrow.Author.Tests.{lt-ltb, le-ltb, ltb-true, ltb-false, eq-eqb, ne-eqb, eqb-true, eqb-false, le-leb, lt-leb}
 use Rattle.laws.specs.Below.{both-true}
 use Rattle.parameter.specs.Table.{Entry, Row, table, key, useIn, usage, entriesIn, never}
-use Rattle.parameter.specs.Value.{limitsOf}
 use Rattle.parameter.specs.Slot.{slot, tagAt}
 
 -- where a tag lies: among the low ones, among the high ones, at 0x301, or beyond what any message has
@@ -212,40 +211,3 @@ module _ (i t : ℕ) where
       go : (b : Bool) → near t ≡ b → slot t < 31
       go true e = near-slot e
       go false e = absurd (h (usage-far i t e))
-
-limits-far : (t : ℕ) → 20 ≤ t → ((0x300 ≤ t) → t < 0x309 → ⊥) → limitsOf t ≡ limitsOf 779
-unfolding limitsOf
-limits-far t a b =
-    rw (
-      ne-eqb t 0x4 (λ e. omega arith),
-      ne-eqb t 0x7 (λ e. omega arith),
-      ne-eqb t 0x9 (λ e. omega arith),
-      ne-eqb t 0x300 (λ e. b (omega arith) (omega arith)),
-      ne-eqb t 0x301 (λ e. b (omega arith) (omega arith)),
-      ne-eqb t 0xb (λ e. omega arith),
-      ne-eqb t 0x302 (λ e. b (omega arith) (omega arith)),
-      ne-eqb t 0x303 (λ e. b (omega arith) (omega arith)),
-      ne-eqb t 0x304 (λ e. b (omega arith) (omega arith)),
-      ne-eqb t 0x305 (λ e. b (omega arith) (omega arith)),
-      ne-eqb t 0x306 (λ e. b (omega arith) (omega arith)),
-      ne-eqb t 0x307 (λ e. b (omega arith) (omega arith)),
-      ne-eqb t 0x308 (λ e. b (omega arith) (omega arith)),
-    )
-
-limits-twin : limitsOf 0x300 ≡ limitsOf 0x301
-unfolding limitsOf
-limits-twin = refl
-
--- the tag of a slot has the limits of the tag itself
-pub limits-slot : (t : ℕ) → limitsOf (tagAt (slot t)) ≡ limitsOf t
-limits-slot t = go (lies t)
-  where
-    far-limits : slot t ≡ 31 → 20 ≤ t → ((0x300 ≤ t) → t < 0x309 → ⊥) → limitsOf (tagAt (slot t)) ≡ limitsOf t
-    far-limits e a b = ap (λ (k : ℕ). limitsOf (tagAt k)) e ∙ ap limitsOf tag-far ∙ sym (limits-far t a b)
-
-    go : Lies t → limitsOf (tagAt (slot t)) ≡ limitsOf t
-    go (low a) = let e = slot-low t a in ap limitsOf (tag-slot t (omega arith) ∙ key-other t (λ q. omega arith))
-    go (high a b n) = let e = slot-high t a b n in ap limitsOf (tag-slot t (omega arith) ∙ key-other t n)
-    go (twin e) = rw e (ap limitsOf tag-twin ∙ limits-twin)
-    go (between a b) = far-limits (slot-between t a b) a (λ p q. omega arith)
-    go (above a) = far-limits (slot-above t a) (omega arith) (λ p q. omega arith)

@@ -4,6 +4,7 @@ use Prim.Native.Nat.{ℕ}
 use mathlib.Core.Bool.{Bool, cond}
 use mathlib.Core.List.{List}
 use lib.Dec.{eqb}
+use Rattle.laws.specs.Choice.{_orElse_}
 use Rattle.parameter.specs.Table.{never, must, free}
 use Rattle.parameter.specs.Value.{bodyCode}
 
@@ -11,13 +12,17 @@ use Rattle.parameter.specs.Value.{bodyCode}
 unfoldable pub textCode : ℕ → Bool → ℕ
 textCode u first = cond (eqb u free) 8 (cond (eqb u must) (cond first 8 19) 19)
 
--- "tag not allowed, or a once-only tag again: 19"; "In class 6, tag 0x1 is allowed only as the first parameter"; then length and value.
+-- "tag not allowed, or a once-only tag again: 19"; "In class 6, tag 0x1 is allowed only as the first parameter".
 -- The row has 0x1 as u₁ says, and this tag as u says.
-unfoldable pub parCode : ℕ → ℕ → Bool → Bool → ℕ → List ℕ → ℕ
-parCode u₁ u first again t v =
+unfoldable pub allowedCode : ℕ → ℕ → Bool → Bool → ℕ → ℕ
+allowedCode u₁ u first again t =
     cond (eqb t 0x3) (textCode u₁ first)
     (cond (eqb u never) 19
-    (cond (eqb u free) (bodyCode u t v)
+    (cond (eqb u free) 0
     (cond again 19
-    (cond (eqb t 0x1) (cond first (bodyCode u t v) 19)
-    (bodyCode u t v)))))
+    (cond (eqb t 0x1) (cond first 0 19)
+    0))))
+
+-- one parameter: may it stand there, then its length and value
+unfoldable pub parCode : ℕ → ℕ → Bool → Bool → ℕ → List ℕ → ℕ
+parCode u₁ u first again t v = allowedCode u₁ u first again t orElse bodyCode u t v

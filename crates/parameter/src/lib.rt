@@ -2,14 +2,12 @@
 ghost use mathlib.Core.Path.{_≡_};
 ghost use Prim.Native.Nat.{_+_, _≤_, _<_};
 ghost use lib.ListN.{length};
+ghost use Rattle.laws.specs.Choice.{_orElse_};
 ghost use Rattle.wire.specs.Number.{be};
-ghost use Rattle.parameter.specs.Table.{table, hasClass, rowIn, usage};
-ghost use Rattle.parameter.specs.Value.{limitsOf, plainCode, wordCode, valueCode, idCode, rangeCode, bodyCode};
-ghost use Rattle.parameter.specs.Slot.{slot, tagAt};
-ghost use Rattle.parameter.specs.Check.{textCode, parCode};
-
-// The number of rows of the table of message types.
-pub const ROW_COUNT: usize = 17;
+ghost use Rattle.parameter.specs.Table.{table, hasClass, rowIn};
+ghost use Rattle.parameter.specs.Value.{bytesOf, numberOf, limitsOf, plainCode, wordCode, valueCode, idCode, rangeCode, bodyCode};
+ghost use Rattle.parameter.specs.Slot.{slot, infoOf, rowBits, useBits, asked, allAsked};
+ghost use Rattle.parameter.specs.Check.{textCode, allowedCode, parCode};
 
 // How long a value may be, and, of one that is a number, what it may be.
 pub struct Limits {
@@ -20,347 +18,11 @@ pub struct Limits {
     pub high: u32,
 }
 
-// Two bits for each slot, for each row of the table: how the slot's tag may stand in the row's messages.
-const USES: [u64; 17] = [
-    0x203400c,
-    0x40803010c,
-    0x400000100,
-    0x100,
-    0x40000,
-    0x43010c,
-    0x3010c,
-    0xa4000000008,
-    0x8,
-    0x200000000008,
-    0x800000000008,
-    0x60000000000008,
-    0x260000000000008,
-    0xa0000000008,
-    0x50000000008,
-    0x6000000000008,
-    0x8000000008,
-];
-
-// The row of each class below 11 and type below 16; 17 where there is none.
-const ROWS: [u8; 176] = [
-    0,
-    1,
-    17,
-    17,
-    17,
-    17,
-    17,
-    17,
-    17,
-    17,
-    17,
-    17,
-    17,
-    17,
-    17,
-    17,
-    17,
-    17,
-    17,
-    17,
-    17,
-    17,
-    17,
-    17,
-    17,
-    17,
-    17,
-    17,
-    17,
-    17,
-    17,
-    17,
-    17,
-    17,
-    17,
-    17,
-    17,
-    17,
-    17,
-    17,
-    17,
-    17,
-    17,
-    17,
-    17,
-    17,
-    17,
-    17,
-    17,
-    2,
-    3,
-    4,
-    3,
-    3,
-    4,
-    17,
-    17,
-    17,
-    17,
-    17,
-    17,
-    17,
-    17,
-    17,
-    17,
-    5,
-    6,
-    5,
-    6,
-    17,
-    17,
-    17,
-    17,
-    17,
-    17,
-    17,
-    17,
-    17,
-    17,
-    17,
-    17,
-    17,
-    17,
-    17,
-    17,
-    17,
-    17,
-    17,
-    17,
-    17,
-    17,
-    17,
-    17,
-    17,
-    17,
-    17,
-    17,
-    7,
-    8,
-    8,
-    8,
-    8,
-    8,
-    9,
-    9,
-    10,
-    11,
-    12,
-    13,
-    14,
-    15,
-    16,
-    17,
-    17,
-    17,
-    17,
-    17,
-    17,
-    17,
-    17,
-    17,
-    17,
-    17,
-    17,
-    17,
-    17,
-    17,
-    17,
-    17,
-    17,
-    17,
-    17,
-    17,
-    17,
-    17,
-    17,
-    17,
-    17,
-    17,
-    17,
-    17,
-    17,
-    17,
-    17,
-    17,
-    17,
-    17,
-    17,
-    17,
-    17,
-    17,
-    17,
-    17,
-    17,
-    17,
-    17,
-    17,
-    17,
-    17,
-    17,
-    17,
-    17,
-    17,
-    17,
-    17,
-    17,
-    17,
-    17,
-    17,
-    17,
-    17,
-    17,
-    17,
-    17,
-    17,
-    17,
-];
-
-// The limits of each slot's tag: the least and the most bytes of a value, and the least and the most number.
-const LEAST: [usize; 32] = [
-    4,
-    4,
-    4,
-    4,
-    0,
-    4,
-    4,
-    0,
-    4,
-    0,
-    4,
-    4,
-    4,
-    4,
-    4,
-    4,
-    4,
-    4,
-    4,
-    4,
-    1,
-    1,
-    4,
-    4,
-    4,
-    4,
-    4,
-    4,
-    4,
-    4,
-    4,
-    4,
-];
-
-const MOST: [usize; 32] = [
-    4,
-    4,
-    4,
-    4,
-    255,
-    4,
-    4,
-    65531,
-    4,
-    65531,
-    4,
-    4,
-    4,
-    4,
-    4,
-    4,
-    4,
-    4,
-    4,
-    4,
-    273,
-    273,
-    4,
-    4,
-    4,
-    4,
-    4,
-    4,
-    4,
-    4,
-    4,
-    4,
-];
-
-const LOW: [u32; 32] = [
-    0,
-    0,
-    0,
-    0,
-    0,
-    0,
-    0,
-    0,
-    0,
-    0,
-    0,
-    1,
-    0,
-    0,
-    0,
-    0,
-    0,
-    0,
-    0,
-    0,
-    0,
-    0,
-    0,
-    1,
-    0,
-    0,
-    1,
-    0,
-    0,
-    0,
-    0,
-    0,
-];
-
-const HIGH: [u32; 32] = [
-    0xffff_ffff,
-    0xffff_ffff,
-    0xffff_ffff,
-    0xffff_ffff,
-    0,
-    0xffff_ffff,
-    0xffff_ffff,
-    0,
-    0xffff_ffff,
-    0,
-    0xffff_ffff,
-    3,
-    0xffff_ffff,
-    0xffff_ffff,
-    0xffff_ffff,
-    0xffff_ffff,
-    0xffff_ffff,
-    0xffff_ffff,
-    0xffff_ffff,
-    0xffff_ffff,
-    0,
-    0,
-    10,
-    4,
-    3,
-    3,
-    2,
-    127,
-    1,
-    0xffff_ffff,
-    0xffff_ffff,
-    0xffff_ffff,
-];
+// A row of the table, packed: two bits for each slot say how its tag may stand; three slots of five bits each are the mandatory ones.
+pub struct RowInfo {
+    pub uses: u64,
+    pub musts: u32,
+}
 
 // The class is listed.
 pub fn class_ok(c: u8) -> bool
@@ -375,23 +37,108 @@ pub fn class_ok(c: u8) -> bool
     }
 }
 
-fn wide(x: u8) -> usize
-    ensures { λ r. ⌜ (r ≡ x) × (r < 256) ⌝ }
+// The row of a type in a class: four bits for each type are its place among the class's rows, 15 for none; base is the class's first row.
+fn row_in(rows: u64, base: usize, t: u8) -> usize
+    requires { ⌜ base < 17 ⌝ }
+    ensures { λ r. ⌜ r ≡ rowBits rows base t ⌝ }
 {
-    x as usize
+    if 15 < t {
+        return 17;
+    }
+    let place = ((rows >> (4 * t as u64)) % 16) as usize;
+    if place == 15 {
+        return 17;
+    }
+    base + place
 }
 
 // The row of a class and type; 17 where there is none.
 pub fn row_of(c: u8, t: u8) -> usize
     ensures { λ r. ⌜ r ≡ rowIn table c t ⌝ }
 {
-    if 10 < c {
-        return 17;
+    match c {
+        0 => row_in(0xffffffffffffff10, 0, t),
+        3 => row_in(0xfffffffff211210f, 2, t),
+        4 => row_in(0xfffffffffff1010f, 5, t),
+        6 => row_in(0x987654322111110f, 7, t),
+        _ => 17,
     }
-    if 15 < t {
-        return 17;
+}
+
+// A row, packed.
+pub fn row_info(row: usize) -> RowInfo
+    ensures { λ r. ⌜ r ≡ infoOf row ⌝ }
+{
+    match row {
+        0 => RowInfo {
+            uses: 0x203400c,
+            musts: 12,
+        },
+        1 => RowInfo {
+            uses: 0x40803010c,
+            musts: 13,
+        },
+        2 => RowInfo {
+            uses: 0x400000100,
+            musts: 0,
+        },
+        3 => RowInfo {
+            uses: 0x100,
+            musts: 0,
+        },
+        4 => RowInfo {
+            uses: 0x40000,
+            musts: 0,
+        },
+        5 => RowInfo {
+            uses: 0x43010c,
+            musts: 0,
+        },
+        6 => RowInfo {
+            uses: 0x3010c,
+            musts: 0,
+        },
+        7 => RowInfo {
+            uses: 0xa4000000008,
+            musts: 641,
+        },
+        8 => RowInfo {
+            uses: 0x8,
+            musts: 1,
+        },
+        9 => RowInfo {
+            uses: 0x200000000008,
+            musts: 705,
+        },
+        10 => RowInfo {
+            uses: 0x800000000008,
+            musts: 737,
+        },
+        11 => RowInfo {
+            uses: 0x60000000000008,
+            musts: 833,
+        },
+        12 => RowInfo {
+            uses: 0x260000000000008,
+            musts: 29505,
+        },
+        13 => RowInfo {
+            uses: 0xa0000000008,
+            musts: 641,
+        },
+        14 => RowInfo {
+            uses: 0x50000000008,
+            musts: 1,
+        },
+        15 => RowInfo {
+            uses: 0x6000000000008,
+            musts: 769,
+        },
+        _ => RowInfo {
+            uses: 0x8000000008,
+            musts: 609,
+        },
     }
-    wide(ROWS[wide(c) * 16 + wide(t)])
 }
 
 // The slot of a tag.
@@ -413,27 +160,58 @@ pub fn slot_of(t: u16) -> usize
     (t as usize) - 748
 }
 
-// How the tag of a slot may stand in the messages of a row.
-fn use_of(row: usize, k: usize) -> u64
-    requires { ⌜ (row < 17) × (k < 32) ⌝ }
-    ensures { λ r. ⌜ r ≡ usage row (tagAt k) ⌝ }
+// How the tag of a slot may stand.
+fn use_at(uses: u64, k: usize) -> u64
+    requires { ⌜ k < 32 ⌝ }
+    ensures { λ r. ⌜ r ≡ useBits uses k ⌝ }
 {
-    (USES[row] >> (2 * k)) % 4
+    (uses >> (2 * k)) % 4
 }
 
-// The limits of the tag of a slot.
-fn limits_at(k: usize) -> Limits
-    requires { ⌜ k < 32 ⌝ }
-    ensures { λ r. ⌜ r ≡ limitsOf (tagAt k) ⌝ }
+fn bytes_of(least: usize, most: usize) -> Limits
+    requires { ⌜ (4 ≤ least) × (4 ≤ most) ⌝ }
+    ensures { λ r. ⌜ r ≡ bytesOf least most ⌝ }
 {
-    let least = LEAST[k];
-    let most = MOST[k];
     Limits {
-        least,
-        most,
-        word: least == most,
-        low: LOW[k],
-        high: HIGH[k],
+        least: least - 4,
+        most: most - 4,
+        word: false,
+        low: 0,
+        high: 0,
+    }
+}
+
+fn number_of(low: u32, high: u32) -> Limits
+    ensures { λ r. ⌜ r ≡ numberOf low high ⌝ }
+{
+    Limits {
+        least: 4,
+        most: 4,
+        word: true,
+        low,
+        high,
+    }
+}
+
+// The limits of a tag's value.
+fn limits_of(t: u16) -> Limits
+    ensures { λ r. ⌜ r ≡ limitsOf t ⌝ }
+{
+    match t {
+        0x4 => bytes_of(4, 259),
+        0x7 => bytes_of(4, 65535),
+        0x9 => bytes_of(4, 65535),
+        0x300 => bytes_of(5, 277),
+        0x301 => bytes_of(5, 277),
+        0xb => number_of(1, 3),
+        0x302 => number_of(0, 10),
+        0x303 => number_of(1, 4),
+        0x304 => number_of(0, 3),
+        0x305 => number_of(0, 3),
+        0x306 => number_of(1, 2),
+        0x307 => number_of(0, 127),
+        0x308 => number_of(0, 1),
+        _ => number_of(0, 0xffff_ffff),
     }
 }
 
@@ -483,12 +261,10 @@ fn plain_code(m: Limits, t: u16, v: &[u8]) -> u32
     word_at(m, t, v)
 }
 
-// The value of a tag whose slot is k.
-fn plain_of(k: usize, t: u16, v: &[u8]) -> u32
-    requires { ⌜ (k ≡ slot t) × (k < 32) ⌝ }
+fn plain_of(t: u16, v: &[u8]) -> u32
     ensures { λ r. ⌜ r ≡ plainCode (limitsOf t) t (now (v .entry)) ⌝ }
 {
-    plain_code(limits_at(k), t, v)
+    plain_code(limits_of(t), t, v)
 }
 
 // Interface identifiers: one in a link message, else one or more.
@@ -528,9 +304,8 @@ fn range_code(v: &[u8]) -> u32
     0
 }
 
-// The length and value of a tag that may stand as u says; k is its slot.
-fn body_code(u: u64, k: usize, t: u16, v: &[u8]) -> u32
-    requires { ⌜ (k ≡ slot t) × (k < 32) ⌝ }
+// The length and value of a tag that may stand as u says.
+fn body_code(u: u64, t: u16, v: &[u8]) -> u32
     ensures { λ r. ⌜ r ≡ bodyCode u t (now (v .entry)) ⌝ }
 {
     if t == 1 {
@@ -539,7 +314,7 @@ fn body_code(u: u64, k: usize, t: u16, v: &[u8]) -> u32
     if t == 8 {
         return range_code(v);
     }
-    plain_of(k, t, v)
+    plain_of(t, v)
 }
 
 // A text identifier: 8 where an identifier may stand there, else 19. u is how identifiers may stand in the message.
@@ -558,10 +333,9 @@ fn text_code(u: u64, first: bool) -> u32
     19
 }
 
-// One parameter. u1 is how identifiers may stand in the message, u how this tag may; k is its slot.
-fn par_code(u1: u64, u: u64, first: bool, again: bool, k: usize, t: u16, v: &[u8]) -> u32
-    requires { ⌜ (k ≡ slot t) × (k < 32) ⌝ }
-    ensures { λ r. ⌜ r ≡ parCode u1 u first again t (now (v .entry)) ⌝ }
+// May a parameter stand there? u1 is how identifiers may stand in the message, u how this tag may.
+fn allowed_code(u1: u64, u: u64, first: bool, again: bool, t: u16) -> u32
+    ensures { λ r. ⌜ r ≡ allowedCode u1 u first again t ⌝ }
 {
     if t == 3 {
         return text_code(u1, first);
@@ -570,24 +344,54 @@ fn par_code(u1: u64, u: u64, first: bool, again: bool, k: usize, t: u16, v: &[u8
         return 19;
     }
     if u == 3 {
-        return body_code(u, k, t, v);
+        return 0;
     }
     if again {
         return 19;
     }
     if t == 1 {
         if first {
-            return body_code(u, k, t, v);
+            return 0;
         }
         return 19;
     }
-    body_code(u, k, t, v)
+    0
 }
 
-// One parameter of a message of a row: the first or not, its tag seen before or not, its slot, tag and value.
-pub fn par_at(row: usize, first: bool, again: bool, k: usize, t: u16, v: &[u8]) -> u32
-    requires { ⌜ (row < 17) × ((k ≡ slot t) × (k < 32)) ⌝ }
-    ensures { λ r. ⌜ r ≡ parCode (usage row 0x1) (usage row t) first again t (now (v .entry)) ⌝ }
+// A parameter that may stand there or not, and then its length and value.
+fn par_code(allowed: u32, u: u64, t: u16, v: &[u8]) -> u32
+    ensures { λ r. ⌜ r ≡ allowed orElse bodyCode u t (now (v .entry)) ⌝ }
 {
-    par_code(use_of(row, 1), use_of(row, k), first, again, k, t, v)
+    if allowed == 0 {
+        return body_code(u, t, v);
+    }
+    allowed
+}
+
+// One parameter of a message of a row whose uses are packed: the first or not, its tag seen before or not, its slot, tag and value.
+pub fn par_at(uses: u64, first: bool, again: bool, k: usize, t: u16, v: &[u8]) -> u32
+    requires { ⌜ k < 32 ⌝ }
+    ensures { λ r. ⌜ r ≡ parCode (useBits uses 1) (useBits uses k) first again t (now (v .entry)) ⌝ }
+{
+    let u = use_at(uses, k);
+    par_code(allowed_code(use_at(uses, 1), u, first, again, t), u, t, v)
+}
+
+// A slot is met; 0 stands for no slot.
+fn met_at(met: &[bool; 32], k: usize) -> bool
+    requires { ⌜ k < 32 ⌝ }
+    ensures { λ r. ⌜ r ≡ asked (now (met .entry)) k ⌝ }
+{
+    if k == 0 {
+        return true;
+    }
+    met[k]
+}
+
+// Each of three packed slots is met.
+pub fn musts_met(musts: u32, met: &[bool; 32]) -> bool
+    ensures { λ r. ⌜ r ≡ allAsked musts (now (met .entry)) ⌝ }
+{
+    let m = musts as usize;
+    met_at(met, m % 32) & met_at(met, m / 32 % 32) & met_at(met, m / 1024 % 32)
 }

@@ -105,3 +105,37 @@ pub fn part_at(s: &[u8], at: usize, len: usize) -> &[u8]
     }
     &s[at + 4..at + len]
 }
+
+// A reading place: the message and the position in it, together. The functions over it are thin: they take it apart and call those above.
+pub struct Place<'a> {
+    pub msg: &'a [u8],
+    pub at: usize,
+}
+
+// The place of the first parameter, behind the header.
+pub fn start<'a>(msg: &'a [u8]) -> Place<'a>
+    ensures { λ r. ⌜ (r .msg ≡ msg .entry) × (r .at ≡ 8) ⌝ }
+{
+    Place { msg, at: 8 }
+}
+
+// What stands at the place.
+pub fn reading<'a>(p: Place<'a>) -> Step
+    ensures { λ r. ⌜ r ≡ stepAt (now (p .entry .msg)) (p .entry .at) ⌝ }
+{
+    step_at(p.msg, p.at)
+}
+
+// The value of the parameter at the place, whose length field is len, as a part of the message; nothing where it is not there.
+pub fn value<'a>(p: Place<'a>, len: usize) -> &'a [u8]
+    ensures { λ r. ⌜ now r ≡ partOf (now (p .entry .msg)) (p .entry .at) len ⌝ }
+{
+    part_at(p.msg, p.at, len)
+}
+
+// The first reading of a message.
+pub fn first_reading(s: &[u8]) -> Step
+    ensures { λ r. ⌜ r ≡ stepAt (now (s .entry)) 8 ⌝ }
+{
+    reading(start(s))
+}

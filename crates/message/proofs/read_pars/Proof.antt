@@ -6,7 +6,8 @@ use mathlib.Core.Path.{_≡_, refl, sym, ap, _∙_}
 use mathlib.Core.List.{[]}
 use lib.ListN.{length}
 use Rattle.message.specs.Seen.{outcomeAt}
-use Rattle.message.specs.Verdict.{_orElse_, inTurn, isNone}
+use Rattle.laws.specs.Choice.{_orElse_}
+use Rattle.message.specs.Verdict.{inTurn, isNone}
 use Rattle.message.proofs.Seen.{seen-none}
 use Rattle.message.proofs.Turns.{Head, ends, refused, passes}
 use Rattle.wire.proofs.Steps.{step-next, Next}
@@ -16,10 +17,10 @@ use Rattle.message.proofs.read_pars.Statement.{statement}
 use Rattle.message.proofs.read_pars.Tie as tie
 
 abbrev Inv-loop : tie.InvT-loop
-Inv-loop s row met₀ words₀ first₀ at₀ met words first at = Head s row met words first at × ((length met ≡ 32) × (length words ≡ 32))
+Inv-loop s info met₀ words₀ first₀ at₀ met words first at = Head s met words first at × ((length met ≡ 32) × (length words ≡ 32))
 
 abbrev μ-loop : tie.MeasureT-loop
-μ-loop s row met₀ words₀ first₀ at₀ met words first at = length s - at
+μ-loop s info met₀ words₀ first₀ at₀ met words first at = length s - at
 
 -- the reading is the walk's, and the parameter lies within the message
 reads-at : (c : tie.After-slot-of Inv-loop μ-loop)
@@ -57,7 +58,7 @@ finish-requires c κs = search needs
 returns : tie.Need-returns Inv-loop μ-loop
 returns c = let st = c .before .before .before .before .before .before .before .before .before .before in
     c .finish .ensures
-    ∙ ends (c .before .before .before .before .before .before .before .before .loop .inv .0) (st .pre .1 .1) _
+    ∙ ends (c .before .before .before .before .before .before .before .before .loop .inv .0) (st .pre .1 .0) (st .pre .1 .1) _
     (sym (c .before .before .before .before .before .before .before .step-at .ensures)) (c .before .before .before .before .before .before .match .keys2) _
     (c .before .before .before .before .before .step-code .ensures)
 
@@ -94,7 +95,8 @@ refused-at-requires c κs = search needs
 returns-2 : tie.Need-returns-2 Inv-loop μ-loop
 returns-2 c = let g = c .before .before .before .before in
     c .refused-at .ensures
-    ∙ refused (g .before .before .before .before .before .loop .inv .0) (g .before .before .before .before .before .before .before .pre .1 .1) _ _ _ _ _ (reads-at g) (g .slot-of .ensures .0)
+    ∙ refused (g .before .before .before .before .before .loop .inv .0) (g .before .before .before .before .before .before .before .pre .1 .0)
+    (g .before .before .before .before .before .before .before .pre .1 .1) _ _ _ _ _ (reads-at g) (g .slot-of .ensures .0)
     (g .slot-of .ensures .1) (c .before .before .par-at .ensures) (c .before .if1 .taken)
 
 mul-kept : tie.Need-mul-kept Inv-loop μ-loop
@@ -130,7 +132,8 @@ loop-less c = let k = next-at (c .before .before .before .before .before) in ome
 loop-again : tie.Need-loop-again Inv-loop μ-loop
 loop-again c = let g = c .before .before .before .before .before in
     let i = g .before .before .before .before .before .loop .inv in (
-      passes (i .0) (g .before .before .before .before .before .before .before .pre .1 .1) _ _ _ _ _ (reads-at g) (g .slot-of .ensures .0) (g .slot-of .ensures .1)
+      passes (i .0) (g .before .before .before .before .before .before .before .pre .1 .0)
+          (g .before .before .before .before .before .before .before .pre .1 .1) _ _ _ _ _ (reads-at g) (g .slot-of .ensures .0) (g .slot-of .ensures .1)
           (c .before .before .before .par-at .ensures) (i .1 .0) (i .1 .1) _ (c .kept .ensures) (c .before .before .if1 .left),
       (simp length-set (i .1 .0), simp length-set (i .1 .1)),
     )

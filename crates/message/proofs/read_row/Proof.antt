@@ -1,3 +1,8 @@
+use Rattle.message.proofs.Turns.{rowOf}
+use Rattle.parameter.specs.Slot.{infoOf}
+use mathlib.Core.Path.{_≡_, ap, _∙_}
+use Prim.Native.Nat.{_<_}
+use native.Mathlib.Omega.{arith}
 use Rattle.message.specs.Seen.{rowOutcome}
 use Rattle.laws.specs.Choice.{choices}
 use borrow.Author.Needs.{needs}
@@ -32,8 +37,14 @@ returns-4 : tie.Need-returns-4
 unfolding rowOutcome
 returns-4 c = search choices depth 9
 
+row-info-requires : tie.Need-row-info-requires
+row-info-requires c κs = search needs
+
 read-pars-requires : tie.Need-read-pars-requires
-read-pars-requires c κs = search needs
+read-pars-requires c κs = let st = c .before .before .before .before .before .before in
+    let ne = c .before .before .before .if2 .left in
+    let h : rowOf (st .args .s .now) < 17 = omega (arith, ne, st .pre .1 .0, st .pre .1 .1) in
+    (st .pre .0, (h, c .row-info .ensures ∙ ap infoOf (st .pre .1 .1)))
 
 returns-5 : tie.Need-returns-5
 unfolding rowOutcome
@@ -51,5 +62,6 @@ read-row-spec =
     returns-3
     refused-requires-4
     returns-4
+    row-info-requires
     read-pars-requires
     returns-5)

@@ -1,53 +1,54 @@
-use Prim.Native.Nat.{ℕ, _+_, _*_}
-use lib.ListN.{getD}
+use Rattle.parameter.proofs.Rows.{packed, base, class-row, unlisted}
+use Rattle.parameter.specs.Table.{table, hasClass}
+use borrow.Author.Tests.{ne-eqb}
+use mathlib.Core.Path.{_≡_, refl, sym}
 use native.Mathlib.Omega.{arith}
-use mathlib.Core.Path.{_≡_, sym, ap, _∙_}
-use Rattle.parameter.proofs.Rows.{rows, no-class, no-type, row-right}
 use borrow.Author.Needs.{needs}
 use Rattle.parameter.proofs.row_of.Statement.{statement}
 use Rattle.parameter.proofs.row_of.Tie as tie
 
+row-in-requires : tie.Need-row-in-requires
+row-in-requires c κs = search needs
+
+row-in-requires-2 : tie.Need-row-in-requires-2
+row-in-requires-2 c κs = search needs
+
+row-in-requires-3 : tie.Need-row-in-requires-3
+row-in-requires-3 c κs = search needs
+
+row-in-requires-4 : tie.Need-row-in-requires-4
+row-in-requires-4 c κs = search needs
+
 returns : tie.Need-returns
-returns c = sym (no-class _ _ (omega arith))
+unfolding packed base hasClass table
+returns c = class-row 0 _ _ _ (c .row-in .ensures) (omega arith) refl (c .before .match .keys1)
 
 returns-2 : tie.Need-returns-2
-returns-2 c = sym (no-type _ _ (λ h. omega arith) (omega arith))
-
-wide-requires : tie.Need-wide-requires
-wide-requires c κs = search needs
-
-mul-wide : tie.Need-mul-wide
-mul-wide c = search needs
-
-wide-requires-2 : tie.Need-wide-requires-2
-wide-requires-2 c κs = search needs
-
-add-wide : tie.Need-add-wide
-add-wide c = search needs
-
-array-read-wide : tie.Need-array-read-wide
-array-read-wide c = search needs
-
-wide-requires-3 : tie.Need-wide-requires-3
-wide-requires-3 c κs = search needs
+unfolding packed base hasClass table
+returns-2 c = class-row 3 _ _ _ (c .row-in2 .ensures) (omega arith) refl (c .before .match .keys2)
 
 returns-3 : tie.Need-returns-3
-unfolding rows
-returns-3 c =
-    let st = c .before .before .before .before .before in
-    let e : c .before .before .wide .result * 16 + c .before .wide2 .result ≡ st .args .c * 16 + st .args .t = omega arith in
-    c .wide3 .ensures .0 ∙ ap (λ (i : ℕ). getD rows i 0) e ∙ row-right (st .args .c) (st .args .t) (omega arith) (omega arith)
+unfolding packed base hasClass table
+returns-3 c = class-row 4 _ _ _ (c .row-in3 .ensures) (omega arith) refl (c .before .match .keys3)
+
+returns-4 : tie.Need-returns-4
+unfolding packed base hasClass table
+returns-4 c = class-row 6 _ _ _ (c .row-in4 .ensures) (omega arith) refl (c .before .match .keys4)
+
+returns-5 : tie.Need-returns-5
+unfolding hasClass table
+returns-5 c = sym (unlisted table _ _ (simp (ne-eqb _ _ (c .match .rest .1), ne-eqb _ _ (c .match .rest .0 .1), ne-eqb _ _ (c .match .rest .0 .0 .1), ne-eqb _ _ (c .match .rest .0 .0 .0 .1))))
 
 pub row-of-spec : {M : Type 1} → statement M
 row-of-spec =
     tie.close
     (tie.spec
+    row-in-requires
+    row-in-requires-2
+    row-in-requires-3
+    row-in-requires-4
     returns
     returns-2
-    wide-requires
-    mul-wide
-    wide-requires-2
-    add-wide
-    array-read-wide
-    wide-requires-3
-    returns-3)
+    returns-3
+    returns-4
+    returns-5)

@@ -1,0 +1,30 @@
+-- `config::answer`: the rows decide. Assumes nothing.
+use borrow.Author.Tests.{not-true, not-false}
+use mathlib.Core.Path.{_≡_, sym, _∙_}
+use mathlib.Core.Bool.{true, false}
+use borrow.Author.Needs.{needs}
+use Rattle.config.specs.Plan.{built, rowsOk}
+use Rattle.config.specs.Laws.{rows, mode-bytes, owner-bytes}
+use Rattle.gateway.specs.Sound.{zeros}
+use Rattle.config.proofs.answer.Statement.{statement}
+use Rattle.config.proofs.answer.Tie as tie
+
+rows-ok-requires : tie.Need-rows-ok-requires
+rows-ok-requires c κs = search needs
+
+zeros-requires : tie.Need-zeros-requires
+zeros-requires c κs = search needs
+
+returns : tie.Need-returns
+unfolding built zeros
+returns c = let e : rowsOk _ _ _ _ _ _ _ _ _ ≡ false = sym (c .before .before .rows-ok .ensures) ∙ not-true _ (c .before .if1 .taken) in rw (e, c .zeros .ensures)
+
+build-requires : tie.Need-build-requires
+build-requires c κs = let h = rows _ _ _ _ _ _ _ _ _ (sym (c .before .rows-ok .ensures) ∙ not-false _ (c .if1 .left)) in (search needs, search needs, search needs, mode-bytes _ _ (h .traffic) (c .before .before .before .before .before .before .before .before .pre .3), owner-bytes _ _ _ (search needs) (h .owned) (c .before .before .before .before .before .before .before .before .pre .4))
+
+returns-2 : tie.Need-returns-2
+unfolding built
+returns-2 c = let e : rowsOk _ _ _ _ _ _ _ _ _ ≡ true = sym (c .before .before .rows-ok .ensures) ∙ not-false _ (c .before .if1 .left) in rw (e, c .build .ensures)
+
+pub answer-spec : {M : Type 1} → statement M
+answer-spec = tie.close (tie.spec rows-ok-requires zeros-requires returns build-requires returns-2)

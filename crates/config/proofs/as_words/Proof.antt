@@ -1,0 +1,63 @@
+-- `config::as_words`: the rows passed stand in the table. Assumes nothing.
+use Prim.Native.Nat.{_≤_, _-_, _+_, _*_}
+use native.Mathlib.Omega.{arith}
+use borrow.Author.Needs.{needs}
+use lib.ListN.{length}
+use Rattle.wire.specs.Number.{be}
+use Rattle.laws.specs.Tab.{at, HalfCol, half-more}
+use Rattle.config.proofs.Tables.{column-none, column-end}
+use Rattle.config.proofs.as_words.Statement.{statement}
+use Rattle.config.proofs.as_words.Tie as tie
+
+abbrev Inv-loop : tie.InvT-loop
+Inv-loop s at n r₀ a₀ r a = HalfCol (λ i. be 4 s (at + 4 * i)) (λ i. 0) 16 a r × (a ≤ n) × (n ≤ 16) × (at + 4 * n ≤ length s)
+
+abbrev μ-loop : tie.MeasureT-loop
+μ-loop s at n r₀ a₀ r a = n - a
+
+loop-holds : tie.Need-loop-holds Inv-loop μ-loop
+loop-holds c = (column-none 16 _, search needs, search needs, search needs)
+
+mul-get32 : tie.Need-mul-get32 Inv-loop μ-loop
+mul-get32 c = search needs
+
+add-get32 : tie.Need-add-get32 Inv-loop μ-loop
+add-get32 c = search needs
+
+get32-requires : tie.Need-get32-requires Inv-loop μ-loop
+get32-requires c κs = search needs
+
+mul-r : tie.Need-mul-r Inv-loop μ-loop
+mul-r c = search needs
+
+array-write-r : tie.Need-array-write-r Inv-loop μ-loop
+array-write-r c = search needs
+
+add-a : tie.Need-add-a Inv-loop μ-loop
+add-a c = search needs
+
+loop-less : tie.Need-loop-less Inv-loop μ-loop
+loop-less c = search needs
+
+loop-again : tie.Need-loop-again Inv-loop μ-loop
+loop-again c = (half-more _ (c .before .before .loop .inv .0) (omega arith) (c .get32 .ensures), search needs, search needs, search needs)
+
+returns : tie.Need-returns Inv-loop μ-loop
+returns c = column-end 16 _ _ _ _ (c .before .loop .inv .0) (c .loop-test .left) (c .before .loop .inv .1)
+
+pub as-words-spec : {M : Type 1} → statement M
+as-words-spec =
+    tie.close
+    (tie.spec
+    Inv-loop
+    μ-loop
+    loop-holds
+    mul-get32
+    add-get32
+    get32-requires
+    mul-r
+    array-write-r
+    add-a
+    loop-less
+    loop-again
+    returns)

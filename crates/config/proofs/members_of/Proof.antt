@@ -1,0 +1,97 @@
+-- `config::members_of`: row by row, bit by bit. Assumes nothing.
+use Prim.Native.Nat.{_≤_, _<_, _-_, _+_, _*_, _/_, _%_}
+use mathlib.Core.Path.{_∙_}
+use native.Mathlib.Omega.{arith}
+use borrow.Author.Needs.{needs}
+use denote.Ref.{now}
+use Rattle.config.specs.Plan.{bit, members}
+use Rattle.laws.specs.Tab.{at, col, HalfCol, half-more, half-end, half-at}
+use Rattle.config.proofs.Tables.{column-none, bit-at}
+use Rattle.config.proofs.members_of.Statement.{statement}
+use Rattle.config.proofs.members_of.Tie as tie
+
+abbrev Inv-loop2 : tie.InvT-loop2
+Inv-loop2 mask r₀ a q₀ r q = HalfCol (λ i. bit (col mask (i % 16)) (i / 16)) (λ i. 0) 256 (a * 16 + q) r × (q ≤ 16) × (a < 16)
+
+abbrev μ-loop2 : tie.MeasureT-loop2
+μ-loop2 mask r₀ a q₀ r q = 16 - q
+
+abbrev Inv-loop : tie.InvT-loop
+Inv-loop mask r₀ a₀ r a = HalfCol (λ i. bit (col mask (i % 16)) (i / 16)) (λ i. 0) 256 (a * 16) r × (a ≤ 16)
+
+abbrev μ-loop : tie.MeasureT-loop
+μ-loop mask r₀ a₀ r a = 16 - a
+
+loop-holds : tie.Need-loop-holds Inv-loop2 μ-loop2 Inv-loop μ-loop
+loop-holds c = (column-none 256 _, search needs)
+
+loop2-holds : tie.Need-loop2-holds Inv-loop2 μ-loop2 Inv-loop μ-loop
+loop2-holds c = (half-at (omega arith) (c .before .loop .inv .0), search needs, search needs)
+
+mul-bit-of : tie.Need-mul-bit-of Inv-loop2 μ-loop2 Inv-loop μ-loop
+mul-bit-of c = search needs
+
+element-copy-out-bit-of : tie.Need-element-copy-out-bit-of Inv-loop2 μ-loop2 Inv-loop μ-loop
+element-copy-out-bit-of c = search needs
+
+bit-of-requires : tie.Need-bit-of-requires Inv-loop2 μ-loop2 Inv-loop μ-loop
+bit-of-requires c κs = search needs
+
+cast-r : tie.Need-cast-r Inv-loop2 μ-loop2 Inv-loop μ-loop
+cast-r c = search needs
+
+mul-r : tie.Need-mul-r Inv-loop2 μ-loop2 Inv-loop μ-loop
+mul-r c = search needs
+
+add-r : tie.Need-add-r Inv-loop2 μ-loop2 Inv-loop μ-loop
+add-r c = search needs
+
+array-write-r : tie.Need-array-write-r Inv-loop2 μ-loop2 Inv-loop μ-loop
+array-write-r c = search needs
+
+add-q : tie.Need-add-q Inv-loop2 μ-loop2 Inv-loop μ-loop
+add-q c = search needs
+
+loop2-less : tie.Need-loop2-less Inv-loop2 μ-loop2 Inv-loop μ-loop
+loop2-less c = search needs
+
+loop2-again : tie.Need-loop2-again Inv-loop2 μ-loop2 Inv-loop μ-loop
+loop2-again c = let at = c .before .before .before in (half-at (omega arith) (half-more _ (at .loop2 .inv .0) (omega arith) (c .bit-of .ensures ∙ bit-at (now (at .before .before .before .args .mask)) (at .before .before .loop .a) (at .loop2 .q) (omega arith))), search needs, search needs)
+
+add-a : tie.Need-add-a Inv-loop2 μ-loop2 Inv-loop μ-loop
+add-a c = search needs
+
+loop-less : tie.Need-loop-less Inv-loop2 μ-loop2 Inv-loop μ-loop
+loop-less c = search needs
+
+loop-again : tie.Need-loop-again Inv-loop2 μ-loop2 Inv-loop μ-loop
+loop-again c = (half-at (omega arith) (c .before .loop2 .inv .0), search needs)
+
+returns : tie.Need-returns Inv-loop2 μ-loop2 Inv-loop μ-loop
+unfolding members
+returns c = half-end (c .before .loop .inv .0) (omega arith)
+
+pub members-of-spec : {M : Type 1} → statement M
+members-of-spec =
+    tie.close
+    (tie.spec
+    Inv-loop2
+    μ-loop2
+    Inv-loop
+    μ-loop
+    loop-holds
+    loop2-holds
+    mul-bit-of
+    element-copy-out-bit-of
+    bit-of-requires
+    cast-r
+    mul-r
+    add-r
+    array-write-r
+    add-q
+    loop2-less
+    loop2-again
+    add-a
+    loop-less
+    loop-again
+    returns)

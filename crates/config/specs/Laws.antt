@@ -1,0 +1,132 @@
+-- What a file that is laid out well gives, and that a loaded plan gives a consistent state.
+-- Assumes nothing.
+use Prim.Native.Nat.{ℕ, zero, suc, _+_, _*_, _-_, _/_, _%_, _^_, _<_, _≤_}
+use mathlib.Core.Path.{_≡_, refl, ap, _∙_, sym}
+use mathlib.Core.Bool.{Bool, true, false, _||_, _&&_, cond, not}
+use mathlib.Core.List.{List, [], _∷_}
+use native.Mathlib.Omega.{arith}
+use native.Mathlib.Decide.{decLt}
+use lib.Dec.{eqb, leb, ltb}
+use lib.ListN.{length, getD, replicate, getD-replicate}
+use borrow.Author.Tests.{ltb-true, leb-true, eqb-true, le-leb, lt-leb, eq-eqb, ne-eqb, lt-ltb, le-ltb}
+use Rattle.laws.specs.Below.{allBelow, all-at, all-of}
+use Rattle.laws.specs.Tab.{col, tab, getD-tab}
+use Rattle.laws.specs.Every.{and-left, and-right}
+use Rattle.gateway.specs.Sound.{blankFrom, allUnder, differs, ascends}
+use Rattle.config.specs.Plan.{aspBody, asBody, linkBody, bodies, offset, count, follow, laidOut, column, modesOk, masksOk, sparesOk, rowsOk}
+
+-- the counts are within their limits, and each body starts where the one before it ends
+pub record Layout (s : List ℕ) : Type 0 where
+  pub long : 24 ≤ length s
+  pub someAsps : 1 ≤ count s 0
+  pub asps : count s 0 ≤ 16
+  pub someAses : 1 ≤ count s 1
+  pub ases : count s 1 ≤ 16
+  pub links : count s 2 ≤ 128
+  pub first : offset s 0 ≡ 24
+  pub second : offset s 1 ≡ 24 + 8 * count s 0
+  pub third : offset s 2 ≡ 24 + 8 * count s 0 + 4 * count s 1
+  pub end : 24 + 8 * count s 0 + 4 * count s 1 + 8 * count s 2 ≡ length s
+
+-- one entry of the contents
+pub record Entry (s : List ℕ) (i at least most : ℕ) : Type 0 where
+  pub start : offset s i ≡ at
+  pub enough : least ≤ count s i
+  pub few : count s i ≤ most
+
+abbrev entryOk : List ℕ → ℕ → ℕ → ℕ → ℕ → Bool
+entryOk s i at least most = eqb (offset s i) at && (leb least (count s i) && leb (count s i) most)
+
+entry : (s : List ℕ) (i at least most : ℕ) → entryOk s i at least most ≡ true → Entry s i at least most
+entry s i at least most h =
+    let x = eqb (offset s i) at in
+    let y = leb least (count s i) in
+    let z = leb (count s i) most in
+    record {
+      start = eqb-true (offset s i) at (and-left x (y && z) h);
+      enough = leb-true least (count s i) (and-left y z (and-right x (y && z) h));
+      few = leb-true (count s i) most (and-right y z (and-right x (y && z) h));
+    }
+
+pub layout : (s : List ℕ) → laidOut s ≡ true → Layout s
+unfolding laidOut follow
+layout s h =
+    let p = 24 + 8 * count s 0 in
+    let q = p + 4 * count s 1 in
+    let x = entryOk s 0 24 1 16 in
+    let y = entryOk s 1 p 1 16 in
+    let z = entryOk s 2 q 0 128 in
+    let e = eqb (q + 8 * count s 2) (length s) in
+    let a = and-right (leb 24 (length s)) (x && (y && (z && e))) h in
+    let b = and-right x (y && (z && e)) a in
+    let c = and-right y (z && e) b in
+    let i = entry s 0 24 1 16 (and-left x (y && (z && e)) a) in
+    let j = entry s 1 p 1 16 (and-left y (z && e) b) in
+    let k = entry s 2 q 0 128 (and-left z e c) in
+    record {
+      long = leb-true 24 (length s) (and-left (leb 24 (length s)) (x && (y && (z && e))) h);
+      someAsps = i .enough;
+      asps = i .few;
+      someAses = j .enough;
+      ases = j .few;
+      links = k .few;
+      first = i .start;
+      second = j .start;
+      third = k .start;
+      end = eqb-true (q + 8 * count s 2) (length s) (and-right z e c);
+    }
+
+-- the places of a table beyond its rows are zero
+pub column-blank : (places n : ℕ) (f : ℕ → ℕ) → blankFrom (column places n f) n places ≡ true
+unfolding blankFrom column
+column-blank places n f = all-of _ places (λ i b. rw (getD-tab places (λ i. cond (ltb i n) (f i) 0) i 0 b) (go i (ltb i n)))
+  where
+    go : (i : ℕ) (u : Bool) → (u || eqb (cond u (f i) 0) 0) ≡ true
+    go i true = refl
+    go i false = refl
+
+-- a table whose rows are bytes, zero beyond them, has bytes only
+pub bytes : (c : List ℕ) (n places : ℕ) → ((i : ℕ) → i < n → col c i < 256) → blankFrom c n places ≡ true → allBelow (λ i. ltb (col c i) 256) places ≡ true
+unfolding blankFrom
+bytes c n places g h = all-of _ places (λ i b. lt-ltb (col c i) 256 (go i (decLt i n) (all-at _ places h i b)))
+  where
+    go : (i : ℕ) → Dec (i < n) → (ltb i n || eqb (col c i) 0) ≡ true → col c i < 256
+    go i (yes z) e = g i z
+    go i (no z) e = let y : eqb (col c i) 0 ≡ true = rw (le-ltb i n (omega arith)) at e in omega (arith, eqb-true (col c i) 0 y)
+
+pub mode-bytes : (mode : List ℕ) (n : ℕ) → modesOk mode n ≡ true → blankFrom mode n 16 ≡ true → allBelow (λ i. ltb (col mode i) 256) 16 ≡ true
+unfolding modesOk
+mode-bytes mode n h = bytes mode n 16 (λ i b. omega (arith, leb-true (col mode i) 3 (and-right (leb 1 (col mode i)) (leb (col mode i) 3) (all-at (λ i. leb 1 (col mode i) && leb (col mode i) 3) n h i b))))
+
+pub owner-bytes : (owner : List ℕ) (ases n : ℕ) → ases ≤ 16 → allUnder owner ases n ≡ true → blankFrom owner n 128 ≡ true → allBelow (λ i. ltb (col owner i) 256) 128 ≡ true
+unfolding allUnder
+owner-bytes owner ases n k h = bytes owner n 128 (λ i b. omega (arith, ltb-true (col owner i) ases (all-at (λ i. ltb (col owner i) ases) n h i b)))
+
+-- the rows, condition by condition
+pub record Rows (asps ases links : ℕ) (aspid mask spare mode iid owner : List ℕ) : Type 0 where
+  pub traffic : modesOk mode ases ≡ true
+  pub inside : masksOk mask asps ases ≡ true
+  pub zero : sparesOk spare asps ≡ true
+  pub differ : allBelow (differs aspid) asps ≡ true
+  pub order : ascends iid links ≡ true
+  pub owned : allUnder owner ases links ≡ true
+
+pub rows : (asps ases links : ℕ) (aspid mask spare mode iid owner : List ℕ) → rowsOk asps ases links aspid mask spare mode iid owner ≡ true → Rows asps ases links aspid mask spare mode iid owner
+unfolding rowsOk
+rows asps ases links aspid mask spare mode iid owner h =
+    let a = modesOk mode ases in
+    let b = masksOk mask asps ases in
+    let c = sparesOk spare asps in
+    let d = allBelow (differs aspid) asps in
+    let e = ascends iid links in
+    let f = allUnder owner ases links in
+    let l = and-left ((a && b) && (c && d)) (e && f) h in
+    let r = and-right ((a && b) && (c && d)) (e && f) h in
+    record {
+      traffic = and-left a b (and-left (a && b) (c && d) l);
+      inside = and-right a b (and-left (a && b) (c && d) l);
+      zero = and-left c d (and-right (a && b) (c && d) l);
+      differ = and-right c d (and-right (a && b) (c && d) l);
+      order = and-left e f r;
+      owned = and-right e f r;
+    }

@@ -1,0 +1,144 @@
+-- The configuration file (document 01's plan file): what it says, and which files are refused.
+-- Assumes nothing.
+use Prim.Native.Nat.{ℕ, _+_, _*_, _/_, _%_, _^_}
+use mathlib.Core.Bool.{Bool, _&&_, cond}
+use mathlib.Core.List.{List, [], _∷_}
+use lib.Dec.{eqb, leb, ltb}
+use lib.ListN.{length, replicate}
+use Rattle.laws.specs.Below.{allBelow, one}
+use Rattle.laws.specs.Tab.{col, tab}
+use Rattle.wire.specs.Number.{be}
+use Rattle.gateway.specs.Sound.{zeros, differs, ascends, allUnder}
+use Rattle.gateway.specs.declared.Gateway.{Gateway}
+use Rattle.config.specs.declared.Loaded.{Loaded}
+
+-- A body: the size of its rows, its least and its most rows.
+pub record Body : Type 0 where
+  pub row : ℕ
+  pub least : ℕ
+  pub most : ℕ
+
+-- "Rows: ASP 8 bytes (identifier, 16-bit membership mask with bit a for AS a, two zero bytes); AS 4 bytes (mode); link 8 bytes
+-- (identifier, owning AS). Counts: 1 to 16, 1 to 16, 0 to 128."
+abbrev pub aspBody : Body
+aspBody = record { row = 8; least = 1; most = 16 }
+
+abbrev pub asBody : Body
+asBody = record { row = 4; least = 1; most = 16 }
+
+abbrev pub linkBody : Body
+linkBody = record { row = 8; least = 0; most = 128 }
+
+abbrev pub bodies : List Body
+bodies = aspBody ∷ asBody ∷ linkBody ∷ []
+
+-- "24 bytes of contents"
+abbrev pub contents : ℕ
+contents = 24
+
+-- "for ASPs, ASes, links in turn a 32-bit offset and a 32-bit count": those of body i
+unfoldable pub offset : List ℕ → ℕ → ℕ
+offset s i = be 4 s (i * 8)
+
+unfoldable pub count : List ℕ → ℕ → ℕ
+count s i = be 4 s (i * 8 + 4)
+
+-- "Bodies follow in that order without gaps, from 24 to the file's end": the bodies from number i on, which start at a position
+unfoldable pub follow : List Body → List ℕ → ℕ → ℕ → Bool
+follow [] s i at = eqb at (length s)
+follow (b ∷ bs) s i at =
+    (eqb (offset s i) at && (leb (b .least) (count s i) && leb (count s i) (b .most)))
+    && follow bs s (i + 1) (at + b .row * count s i)
+
+-- "201 a count, offset or the file length is wrong"
+unfoldable pub laidOut : List ℕ → Bool
+laidOut s = leb contents (length s) && follow bodies s 0 contents
+
+-- a table of some places with what n rows say, and zeros beyond them
+unfoldable pub column : ℕ → ℕ → (ℕ → ℕ) → List ℕ
+column places n f = tab places (λ i. cond (ltb i n) (f i) 0)
+
+-- the rows' words: ASP identifiers, masks and spares, modes, link identifiers and owners
+unfoldable pub aspIds : List ℕ → List ℕ
+aspIds s = column 16 (count s 0) (λ p. be 4 s (offset s 0 + aspBody .row * p))
+
+unfoldable pub masks : List ℕ → List ℕ
+masks s = column 16 (count s 0) (λ p. be 2 s (offset s 0 + 4 + aspBody .row * p))
+
+unfoldable pub spares : List ℕ → List ℕ
+spares s = column 16 (count s 0) (λ p. be 2 s (offset s 0 + 6 + aspBody .row * p))
+
+unfoldable pub modes : List ℕ → List ℕ
+modes s = column 16 (count s 1) (λ a. be 4 s (offset s 1 + asBody .row * a))
+
+unfoldable pub linkIds : List ℕ → List ℕ
+linkIds s = column 128 (count s 2) (λ l. be 4 s (offset s 2 + linkBody .row * l))
+
+unfoldable pub owners : List ℕ → List ℕ
+owners s = column 128 (count s 2) (λ l. be 4 s (offset s 2 + 4 + linkBody .row * l))
+
+-- bit a of a mask, 0 or 1, and the bits from a on as one number
+abbrev pub bit : ℕ → ℕ → ℕ
+bit mask a = mask / 2 ^ a % 2
+
+abbrev pub bitsFrom : ℕ → ℕ → ℕ
+bitsFrom mask a = mask / 2 ^ a
+
+-- "a mode outside 1 to 3"
+unfoldable pub modesOk : List ℕ → ℕ → Bool
+modesOk mode ases = allBelow (λ a. leb 1 (col mode a) && leb (col mode a) 3) ases
+
+-- "a mask bit beyond the ASes"
+unfoldable pub masksOk : List ℕ → ℕ → ℕ → Bool
+masksOk mask asps ases = allBelow (λ p. eqb (bitsFrom (col mask p) ases) 0) asps
+
+-- "a nonzero spare"
+unfoldable pub sparesOk : List ℕ → ℕ → Bool
+sparesOk spare asps = allBelow (λ p. eqb (col spare p) 0) asps
+
+-- "202 a row is": then "two equal ASP identifiers, link identifiers not strictly ascending, an owner beyond the ASes"
+unfoldable pub rowsOk : ℕ → ℕ → ℕ → List ℕ → List ℕ → List ℕ → List ℕ → List ℕ → List ℕ → Bool
+rowsOk asps ases links aspid mask spare mode iid owner =
+    ((modesOk mode ases && masksOk mask asps ases) && (sparesOk spare asps && allBelow (differs aspid) asps))
+    && (ascends iid links && allUnder owner ases links)
+
+-- member or not, pair by pair, of the masks
+unfoldable pub members : List ℕ → List ℕ
+members mask = tab 256 (λ i. bit (col mask (i % 16)) (i / 16))
+
+-- "all ASPs down, no pair active, no AS waiting, all links idle, places beyond the counts zero"
+unfoldable pub fresh : ℕ → ℕ → ℕ → List ℕ → List ℕ → List ℕ → List ℕ → List ℕ → Gateway
+fresh asps ases links aspid mask mode iid owner =
+    record {
+      asps = asps;
+      ases = ases;
+      links = links;
+      aspid = aspid;
+      up = replicate 16 0;
+      member = members mask;
+      active = replicate 256 0;
+      mode = mode;
+      waiting = replicate 16 0;
+      iid = iid;
+      owner = owner;
+      state = replicate 128 0;
+    }
+
+abbrev pub refused : ℕ → Loaded
+refused n = record { code = n; gateway = zeros }
+
+abbrev pub accepted : Gateway → Loaded
+accepted g = record { code = 0; gateway = g }
+
+-- the answer to a file that is laid out well, from its counts and tables
+unfoldable pub built : ℕ → ℕ → ℕ → List ℕ → List ℕ → List ℕ → List ℕ → List ℕ → List ℕ → Loaded
+built asps ases links aspid mask spare mode iid owner =
+    cond (rowsOk asps ases links aspid mask spare mode iid owner)
+    (accepted (fresh asps ases links aspid mask mode iid owner))
+    (refused 202)
+
+unfoldable pub loadOf : List ℕ → Loaded
+loadOf s =
+    cond (laidOut s)
+    (built (count s 0) (count s 1) (count s 2) (aspIds s) (masks s) (spares s) (modes s) (linkIds s) (owners s))
+    (refused 201)

@@ -1,0 +1,12 @@
+-- `gateway::Gateway::zeros`: zeros in every column. Assumes nothing.
+use borrow.Author.Needs.{needs}
+use Rattle.gateway.specs.Sound.{zeros}
+use Rattle.gateway.proofs.Gateway.zeros.Statement.{statement}
+use Rattle.gateway.proofs.Gateway.zeros.Tie as tie
+
+returns : tie.Need-returns
+unfolding zeros
+returns c = search needs
+
+pub zeros-spec : {M : Type 1} → statement M
+zeros-spec = tie.close (tie.spec returns)

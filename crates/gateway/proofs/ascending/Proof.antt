@@ -1,0 +1,69 @@
+-- `gateway::ascending`: the places passed ascend. Assumes nothing.
+use Prim.Native.Nat.{_≤_, _-_, _+_}
+use mathlib.Core.Path.{_≡_, sym}
+use native.Mathlib.Omega.{arith}
+use borrow.Author.Needs.{needs}
+use lib.Dec.{ltb}
+use Rattle.gateway.specs.Sound.{ascends}
+use Rattle.laws.specs.Below.{allBelow, all-none, all-more, at-end}
+use Rattle.laws.specs.Tab.{col}
+use Rattle.gateway.proofs.ascending.Statement.{statement}
+use Rattle.gateway.proofs.ascending.Tie as tie
+
+abbrev Inv-loop : tie.InvT-loop
+Inv-loop iid n ok₀ l₀ ok l = (ok ≡ allBelow (λ i. ltb (col iid i) (col iid (i + 1))) l) × (l ≤ n - 1) × (n ≤ 128)
+
+abbrev μ-loop : tie.MeasureT-loop
+μ-loop iid n ok₀ l₀ ok l = n - 1 - l
+
+loop-holds : tie.Need-loop-holds Inv-loop μ-loop
+loop-holds c = (sym (all-none _), search needs, search needs)
+
+add-loop : tie.Need-add-loop Inv-loop μ-loop
+add-loop c = search needs
+
+mul-ok : tie.Need-mul-ok Inv-loop μ-loop
+mul-ok c = search needs
+
+element-copy-out-ok : tie.Need-element-copy-out-ok Inv-loop μ-loop
+element-copy-out-ok c = search needs
+
+add-ok : tie.Need-add-ok Inv-loop μ-loop
+add-ok c = search needs
+
+mul-ok-2 : tie.Need-mul-ok-2 Inv-loop μ-loop
+mul-ok-2 c = search needs
+
+element-copy-out-ok-2 : tie.Need-element-copy-out-ok-2 Inv-loop μ-loop
+element-copy-out-ok-2 c = search needs
+
+add-l : tie.Need-add-l Inv-loop μ-loop
+add-l c = search needs
+
+loop-less : tie.Need-loop-less Inv-loop μ-loop
+loop-less c = search needs
+
+loop-again : tie.Need-loop-again Inv-loop μ-loop
+loop-again c = (rw all-more (rw (c .before .before .before .loop .inv .0)), search needs, search needs)
+
+returns : tie.Need-returns Inv-loop μ-loop
+unfolding ascends
+returns c = at-end (allBelow _) (c .before .loop .inv .0) (omega arith) (c .before .loop .inv .1)
+
+pub ascending-spec : {M : Type 1} → statement M
+ascending-spec =
+    tie.close
+    (tie.spec
+    Inv-loop
+    μ-loop
+    loop-holds
+    add-loop
+    mul-ok
+    element-copy-out-ok
+    add-ok
+    mul-ok-2
+    element-copy-out-ok-2
+    add-l
+    loop-less
+    loop-again
+    returns)

@@ -1,0 +1,39 @@
+-- `gateway::blank`: the places passed are zero. Assumes nothing.
+use Prim.Native.Nat.{_≤_, _-_}
+use mathlib.Core.Path.{_≡_, sym}
+use borrow.Author.Needs.{needs}
+use lib.ListN.{length}
+use Rattle.gateway.specs.Sound.{blankFrom}
+use Rattle.laws.specs.Below.{at-end}
+use Rattle.gateway.proofs.Turns.{blank-none, blank-more}
+use Rattle.gateway.proofs.blank.Statement.{statement}
+use Rattle.gateway.proofs.blank.Tie as tie
+
+abbrev Inv-loop : tie.InvT-loop
+Inv-loop c n end ok₀ i₀ ok i = (ok ≡ blankFrom c n i) × (n ≤ i) × (i ≤ end) × (end ≤ length c)
+
+abbrev μ-loop : tie.MeasureT-loop
+μ-loop c n end ok₀ i₀ ok i = end - i
+
+loop-holds : tie.Need-loop-holds Inv-loop μ-loop
+loop-holds c = (sym (blank-none _ _), search needs, search needs, search needs)
+
+shared-slice-read-ok : tie.Need-shared-slice-read-ok Inv-loop μ-loop
+shared-slice-read-ok c = search needs
+
+add-i : tie.Need-add-i Inv-loop μ-loop
+add-i c = search needs
+
+loop-less : tie.Need-loop-less Inv-loop μ-loop
+loop-less c = search needs
+
+loop-again : tie.Need-loop-again Inv-loop μ-loop
+loop-again c = (rw (blank-more _ _ _ (c .before .before .loop .inv .1), c .before .before .loop .inv .0), search needs, search needs, search needs)
+
+returns : tie.Need-returns Inv-loop μ-loop
+returns c = at-end (blankFrom _ _) (c .before .loop .inv .0) (c .loop-test .left) (c .before .loop .inv .2)
+
+pub blank-spec : {M : Type 1} → statement M
+blank-spec =
+    tie.close
+    (tie.spec Inv-loop μ-loop loop-holds shared-slice-read-ok add-i loop-less loop-again returns)

@@ -1,0 +1,12 @@
+-- `gateway::override_ok`: the definition's own tests. Assumes nothing.
+use mathlib.Core.Path.{refl}
+use Rattle.gateway.specs.Sound.{overrideAt}
+use Rattle.gateway.proofs.override_ok.Statement.{statement}
+use Rattle.gateway.proofs.override_ok.Tie as tie
+
+returns : tie.Need-returns
+unfolding overrideAt
+returns c = refl
+
+pub override-ok-spec : {M : Type 1} → statement M
+override-ok-spec = tie.close (tie.spec returns)

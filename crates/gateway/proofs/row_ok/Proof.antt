@@ -1,0 +1,73 @@
+-- `gateway::row_ok`: the pairs passed are in order. Assumes nothing.
+use Prim.Native.Nat.{_≤_, _<_, _-_}
+use mathlib.Core.Path.{_≡_, refl, sym}
+use mathlib.Core.Bool.{_&&_}
+use borrow.Author.Needs.{needs}
+use lib.Dec.{ltb}
+use Rattle.gateway.specs.Sound.{memberAt, activeAt, soundRow}
+use Rattle.laws.specs.Below.{allBelow, all-none, all-more, at-end}
+use Rattle.gateway.proofs.row_ok.Statement.{statement}
+use Rattle.gateway.proofs.row_ok.Tie as tie
+
+abbrev Inv-loop : tie.InvT-loop
+Inv-loop up member active asps ases a inside ok₀ q₀ ok q = (ok ≡ allBelow (λ i. memberAt member asps ases a i && activeAt up member active a i) q) × (q ≤ 16) × (a < 16) × (inside ≡ ltb a ases)
+
+abbrev μ-loop : tie.MeasureT-loop
+μ-loop up member active asps ases a inside ok₀ q₀ ok q = 16 - q
+
+loop-holds : tie.Need-loop-holds Inv-loop μ-loop
+loop-holds c = (sym (all-none _), search needs, search needs, refl)
+
+mul-m : tie.Need-mul-m Inv-loop μ-loop
+mul-m c = search needs
+
+add-m : tie.Need-add-m Inv-loop μ-loop
+add-m c = search needs
+
+element-copy-out-m : tie.Need-element-copy-out-m Inv-loop μ-loop
+element-copy-out-m c = search needs
+
+mul-x : tie.Need-mul-x Inv-loop μ-loop
+mul-x c = search needs
+
+add-x : tie.Need-add-x Inv-loop μ-loop
+add-x c = search needs
+
+element-copy-out-x : tie.Need-element-copy-out-x Inv-loop μ-loop
+element-copy-out-x c = search needs
+
+element-copy-out-ok : tie.Need-element-copy-out-ok Inv-loop μ-loop
+element-copy-out-ok c = search needs
+
+add-q : tie.Need-add-q Inv-loop μ-loop
+add-q c = search needs
+
+loop-less : tie.Need-loop-less Inv-loop μ-loop
+loop-less c = search needs
+
+loop-again : tie.Need-loop-again Inv-loop μ-loop
+unfolding memberAt activeAt
+loop-again c = (rw all-more (rw (c .before .before .before .before .loop .inv .0)), search needs, search needs, search needs)
+
+returns : tie.Need-returns Inv-loop μ-loop
+unfolding soundRow
+returns c = at-end (allBelow _) (c .before .loop .inv .0) (c .loop-test .left) (c .before .loop .inv .1)
+
+pub row-ok-spec : {M : Type 1} → statement M
+row-ok-spec =
+    tie.close
+    (tie.spec
+    Inv-loop
+    μ-loop
+    loop-holds
+    mul-m
+    add-m
+    element-copy-out-m
+    mul-x
+    add-x
+    element-copy-out-x
+    element-copy-out-ok
+    add-q
+    loop-less
+    loop-again
+    returns)

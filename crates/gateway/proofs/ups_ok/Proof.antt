@@ -1,0 +1,50 @@
+-- `gateway::ups_ok`: the flags passed are in order. Assumes nothing.
+use Prim.Native.Nat.{_≤_, _-_}
+use mathlib.Core.Path.{_≡_, sym}
+use borrow.Author.Needs.{needs}
+use Rattle.gateway.specs.Sound.{upAt}
+use Rattle.laws.specs.Below.{allBelow, all-none, all-more, at-end}
+use Rattle.gateway.proofs.ups_ok.Statement.{statement}
+use Rattle.gateway.proofs.ups_ok.Tie as tie
+
+abbrev Inv-loop : tie.InvT-loop
+Inv-loop up n ok₀ q₀ ok q = (ok ≡ allBelow (upAt up n) q) × (q ≤ 16)
+
+abbrev μ-loop : tie.MeasureT-loop
+μ-loop up n ok₀ q₀ ok q = 16 - q
+
+loop-holds : tie.Need-loop-holds Inv-loop μ-loop
+loop-holds c = (sym (all-none _), search needs)
+
+element-copy-out-ok : tie.Need-element-copy-out-ok Inv-loop μ-loop
+element-copy-out-ok c = search needs
+
+element-copy-out-ok-2 : tie.Need-element-copy-out-ok-2 Inv-loop μ-loop
+element-copy-out-ok-2 c = search needs
+
+add-q : tie.Need-add-q Inv-loop μ-loop
+add-q c = search needs
+
+loop-less : tie.Need-loop-less Inv-loop μ-loop
+loop-less c = search needs
+
+loop-again : tie.Need-loop-again Inv-loop μ-loop
+unfolding upAt
+loop-again c = (rw all-more (rw (c .before .before .before .loop .inv .0)), search needs)
+
+returns : tie.Need-returns Inv-loop μ-loop
+returns c = at-end (allBelow _) (c .before .loop .inv .0) (c .loop-test .left) (c .before .loop .inv .1)
+
+pub ups-ok-spec : {M : Type 1} → statement M
+ups-ok-spec =
+    tie.close
+    (tie.spec
+    Inv-loop
+    μ-loop
+    loop-holds
+    element-copy-out-ok
+    element-copy-out-ok-2
+    add-q
+    loop-less
+    loop-again
+    returns)

@@ -1,0 +1,185 @@
+-- What a consistent state gives, each fact once.
+-- Assumes nothing.
+use Prim.Native.Nat.{ℕ, zero, suc, _+_, _*_, _-_, _<_, _≤_}
+use mathlib.Core.Path.{_≡_, refl, ap, _∙_, sym}
+use mathlib.Core.Bool.{Bool, true, false, _||_, _&&_, not, false≢true}
+use mathlib.Core.List.{List}
+use mathlib.Core.Logic.{_⊎_, inl, inr}
+use native.Mathlib.Omega.{arith}
+use native.Mathlib.Decide.{decLt, ℕ-discrete}
+use lib.Dec.{eqb, leb, ltb}
+use borrow.Author.Tests.{ltb-true, leb-true, eqb-true, le-leb, lt-leb, eq-eqb, ne-eqb, lt-ltb}
+use Rattle.laws.specs.Below.{allBelow, all-at, countBelow}
+use Rattle.laws.specs.Tab.{col, on}
+use Rattle.laws.specs.Every.{and-left, and-right}
+use Rattle.gateway.specs.declared.Gateway.{Gateway}
+use Rattle.gateway.specs.Sound.{pair, countsIn, blankFrom, flagIf, differs, upAt, soundAsps, memberAt, activeAt, soundRow, activeIn, modeAt, waitingAt, overrideAt, soundAs, ascends, allUnder, soundLinks, consistentOf, consistent, zeros}
+
+-- the counts are within the tables
+pub record Limits (n m k : ℕ) : Type 0 where
+  pub someAsps : 1 ≤ n
+  pub asps : n ≤ 16
+  pub someAses : 1 ≤ m
+  pub ases : m ≤ 16
+  pub links : k ≤ 128
+
+pub limits : (n m k : ℕ) → countsIn n m k ≡ true → Limits n m k
+unfolding countsIn
+limits n m k h =
+    let l = and-left ((leb 1 n && leb n 16) && (leb 1 m && leb m 16)) (leb k 128) h in
+    let u = and-left (leb 1 n && leb n 16) (leb 1 m && leb m 16) l in
+    let v = and-right (leb 1 n && leb n 16) (leb 1 m && leb m 16) l in
+    record {
+      someAsps = leb-true 1 n (and-left (leb 1 n) (leb n 16) u);
+      asps = leb-true n 16 (and-right (leb 1 n) (leb n 16) u);
+      someAses = leb-true 1 m (and-left (leb 1 m) (leb m 16) v);
+      ases = leb-true m 16 (and-right (leb 1 m) (leb m 16) v);
+      links = leb-true k 128 (and-right ((leb 1 n && leb n 16) && (leb 1 m && leb m 16)) (leb k 128) h);
+    }
+
+-- the conditions table by table
+pub record Parts (g : Gateway) : Type 0 where
+  pub counts : Limits (g .asps) (g .ases) (g .links)
+  pub inAsps : soundAsps (g .aspid) (g .up) (g .asps) ≡ true
+  pub inAses : allBelow (soundAs (g .up) (g .member) (g .active) (g .mode) (g .waiting) (g .asps) (g .ases)) 16 ≡ true
+  pub inLinks : soundLinks (g .iid) (g .owner) (g .state) (g .ases) (g .links) ≡ true
+
+pub parts : (g : Gateway) → consistent g ≡ true → Parts g
+unfolding consistentOf
+parts g h =
+    let x = countsIn (g .asps) (g .ases) (g .links) in
+    let y = soundAsps (g .aspid) (g .up) (g .asps) in
+    let z = allBelow (soundAs (g .up) (g .member) (g .active) (g .mode) (g .waiting) (g .asps) (g .ases)) 16 in
+    let w = soundLinks (g .iid) (g .owner) (g .state) (g .ases) (g .links) in
+    let r = and-right x ((y && z) && w) h in
+    record {
+      counts = limits (g .asps) (g .ases) (g .links) (and-left x ((y && z) && w) h);
+      inAsps = and-left y z (and-left (y && z) w r);
+      inAses = and-right y z (and-left (y && z) w r);
+      inLinks = and-right (y && z) w r;
+    }
+
+-- the same together
+pub whole : (g : Gateway) → countsIn (g .asps) (g .ases) (g .links) ≡ true → soundAsps (g .aspid) (g .up) (g .asps) ≡ true → allBelow (soundAs (g .up) (g .member) (g .active) (g .mode) (g .waiting) (g .asps) (g .ases)) 16 ≡ true → soundLinks (g .iid) (g .owner) (g .state) (g .ases) (g .links) ≡ true → consistent g ≡ true
+unfolding consistentOf
+whole g p q r s = rw (p, q, r, s)
+
+-- identifiers strictly ascending, from each to the next and so from any to any later
+pub ascends-next : (c : List ℕ) (n : ℕ) → ascends c n ≡ true → (l : ℕ) → l + 1 < n → col c l < col c (l + 1)
+unfolding ascends
+ascends-next c n h l b = ltb-true (col c l) (col c (l + 1)) (all-at (λ l. ltb (col c l) (col c (l + 1))) (n - 1) h l (omega arith))
+
+pub ascends-far : (c : List ℕ) (n : ℕ) → ascends c n ≡ true → (i k : ℕ) → i + suc k < n → col c i < col c (i + suc k)
+ascends-far c n h i zero b =
+    let e : i + suc zero ≡ i + 1 = omega arith in
+    rw e (ascends-next c n h i (omega arith))
+ascends-far c n h i (suc k) b =
+    let e : i + suc (suc k) ≡ i + suc k + 1 = omega arith in
+    rw e (omega (arith, ascends-far c n h i k (omega arith), ascends-next c n h (i + suc k) (omega arith)))
+
+pub ascends-any : (c : List ℕ) (n : ℕ) → ascends c n ≡ true → (i j : ℕ) → i < j → j < n → col c i < col c j
+ascends-any c n h i j p q =
+    let e : i + suc (j - suc i) ≡ j = omega arith in
+    rw e at (ascends-far c n h i (j - suc i) (omega arith))
+
+-- the links, condition by condition
+pub record Links (iid owner state : List ℕ) (ases links : ℕ) : Type 0 where
+  pub order : ascends iid links ≡ true
+  pub owned : allUnder owner ases links ≡ true
+  pub known : allUnder state 4 links ≡ true
+  pub blankIds : blankFrom iid links 128 ≡ true
+  pub blankOwners : blankFrom owner links 128 ≡ true
+  pub blankStates : blankFrom state links 128 ≡ true
+
+pub links-parts : (iid owner state : List ℕ) (ases links : ℕ) → soundLinks iid owner state ases links ≡ true → Links iid owner state ases links
+unfolding soundLinks
+links-parts iid owner state ases links h =
+    let a = ascends iid links in
+    let b = allUnder owner ases links in
+    let c = allUnder state 4 links in
+    let x = blankFrom iid links 128 in
+    let y = blankFrom owner links 128 in
+    let z = blankFrom state links 128 in
+    let l = and-left ((a && b) && c) ((x && y) && z) h in
+    let r = and-right ((a && b) && c) ((x && y) && z) h in
+    record {
+      order = and-left a b (and-left (a && b) c l);
+      owned = and-right a b (and-left (a && b) c l);
+      known = and-right (a && b) c l;
+      blankIds = and-left x y (and-left (x && y) z r);
+      blankOwners = and-right x y (and-left (x && y) z r);
+      blankStates = and-right (x && y) z r;
+    }
+
+-- one AS, condition by condition
+pub record Server (up member active mode waiting : List ℕ) (asps ases a : ℕ) : Type 0 where
+  pub row : soundRow up member active asps ases a ≡ true
+  pub traffic : modeAt (col mode a) (ltb a ases) ≡ true
+  pub idle : waitingAt (col waiting a) (activeIn active a) (ltb a ases) ≡ true
+  pub alone : overrideAt (col mode a) (activeIn active a) ≡ true
+
+pub as-parts : (up member active mode waiting : List ℕ) (asps ases a : ℕ) → soundAs up member active mode waiting asps ases a ≡ true → Server up member active mode waiting asps ases a
+unfolding soundAs
+as-parts up member active mode waiting asps ases a h =
+    let r = soundRow up member active asps ases a in
+    let m = modeAt (col mode a) (ltb a ases) in
+    let w = waitingAt (col waiting a) (activeIn active a) (ltb a ases) in
+    let o = overrideAt (col mode a) (activeIn active a) in
+    let s = and-right r ((m && w) && o) h in
+    record {
+      row = and-left r ((m && w) && o) h;
+      traffic = and-left m w (and-left (m && w) o s);
+      idle = and-right m w (and-left (m && w) o s);
+      alone = and-right (m && w) o s;
+    }
+
+pub server : (g : Gateway) → consistent g ≡ true → (a : ℕ) → a < 16 → Server (g .up) (g .member) (g .active) (g .mode) (g .waiting) (g .asps) (g .ases) a
+server g h a b =
+    as-parts (g .up) (g .member) (g .active) (g .mode) (g .waiting) (g .asps) (g .ases) a
+    (all-at (soundAs (g .up) (g .member) (g .active) (g .mode) (g .waiting) (g .asps) (g .ases)) 16 (parts g h .inAses) a b)
+
+-- ---- the facts by name
+
+pub counts-within : (g : Gateway) → consistent g ≡ true → Limits (g .asps) (g .ases) (g .links)
+counts-within g h = parts g h .counts
+
+pub identifiers-ascend : (g : Gateway) → consistent g ≡ true → (i j : ℕ) → i < j → j < g .links → col (g .iid) i < col (g .iid) j
+identifiers-ascend g h =
+    ascends-any (g .iid) (g .links) (links-parts (g .iid) (g .owner) (g .state) (g .ases) (g .links) (parts g h .inLinks) .order)
+
+pub owner-within : (g : Gateway) → consistent g ≡ true → (l : ℕ) → l < g .links → col (g .owner) l < g .ases
+unfolding allUnder
+owner-within g h l b =
+    ltb-true (col (g .owner) l) (g .ases)
+    (all-at (λ l. ltb (col (g .owner) l) (g .ases)) (g .links)
+    (links-parts (g .iid) (g .owner) (g .state) (g .ases) (g .links) (parts g h .inLinks) .owned) l b)
+
+-- a flag that is set is allowed to be
+pub flag-set : (x : ℕ) (b : Bool) → flagIf x b ≡ true → eqb x 1 ≡ true → b ≡ true
+flag-set x b h e = let z : x ≡ 1 = eqb-true x 1 e in last (rw z at h)
+  where
+    last : flagIf 1 b ≡ true → b ≡ true
+    last g = g
+
+pub active-is-member : (g : Gateway) → consistent g ≡ true → (a q : ℕ) → a < 16 → q < 16 → on (g .active) (pair a q) ≡ true → (on (g .member) (pair a q) ≡ true) × (on (g .up) q ≡ true)
+unfolding soundRow activeAt
+active-is-member g h a q b d e =
+    let m = memberAt (g .member) (g .asps) (g .ases) a q in
+    let x = activeAt (g .up) (g .member) (g .active) a q in
+    let p = all-at (λ q. memberAt (g .member) (g .asps) (g .ases) a q && activeAt (g .up) (g .member) (g .active) a q) 16 (server g h a b .row) q d in
+    let f = flag-set (col (g .active) (pair a q)) (on (g .member) (pair a q) && on (g .up) q) (and-right m x p) e in
+    (and-left (on (g .member) (pair a q)) (on (g .up) q) f, and-right (on (g .member) (pair a q)) (on (g .up) q) f)
+
+pub member-within : (g : Gateway) → consistent g ≡ true → (a q : ℕ) → a < 16 → q < 16 → on (g .member) (pair a q) ≡ true → (q < g .asps) × (a < g .ases)
+unfolding soundRow memberAt
+member-within g h a q b d e =
+    let m = memberAt (g .member) (g .asps) (g .ases) a q in
+    let x = activeAt (g .up) (g .member) (g .active) a q in
+    let p = all-at (λ q. memberAt (g .member) (g .asps) (g .ases) a q && activeAt (g .up) (g .member) (g .active) a q) 16 (server g h a b .row) q d in
+    let f = flag-set (col (g .member) (pair a q)) (ltb q (g .asps) && ltb a (g .ases)) (and-left m x p) e in
+    (ltb-true q (g .asps) (and-left (ltb q (g .asps)) (ltb a (g .ases)) f), ltb-true a (g .ases) (and-right (ltb q (g .asps)) (ltb a (g .ases)) f))
+
+-- the state of zeros that a refused plan hands back is not consistent
+pub zeros-not-consistent : consistent zeros ≡ false
+unfolding consistentOf countsIn zeros
+zeros-not-consistent = refl

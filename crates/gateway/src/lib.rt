@@ -1,0 +1,319 @@
+// The gateway's state (document 01's board), by value, as columns; and whether it is consistent (a sound board).
+ghost use mathlib.Core.Path.{_≡_};
+ghost use mathlib.Core.Bool.{true};
+ghost use Prim.Native.Nat.{ℕ, _<_, _≤_};
+ghost use lib.Dec.{ltb};
+ghost use lib.ListN.{length};
+ghost use Rattle.laws.specs.Below.{one, allBelow};
+ghost use Rattle.gateway.specs.Sound.{countsIn, blankFrom, differs, upAt, soundAsps, soundRow, activeIn, modeAt, waitingAt, overrideAt, soundAs, ascends, allUnder, soundLinks, consistentOf, consistent, zeros};
+
+// Index of a pair: as * 16 + asp. Flags are 0 or 1. Traffic modes: 1 override, 2 load-share, 3 broadcast. States of a link:
+// 0 idle, 1 starting, 2 in service, 3 stopping. `iid` is the interface identifier, `waiting` that the recovery time runs.
+#[repr(C)]
+pub struct Gateway {
+    pub asps: u8,
+    pub ases: u8,
+    pub links: u8,
+    pub aspid: [u32; 16],
+    pub up: [u8; 16],
+    pub member: [u8; 256],
+    pub active: [u8; 256],
+    pub mode: [u8; 16],
+    pub waiting: [u8; 16],
+    pub iid: [u32; 128],
+    pub owner: [u8; 128],
+    pub state: [u8; 128],
+}
+
+pub fn wide(x: u8) -> usize
+    ensures { λ r. ⌜ r ≡ x ⌝ }
+{
+    x as usize
+}
+
+pub fn unit(t: bool) -> usize
+    ensures { λ r. ⌜ (r ≡ one t) × (r ≤ 1) ⌝ }
+{
+    if t { 1 } else { 0 }
+}
+
+fn counts_ok(asps: u8, ases: u8, links: u8) -> bool
+    ensures { λ r. ⌜ r ≡ countsIn asps ases links ⌝ }
+{
+    (((1 <= asps) & (asps <= 16)) & ((1 <= ases) & (ases <= 16))) & (links <= 128)
+}
+
+// The places of a column from n up to an end are zero.
+fn blank(c: &[u8], n: usize, end: usize) -> bool
+    requires { ⌜ (n ≤ end) × (end ≤ length (now c)) ⌝ }
+    ensures { λ r. ⌜ r ≡ blankFrom (now (c .entry)) n end ⌝ }
+{
+    let mut ok = true;
+    for i in n..end {
+        ok = ok & (c[i] == 0);
+    }
+    ok
+}
+
+fn blank_wide(c: &[u32], n: usize, end: usize) -> bool
+    requires { ⌜ (n ≤ end) × (end ≤ length (now c)) ⌝ }
+    ensures { λ r. ⌜ r ≡ blankFrom (now (c .entry)) n end ⌝ }
+{
+    let mut ok = true;
+    for i in n..end {
+        ok = ok & (c[i] == 0);
+    }
+    ok
+}
+
+// The identifier at p differs from those before it.
+fn is_new(aspid: &[u32; 16], p: usize) -> bool
+    requires { ⌜ p < 16 ⌝ }
+    ensures { λ r. ⌜ r ≡ differs (now (aspid .entry)) p ⌝ }
+{
+    let mut ok = true;
+    for q in 0..p {
+        ok = ok & (aspid[q] != aspid[p]);
+    }
+    ok
+}
+
+pub fn all_new(aspid: &[u32; 16], n: usize) -> bool
+    requires { ⌜ n ≤ 16 ⌝ }
+    ensures { λ r. ⌜ r ≡ allBelow (differs (now (aspid .entry))) n ⌝ }
+{
+    let mut ok = true;
+    for p in 0..n {
+        ok = ok & is_new(aspid, p);
+    }
+    ok
+}
+
+fn ups_ok(up: &[u8; 16], n: usize) -> bool
+    ensures { λ r. ⌜ r ≡ allBelow (upAt (now (up .entry)) n) 16 ⌝ }
+{
+    let mut ok = true;
+    for q in 0..16usize {
+        ok = ok & ((up[q] == 0) | ((up[q] == 1) & (q < n)));
+    }
+    ok
+}
+
+fn asps_ok<'a>(aspid: &'a [u32; 16], up: &'a [u8; 16], n: usize) -> bool
+    requires { ⌜ n ≤ 16 ⌝ }
+    ensures { λ r. ⌜ r ≡ soundAsps (now (aspid .entry)) (now (up .entry)) n ⌝ }
+{
+    let differ = all_new(aspid, n);
+    let beyond = blank_wide(aspid, n, 16);
+    let flags = ups_ok(up, n);
+    (differ & beyond) & flags
+}
+
+fn row_ok<'a>(
+    up: &'a [u8; 16],
+    member: &'a [u8; 256],
+    active: &'a [u8; 256],
+    asps: usize,
+    ases: usize,
+    a: usize,
+) -> bool
+    requires { ⌜ a < 16 ⌝ }
+    ensures { λ r. ⌜ r ≡ soundRow (now (up .entry)) (now (member .entry)) (now (active .entry)) asps ases a ⌝ }
+{
+    let inside = a < ases;
+    let mut ok = true;
+    for q in 0..16usize {
+        let m = member[a * 16 + q];
+        let x = active[a * 16 + q];
+        ok = ok
+            & (((m == 0) | ((m == 1) & ((q < asps) & inside)))
+                & ((x == 0) | ((x == 1) & ((m == 1) & (up[q] == 1)))));
+    }
+    ok
+}
+
+// How many members of AS a are active.
+pub fn count_active(active: &[u8; 256], a: usize) -> usize
+    requires { ⌜ a < 16 ⌝ }
+    ensures { λ r. ⌜ r ≡ activeIn (now (active .entry)) a ⌝ }
+{
+    let mut n: usize = 0;
+    for q in 0..16usize {
+        n = n + unit(active[a * 16 + q] == 1);
+    }
+    n
+}
+
+fn mode_ok(mode: u8, inside: bool) -> bool
+    ensures { λ r. ⌜ r ≡ modeAt mode inside ⌝ }
+{
+    (inside & ((1 <= mode) & (mode <= 3))) | (!inside & (mode == 0))
+}
+
+fn waiting_ok(waiting: u8, n: usize, inside: bool) -> bool
+    ensures { λ r. ⌜ r ≡ waitingAt waiting n inside ⌝ }
+{
+    (waiting == 0) | ((waiting == 1) & (inside & (n == 0)))
+}
+
+fn override_ok(mode: u8, n: usize) -> bool
+    ensures { λ r. ⌜ r ≡ overrideAt mode n ⌝ }
+{
+    (mode != 1) | (n <= 1)
+}
+
+fn as_ok<'a>(
+    up: &'a [u8; 16],
+    member: &'a [u8; 256],
+    active: &'a [u8; 256],
+    mode: &'a [u8; 16],
+    waiting: &'a [u8; 16],
+    asps: usize,
+    ases: usize,
+    a: usize,
+) -> bool
+    requires { ⌜ a < 16 ⌝ }
+    ensures { λ r. ⌜ r ≡ soundAs (now (up .entry)) (now (member .entry)) (now (active .entry)) (now (mode .entry)) (now (waiting .entry)) asps ases a ⌝ }
+{
+    let n = count_active(active, a);
+    let row = row_ok(up, member, active, asps, ases, a);
+    let traffic = mode_ok(mode[a], a < ases);
+    let wait = waiting_ok(waiting[a], n, a < ases);
+    let alone = override_ok(mode[a], n);
+    row & ((traffic & wait) & alone)
+}
+
+fn ases_ok<'a>(
+    up: &'a [u8; 16],
+    member: &'a [u8; 256],
+    active: &'a [u8; 256],
+    mode: &'a [u8; 16],
+    waiting: &'a [u8; 16],
+    asps: usize,
+    ases: usize,
+) -> bool
+    ensures { λ r. ⌜ r ≡ allBelow (soundAs (now (up .entry)) (now (member .entry)) (now (active .entry)) (now (mode .entry)) (now (waiting .entry)) asps ases) 16 ⌝ }
+{
+    let mut ok = true;
+    for a in 0..16usize {
+        ok = ok & as_ok(up, member, active, mode, waiting, asps, ases, a);
+    }
+    ok
+}
+
+pub fn ascending(iid: &[u32; 128], n: usize) -> bool
+    requires { ⌜ n ≤ 128 ⌝ }
+    ensures { λ r. ⌜ r ≡ ascends (now (iid .entry)) n ⌝ }
+{
+    let mut ok = true;
+    let mut l: usize = 0;
+    while l + 1 < n {
+        ok = ok & (iid[l] < iid[l + 1]);
+        l += 1;
+    }
+    ok
+}
+
+// The first n places of a column are below most.
+fn all_under(c: &[u8; 128], most: u8, n: usize) -> bool
+    requires { ⌜ n ≤ 128 ⌝ }
+    ensures { λ r. ⌜ r ≡ allUnder (now (c .entry)) most n ⌝ }
+{
+    let mut ok = true;
+    for l in 0..n {
+        ok = ok & (c[l] < most);
+    }
+    ok
+}
+
+fn links_ok<'a>(
+    iid: &'a [u32; 128],
+    owner: &'a [u8; 128],
+    state: &'a [u8; 128],
+    ases: u8,
+    n: usize,
+) -> bool
+    requires { ⌜ n ≤ 128 ⌝ }
+    ensures { λ r. ⌜ r ≡ soundLinks (now (iid .entry)) (now (owner .entry)) (now (state .entry)) ases n ⌝ }
+{
+    let order = ascending(iid, n);
+    let owners = all_under(owner, ases, n);
+    let states = all_under(state, 4, n);
+    let x = blank_wide(iid, n, 128);
+    let y = blank(owner, n, 128);
+    let z = blank(state, n, 128);
+    ((order & owners) & states) & ((x & y) & z)
+}
+
+// The same of lent columns, for callers that hold the state and would copy it by a call.
+pub fn consistent_of<'a>(
+    asps: u8,
+    ases: u8,
+    links: u8,
+    aspid: &'a [u32; 16],
+    up: &'a [u8; 16],
+    member: &'a [u8; 256],
+    active: &'a [u8; 256],
+    mode: &'a [u8; 16],
+    waiting: &'a [u8; 16],
+    iid: &'a [u32; 128],
+    owner: &'a [u8; 128],
+    state: &'a [u8; 128],
+) -> bool
+    ensures { λ r. ⌜ r ≡ consistentOf asps ases links (now (aspid .entry)) (now (up .entry)) (now (member .entry)) (now (active .entry)) (now (mode .entry)) (now (waiting .entry)) (now (iid .entry)) (now (owner .entry)) (now (state .entry)) ⌝ }
+{
+    if !counts_ok(asps, ases, links) {
+        return false;
+    }
+    let n = wide(asps);
+    let m = wide(ases);
+    let k = wide(links);
+    let x = asps_ok(aspid, up, n);
+    let y = ases_ok(up, member, active, mode, waiting, n, m);
+    let z = links_ok(iid, owner, state, ases, k);
+    (x & y) & z
+}
+
+impl Gateway {
+    // What a refused plan hands back.
+    pub fn zeros() -> Gateway
+        ensures { λ r. ⌜ r ≡ zeros ⌝ }
+    {
+        Gateway {
+            asps: 0,
+            ases: 0,
+            links: 0,
+            aspid: [0; 16],
+            up: [0; 16],
+            member: [0; 256],
+            active: [0; 256],
+            mode: [0; 16],
+            waiting: [0; 16],
+            iid: [0; 128],
+            owner: [0; 128],
+            state: [0; 128],
+        }
+    }
+
+    pub fn is_consistent(self) -> bool
+        ensures { λ r. ⌜ r ≡ consistent self ⌝ }
+    {
+        let asps = self.asps;
+        let ases = self.ases;
+        let links = self.links;
+        consistent_of(
+            asps,
+            ases,
+            links,
+            &self.aspid,
+            &self.up,
+            &self.member,
+            &self.active,
+            &self.mode,
+            &self.waiting,
+            &self.iid,
+            &self.owner,
+            &self.state,
+        )
+    }
+}

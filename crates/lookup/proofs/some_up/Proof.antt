@@ -1,0 +1,58 @@
+-- `lookup::some_up`: the members passed. Assumes nothing.
+use Prim.Native.Nat.{_≤_, _<_, _-_, _+_, _*_}
+use mathlib.Core.Path.{_≡_, sym}
+use mathlib.Core.Bool.{_&&_}
+use borrow.Author.Needs.{needs}
+use Rattle.laws.specs.Below.{at-end, anyBelow, any-none, any-more}
+use Rattle.laws.specs.Tab.{on}
+use Rattle.lookup.proofs.some_up.Statement.{statement}
+use Rattle.lookup.proofs.some_up.Tie as tie
+
+abbrev Inv-loop : tie.InvT-loop
+Inv-loop up member a found₀ q₀ found q = (found ≡ anyBelow (λ i. on member (a * 16 + i) && on up i) q) × (q ≤ 16) × (a < 16)
+
+abbrev μ-loop : tie.MeasureT-loop
+μ-loop up member a found₀ q₀ found q = 16 - q
+
+loop-holds : tie.Need-loop-holds Inv-loop μ-loop
+loop-holds c = (sym (any-none _), search needs, search needs)
+
+mul-found : tie.Need-mul-found Inv-loop μ-loop
+mul-found c = search needs
+
+add-found : tie.Need-add-found Inv-loop μ-loop
+add-found c = search needs
+
+element-copy-out-found : tie.Need-element-copy-out-found Inv-loop μ-loop
+element-copy-out-found c = search needs
+
+element-copy-out-found-2 : tie.Need-element-copy-out-found-2 Inv-loop μ-loop
+element-copy-out-found-2 c = search needs
+
+add-q : tie.Need-add-q Inv-loop μ-loop
+add-q c = search needs
+
+loop-less : tie.Need-loop-less Inv-loop μ-loop
+loop-less c = search needs
+
+loop-again : tie.Need-loop-again Inv-loop μ-loop
+loop-again c = (rw any-more (rw (c .before .before .before .loop .inv .0)), search needs, search needs)
+
+returns : tie.Need-returns Inv-loop μ-loop
+returns c = at-end (anyBelow _) (c .before .loop .inv .0) (c .loop-test .left) (c .before .loop .inv .1)
+
+pub some-up-spec : {M : Type 1} → statement M
+some-up-spec =
+    tie.close
+    (tie.spec
+    Inv-loop
+    μ-loop
+    loop-holds
+    mul-found
+    add-found
+    element-copy-out-found
+    element-copy-out-found-2
+    add-q
+    loop-less
+    loop-again
+    returns)

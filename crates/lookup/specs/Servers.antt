@@ -1,0 +1,68 @@
+-- What is asked of an AS: its state, and the recipients of a message of one of its links.
+-- Assumes nothing.
+use Prim.Native.Nat.{ℕ, zero, suc, _+_, _*_, _%_, _<_, _≤_}
+use mathlib.Core.Path.{_≡_, refl, ap, _∙_, sym}
+use mathlib.Core.Bool.{Bool, true, false, _||_, _&&_, cond, not, false≢true}
+use mathlib.Core.List.{List}
+use native.Mathlib.Omega.{arith}
+use native.Mathlib.Nat.{mod-lt}
+use lib.Dec.{eqb, ltb}
+use borrow.Author.Tests.{eq-eqb, lt-ltb}
+use Rattle.laws.specs.Below.{anyBelow, countBelow, count-none, count-more, count-small, one}
+use Rattle.laws.specs.Tab.{on}
+use Rattle.laws.specs.Every.{and-left}
+use Rattle.laws.specs.Rank.{rank-one}
+use Rattle.gateway.specs.Sound.{pair, activeIn}
+
+-- "AS state: active if some member is active; else pending if waiting; else inactive if some member is up; else down."
+-- The numbers are the information that Notify gives: 2 inactive, 3 active, 4 pending; down has none, and is 0 here.
+unfoldable pub stateOf : List ℕ → List ℕ → List ℕ → List ℕ → ℕ → ℕ
+stateOf up member active waiting a =
+    cond (anyBelow (λ q. on active (pair a q)) 16) 3
+    (cond (on waiting a) 4
+    (cond (anyBelow (λ q. on member (pair a q) && on up q) 16) 2 0))
+
+-- the active members of AS a whose place is before q
+unfoldable pub before : List ℕ → ℕ → ℕ → ℕ
+before active a q = countBelow (λ r. on active (pair a r)) q
+
+-- "override, the active member; broadcast, all active, ascending; load-share with k active, the one at place (identifier mod k), from 0,
+-- ascending. None active: none." x is the number used in place of the identifier: mode 2 is load-share.
+unfoldable pub receives : List ℕ → ℕ → ℕ → ℕ → ℕ → Bool
+receives active mode a x q =
+    on active (pair a q) && (not (eqb mode 2) || eqb (before active a q) (x % activeIn active a))
+
+-- ---- laws
+
+pub before-none : (active : List ℕ) (a : ℕ) → before active a 0 ≡ 0
+unfolding before
+before-none active a = count-none (λ r. on active (pair a r))
+
+pub before-more : (active : List ℕ) (a q : ℕ) → before active a (q + 1) ≡ before active a q + one (on active (pair a q))
+unfolding before
+before-more active a q = count-more (λ r. on active (pair a r)) q
+
+pub before-small : (active : List ℕ) (a q : ℕ) → before active a q ≤ q
+unfolding before
+before-small active a q = count-small (λ r. on active (pair a r)) q
+
+-- a recipient is an active member, whatever number is used
+pub recipient-active : (active : List ℕ) (mode a x q : ℕ) → receives active mode a x q ≡ true → on active (pair a q) ≡ true
+unfolding receives
+recipient-active active mode a x q h =
+    and-left (on active (pair a q)) (not (eqb mode 2) || eqb (before active a q) (x % activeIn active a)) h
+
+-- in load-share just one receives, if some member is active
+pub share-one : (active : List ℕ) (a x : ℕ) → 0 < activeIn active a → countBelow (receives active 2 a x) 16 ≡ 1
+unfolding receives before activeIn
+share-one active a x h =
+    rank-one (λ q. on active (pair a q)) (x % activeIn active a) 16 ∙ rw (lt-ltb (x % activeIn active a) (activeIn active a) (mod-lt x h))
+
+-- otherwise all active members do
+pub all-receive : (active : List ℕ) (mode a x q : ℕ) → eqb mode 2 ≡ false → receives active mode a x q ≡ on active (pair a q)
+unfolding receives
+all-receive active mode a x q e = rw e (go (on active (pair a q)))
+  where
+    go : (u : Bool) → (u && true) ≡ u
+    go true = refl
+    go false = refl

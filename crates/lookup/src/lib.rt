@@ -1,0 +1,144 @@
+// What the events ask of the gateway's state.
+ghost use mathlib.Core.Path.{_≡_};
+ghost use mathlib.Core.Bool.{true, _&&_, cond};
+ghost use Prim.Native.Nat.{ℕ, _%_, _<_, _≤_};
+ghost use Rattle.laws.specs.Below.{anyBelow, one};
+ghost use Rattle.laws.specs.Tab.{on, tab};
+ghost use Rattle.gateway.specs.Sound.{pair, ascends};
+ghost use Rattle.lookup.specs.Servers.{stateOf, receives};
+ghost use Rattle.lookup.specs.Links.{indexOf, known, rank};
+
+// ---- ASes
+
+// Whether ASP p is a member of AS a.
+pub fn is_member(member: &[u8; 256], a: usize, p: usize) -> bool
+    requires { ⌜ (a < 16) × (p < 16) ⌝ }
+    ensures { λ r. ⌜ r ≡ on (now (member .entry)) (pair a p) ⌝ }
+{
+    member[a * 16 + p] == 1
+}
+
+// Whether some member of AS a is active.
+pub fn some_active(active: &[u8; 256], a: usize) -> bool
+    requires { ⌜ a < 16 ⌝ }
+    ensures { λ r. ⌜ r ≡ anyBelow (λ q. on (now (active .entry)) (pair a q)) 16 ⌝ }
+{
+    let mut found = false;
+    for q in 0..16usize {
+        found = found | (active[a * 16 + q] == 1);
+    }
+    found
+}
+
+// Whether some member of AS a is up.
+pub fn some_up<'a>(up: &'a [u8; 16], member: &'a [u8; 256], a: usize) -> bool
+    requires { ⌜ a < 16 ⌝ }
+    ensures { λ r. ⌜ r ≡ anyBelow (λ q. on (now (member .entry)) (pair a q) && on (now (up .entry)) q) 16 ⌝ }
+{
+    let mut found = false;
+    for q in 0..16usize {
+        found = found | ((member[a * 16 + q] == 1) & (up[q] == 1));
+    }
+    found
+}
+
+// The state of AS a: 0 down, 2 inactive, 3 active, 4 pending.
+pub fn as_state<'a>(
+    up: &'a [u8; 16],
+    member: &'a [u8; 256],
+    active: &'a [u8; 256],
+    waiting: &'a [u8; 16],
+    a: usize,
+) -> u32
+    requires { ⌜ a < 16 ⌝ }
+    ensures { λ r. ⌜ r ≡ stateOf (now (up .entry)) (now (member .entry)) (now (active .entry)) (now (waiting .entry)) a ⌝ }
+{
+    let acts = some_active(active, a);
+    let ups = some_up(up, member, a);
+    state_from(acts, waiting[a] == 1, ups)
+}
+
+fn state_from(acts: bool, waits: bool, ups: bool) -> u32
+    ensures { λ r. ⌜ r ≡ cond acts 3 (cond waits 4 (cond ups 2 0)) ⌝ }
+{
+    if acts {
+        return 3;
+    }
+    if waits {
+        return 4;
+    }
+    if ups {
+        return 2;
+    }
+    0
+}
+
+// x modulo k, and x where k is 0.
+fn rest(x: u32, k: usize) -> usize
+    ensures { λ r. ⌜ r ≡ x % k ⌝ }
+{
+    let n = x as usize;
+    if k == 0 {
+        return n;
+    }
+    n % k
+}
+
+// Who gets a message of a link of AS a: a flag for each ASP. x is the number that load-share goes by.
+pub fn recipients(active: &[u8; 256], mode: u8, a: usize, x: u32) -> [bool; 16]
+    requires { ⌜ a < 16 ⌝ }
+    ensures { λ r. ⌜ r ≡ tab 16 (receives (now (active .entry)) mode a x) ⌝ }
+{
+    let k = gateway::count_active(active, a);
+    let place = rest(x, k);
+    let mut r = [false; 16];
+    let mut n: usize = 0;
+    for q in 0..16usize {
+        let on = active[a * 16 + q] == 1;
+        r[q] = on & ((mode != 2) | (n == place));
+        n = n + gateway::unit(on);
+    }
+    r
+}
+
+// ---- links by identifier
+
+fn unit_32(t: bool) -> u32
+    ensures { λ r. ⌜ (r ≡ one t) × (r ≤ 1) ⌝ }
+{
+    if t { 1 } else { 0 }
+}
+
+// How many identifiers are below x. (Counted in 32 bits, this is the fastest of four searches, at any number of links.)
+pub fn rank_of(iid: &[u32; 128], links: usize, x: u32) -> usize
+    requires { ⌜ links ≤ 128 ⌝ }
+    ensures { λ r. ⌜ (r ≡ rank (now (iid .entry)) links x) × (r ≤ links) ⌝ }
+{
+    let mut n: u32 = 0;
+    for l in 0..links {
+        n = n + unit_32(iid[l] < x);
+    }
+    n as usize
+}
+
+// The index of the link with identifier x, and the number of links where there is none.
+pub fn index_of(iid: &[u32; 128], links: usize, x: u32) -> usize
+    requires { ⌜ (links ≤ 128) × (ascends (now iid) links ≡ true) ⌝ }
+    ensures { λ r. ⌜ r ≡ indexOf (now (iid .entry)) links x ⌝ }
+{
+    let l = rank_of(iid, links, x);
+    if l < links {
+        if iid[l] == x {
+            return l;
+        }
+    }
+    links
+}
+
+// Whether the identifier x is in the plan.
+pub fn is_known(iid: &[u32; 128], links: usize, x: u32) -> bool
+    requires { ⌜ (links ≤ 128) × (ascends (now iid) links ≡ true) ⌝ }
+    ensures { λ r. ⌜ r ≡ known (now (iid .entry)) links x ⌝ }
+{
+    index_of(iid, links, x) < links
+}

@@ -1,0 +1,150 @@
+//! Orders as bytes.
+
+use crate::events::*;
+use crate::gateway::Gateway;
+use crate::wire::*;
+use crate::write::{put_header, put_param, Written, SHORT_BUFFER};
+
+/// A place beyond the orders, or an order to the link side.
+pub const NO_SUCH_ORDER: u32 = 104;
+
+/// Takes the parameters of a message one after the other: first to count
+/// their bytes, then to write them.
+trait Sink {
+    fn param(&mut self, tag: u16, value: &[u8]);
+    /// One parameter of the identifiers of an AS, ascending; none if the AS
+    /// has no links.
+    fn identifiers(&mut self, gateway: &Gateway, server: u32);
+}
+
+struct Count(usize);
+
+impl Sink for Count {
+    fn param(&mut self, _: u16, value: &[u8]) {
+        self.0 += 4 + padded(value.len());
+    }
+
+    fn identifiers(&mut self, gateway: &Gateway, server: u32) {
+        match links_of(gateway, server).count() {
+            0 => {}
+            count => self.0 += 4 + 4 * count,
+        }
+    }
+}
+
+struct Fill<'a> {
+    out: &'a mut [u8],
+    at: usize,
+}
+
+impl Sink for Fill<'_> {
+    fn param(&mut self, tag: u16, value: &[u8]) {
+        self.at += put_param(&mut self.out[self.at..], tag, value);
+    }
+
+    fn identifiers(&mut self, gateway: &Gateway, server: u32) {
+        let start = self.at;
+        let mut at = start + 4;
+        for id in links_of(gateway, server) {
+            self.out[at..at + 4].copy_from_slice(&id.to_be_bytes());
+            at += 4;
+        }
+        if at > start + 4 {
+            let head = (INTERFACE_ID as u32) << 16 | (at - start) as u32;
+            self.out[start..start + 4].copy_from_slice(&head.to_be_bytes());
+            self.at = at;
+        }
+    }
+}
+
+fn links_of(gateway: &Gateway, server: u32) -> impl Iterator<Item = u32> + '_ {
+    let owned = gateway.link_ids().iter().zip(&gateway.owner);
+    owned
+        .filter(move |(_, owner)| **owner as u32 == server)
+        .map(|(id, _)| *id)
+}
+
+impl Gateway {
+    /// Writes the order at a place, from 0, of an event on this board.
+    pub fn order_bytes(&self, event: Event, place: u32, out: &mut [u8]) -> Written {
+        let mut list = [0; LIST_WORDS];
+        let next = self.event(event, &mut list);
+        if next.code != 0 {
+            return Written::refused(next.code);
+        }
+        if place >= next.count {
+            return Written::refused(NO_SUCH_ORDER);
+        }
+        let [addressee, code, subject, value] = list.as_chunks::<4>().0[place as usize];
+        if addressee == LINK_SIDE {
+            return Written::refused(NO_SUCH_ORDER);
+        }
+
+        let mut count = Count(HEADER_LEN);
+        self.put_order(event, code, subject, value, &mut count);
+        let total = count.0;
+        let Some(out) = out.get_mut(..total) else {
+            return Written::refused(SHORT_BUFFER);
+        };
+        put_header(out, code >> 8, code & 0xff, total);
+        let mut fill = Fill {
+            out,
+            at: HEADER_LEN,
+        };
+        self.put_order(event, code, subject, value, &mut fill);
+        Written {
+            code: 0,
+            length: total as u32,
+        }
+    }
+
+    /// The parameters of an order.
+    fn put_order(&self, event: Event, code: u32, subject: u32, value: u32, sink: &mut impl Sink) {
+        // What the link side sent goes on as it came.
+        if let Event::LinkMessage { message } = event {
+            for param in Params::new(message) {
+                sink.param(param.tag, param.value);
+            }
+            return;
+        }
+        let received = match event {
+            Event::Message { message, .. } => Params::new(message),
+            _ => Params::new(&[]),
+        };
+        match code {
+            ERROR => {
+                sink.param(ERROR_CODE, &value.to_be_bytes());
+                if value == INVALID_ID {
+                    sink.param(INTERFACE_ID, &subject.to_be_bytes());
+                }
+            }
+            NOTIFY => {
+                sink.param(STATUS, &value.to_be_bytes());
+                sink.identifiers(self, subject);
+            }
+            BEAT_ACK => {
+                for param in received.filter(|param| param.tag == HEARTBEAT_DATA) {
+                    sink.param(param.tag, param.value);
+                }
+            }
+            ACTIVE_ACK | INACTIVE_ACK => {
+                for param in received.filter(|param| param.tag == TRAFFIC_MODE) {
+                    sink.param(param.tag, param.value);
+                }
+                let is_ids = |tag: u16| tag == INTERFACE_ID || tag == INTERFACE_RANGE;
+                for param in received.filter(|param| is_ids(param.tag)) {
+                    sink.param(param.tag, param.value);
+                }
+            }
+            ESTABLISH_CONFIRM | RELEASE_CONFIRM | RELEASE_INDICATION => {
+                sink.param(INTERFACE_ID, &subject.to_be_bytes());
+            }
+            DATA_ACK => {
+                sink.param(INTERFACE_ID, &subject.to_be_bytes());
+                sink.param(CORRELATION_ID, &value.to_be_bytes());
+            }
+            // Up Ack and Down Ack have no parameters.
+            _ => {}
+        }
+    }
+}

@@ -1,0 +1,558 @@
+//! The six kinds of event: each takes the board by value and hands the next
+//! one back, with orders in a lent list.
+
+use crate::gateway::*;
+use crate::read::{read, Reading};
+use crate::wire::*;
+
+/// The lent list is too short.
+pub const SHORT_LIST: u32 = 101;
+/// An index beyond the plan, or a link-side message that is none.
+pub const BAD_EVENT: u32 = 102;
+/// The board is not sound.
+pub const NOT_SOUND: u32 = 105;
+
+/// Room for the most orders an event can give, four words each.
+pub const LIST_WORDS: usize = 1032;
+
+/// Addressee of orders to the link side.
+pub const LINK_SIDE: u32 = 255;
+
+// Error codes of the events themselves.
+pub const INVALID_ID: u32 = 2;
+pub const UNEXPECTED_MESSAGE: u32 = 6;
+pub const INVALID_ASP_ID: u32 = 15;
+
+/// Class times 256 plus type.
+const fn code(class: u32, kind: u32) -> u32 {
+    class << 8 | kind
+}
+
+pub const ERROR: u32 = code(MGMT, 0);
+pub const NOTIFY: u32 = code(MGMT, 1);
+pub const UP: u32 = code(ASPSM, 1);
+pub const DOWN: u32 = code(ASPSM, 2);
+pub const BEAT: u32 = code(ASPSM, 3);
+pub const UP_ACK: u32 = code(ASPSM, 4);
+pub const DOWN_ACK: u32 = code(ASPSM, 5);
+pub const BEAT_ACK: u32 = code(ASPSM, 6);
+pub const ACTIVE: u32 = code(ASPTM, 1);
+pub const INACTIVE: u32 = code(ASPTM, 2);
+pub const ACTIVE_ACK: u32 = code(ASPTM, 3);
+pub const INACTIVE_ACK: u32 = code(ASPTM, 4);
+pub const DATA: u32 = code(MAUP, 1);
+pub const ESTABLISH_REQUEST: u32 = code(MAUP, 2);
+pub const ESTABLISH_CONFIRM: u32 = code(MAUP, 3);
+pub const RELEASE_REQUEST: u32 = code(MAUP, 4);
+pub const RELEASE_CONFIRM: u32 = code(MAUP, 5);
+pub const RELEASE_INDICATION: u32 = code(MAUP, 6);
+pub const STATE_REQUEST: u32 = code(MAUP, 7);
+pub const RETRIEVAL_REQUEST: u32 = code(MAUP, 10);
+pub const DATA_ACK: u32 = code(MAUP, 15);
+
+/// Types of class 6 that the link side sends: 1, 8, 9, 11 to 14.
+const LINK_SIDE_TYPES: u32 = 1 << 1 | 1 << 8 | 1 << 9 | 0xf << 11;
+
+/// Notify: the state of the AS changed; another ASP took over.
+const STATE_CHANGE: u32 = 1 << 16;
+const ALTERNATE_ACTIVE: u32 = 2 << 16 | 2;
+
+#[derive(Clone, Copy, PartialEq, Eq, Debug)]
+pub enum Event<'a> {
+    /// Message of an ASP.
+    Message {
+        asp: u32,
+        message: &'a [u8],
+    },
+    /// The association of an ASP is lost.
+    Lost {
+        asp: u32,
+    },
+    /// The recovery time of an AS is over.
+    Recovery {
+        server: u32,
+    },
+    LinkUp {
+        link: u32,
+    },
+    LinkDown {
+        link: u32,
+    },
+    /// Message of the link side.
+    LinkMessage {
+        message: &'a [u8],
+    },
+}
+
+/// What an event hands back.
+#[repr(C)]
+#[derive(Clone, Copy, PartialEq, Eq, Debug)]
+pub struct Next {
+    /// 0, or the refusal.
+    pub code: u32,
+    /// The number of orders.
+    pub count: u32,
+    pub gateway: Gateway,
+}
+
+/// The list being filled.
+struct Orders<'a> {
+    list: &'a mut [[u32; 4]],
+    count: usize,
+}
+
+impl Orders<'_> {
+    #[inline(always)]
+    fn push(&mut self, addressee: u32, code: u32, subject: u32, value: u32) {
+        self.list[self.count] = [addressee, code, subject, value];
+        self.count += 1;
+    }
+
+    #[inline(always)]
+    fn error(&mut self, p: usize, code: u32) {
+        self.push(p as u32, ERROR, 0, code);
+    }
+
+    /// The same order to several.
+    #[inline(always)]
+    fn push_each(&mut self, addressees: Asps, code: u32, subject: u32, value: u32) {
+        for p in Each(addressees) {
+            self.push(p as u32, code, subject, value);
+        }
+    }
+}
+
+impl Gateway {
+    /// Message of ASP `asp`.
+    pub fn message(mut self, asp: u32, message: &[u8], list: &mut [u32]) -> Next {
+        let code = self.refusal(asp, self.asps);
+        let (code, count) = perform(code, list, |orders| {
+            self.on_message(asp as usize, message, orders)
+        });
+        self.next(code, count)
+    }
+
+    /// The association of ASP `asp` is lost.
+    pub fn lost(mut self, asp: u32, list: &mut [u32]) -> Next {
+        let code = self.refusal(asp, self.asps);
+        let (code, count) = perform(code, list, |orders| self.take_down(asp as usize, orders));
+        self.next(code, count)
+    }
+
+    /// The recovery time of AS `server` is over.
+    pub fn recovery(mut self, server: u32, list: &mut [u32]) -> Next {
+        let code = self.refusal(server, self.ases);
+        let (code, count) = perform(code, list, |orders| {
+            self.end_waiting(server as usize, orders)
+        });
+        self.next(code, count)
+    }
+
+    /// The link at place `link` has come up.
+    pub fn link_up(mut self, link: u32, list: &mut [u32]) -> Next {
+        let code = self.refusal(link, self.links);
+        let (code, count) = perform(code, list, |orders| self.on_link_up(link as usize, orders));
+        self.next(code, count)
+    }
+
+    /// The link at place `link` has gone down.
+    pub fn link_down(mut self, link: u32, list: &mut [u32]) -> Next {
+        let code = self.refusal(link, self.links);
+        let (code, count) = perform(code, list, |orders| {
+            self.on_link_down(link as usize, orders)
+        });
+        self.next(code, count)
+    }
+
+    /// Message of the link side.
+    pub fn link_message(self, message: &[u8], list: &mut [u32]) -> Next {
+        let (code, place, reading) = if self.is_sound() {
+            match self.link_message_place(message) {
+                Some((place, reading)) => (0, place, reading),
+                None => (BAD_EVENT, 0, Reading::default()),
+            }
+        } else {
+            (NOT_SOUND, 0, Reading::default())
+        };
+        let (code, count) = perform(code, list, |orders| {
+            let kind = self::code(MAUP, reading.kind);
+            orders.push_each(self.recipients(place), kind, reading.id, 0);
+        });
+        self.next(code, count)
+    }
+
+    /// The event, whichever it is.
+    pub fn event(self, event: Event, list: &mut [u32]) -> Next {
+        match event {
+            Event::Message { asp, message } => self.message(asp, message, list),
+            Event::Lost { asp } => self.lost(asp, list),
+            Event::Recovery { server } => self.recovery(server, list),
+            Event::LinkUp { link } => self.link_up(link, list),
+            Event::LinkDown { link } => self.link_down(link, list),
+            Event::LinkMessage { message } => self.link_message(message, list),
+        }
+    }
+
+    /// Whether an event is refused for the board or for its index, which must
+    /// be below the count.
+    #[inline(always)]
+    fn refusal(&self, index: u32, count: u8) -> u32 {
+        if !self.is_sound() {
+            NOT_SOUND
+        } else if index >= count as u32 {
+            BAD_EVENT
+        } else {
+            0
+        }
+    }
+
+    #[inline(always)]
+    fn next(self, code: u32, count: u32) -> Next {
+        Next {
+            code,
+            count,
+            gateway: self,
+        }
+    }
+
+    /// The place of the link that a link-side message is about.
+    #[inline]
+    pub(crate) fn link_message_place(&self, message: &[u8]) -> Option<(usize, Reading)> {
+        let reading = read(message);
+        let fits = reading.code == 0
+            && reading.class == MAUP
+            && LINK_SIDE_TYPES >> (reading.kind & 15) & 1 != 0;
+        if !fits {
+            return None;
+        }
+        Some((self.find_link(reading.id)?, reading))
+    }
+
+    fn on_message(&mut self, p: usize, message: &[u8], orders: &mut Orders) {
+        if is_error(message) {
+            return;
+        }
+        let reading = read(message);
+        if reading.code != 0 {
+            return orders.error(p, reading.code);
+        }
+        match code(reading.class, reading.kind) {
+            UP => self.on_up(p, &reading, orders),
+            DOWN => {
+                orders.push(p as u32, DOWN_ACK, 0, 0);
+                self.take_down(p, orders);
+            }
+            BEAT => orders.push(p as u32, BEAT_ACK, 0, 0),
+            BEAT_ACK => {}
+            ACTIVE | INACTIVE => self.on_traffic(p, message, &reading, orders),
+            DATA | ESTABLISH_REQUEST | RELEASE_REQUEST | STATE_REQUEST | RETRIEVAL_REQUEST
+            | DATA_ACK => self.on_link_request(p, &reading, orders),
+            _ => orders.error(p, UNEXPECTED_MESSAGE),
+        }
+    }
+
+    fn on_up(&mut self, p: usize, reading: &Reading, orders: &mut Orders) {
+        if reading.has_asp_id != 0 && reading.asp_id != self.asp_id[p] {
+            return orders.error(p, INVALID_ASP_ID);
+        }
+        orders.push(p as u32, UP_ACK, 0, 0);
+        let ases = self.ases as usize;
+        if (0..ases).any(|a| self.is_active(a, p)) {
+            orders.error(p, UNEXPECTED_MESSAGE);
+        }
+        self.settle_all(p, 1, orders);
+    }
+
+    /// Down, or the association lost.
+    fn take_down(&mut self, p: usize, orders: &mut Orders) {
+        self.settle_all(p, 0, orders);
+    }
+
+    /// p becomes up or down, inactive everywhere, and its ASes change.
+    #[inline]
+    fn settle_all(&mut self, p: usize, up: u8, orders: &mut Orders) {
+        let up_before = self.up_set();
+        self.up[p] = up;
+        let up_after = self.up_set();
+        for a in 0..self.ases as usize {
+            let members = self.members(a);
+            if members & one(p) == 0 {
+                continue;
+            }
+            let actives = self.actives(a);
+            if actives & one(p) != 0 {
+                self.set_actives(a, actives & !one(p));
+                // Losing the last one: waiting, which is pending.
+                if actives == one(p) {
+                    self.waiting[a] = 1;
+                    self.notify_state(a, members & up_after, AsState::Pending, orders);
+                }
+            } else if actives == 0 && self.waiting[a] == 0 && members & up_before == 0 {
+                // It was down; with p up it is inactive.
+                self.notify_state(a, members & up_after, AsState::Inactive, orders);
+            }
+        }
+    }
+
+    #[inline(always)]
+    fn notify_state(&self, a: usize, to: Asps, state: AsState, orders: &mut Orders) {
+        orders.push_each(to, NOTIFY, a as u32, STATE_CHANGE | state as u32);
+    }
+
+    /// Active and Inactive.
+    fn on_traffic(&mut self, p: usize, message: &[u8], reading: &Reading, orders: &mut Orders) {
+        if self.up[p] == 0 {
+            return orders.error(p, UNEXPECTED_MESSAGE);
+        }
+        let named = if reading.ids != 0 {
+            match self.named_ases(p, message) {
+                Ok(named) => named,
+                Err(id) => return orders.push(p as u32, ERROR, id, INVALID_ID),
+            }
+        } else {
+            match self.ases_of(p) {
+                0 => return orders.error(p, UNEXPECTED_MESSAGE),
+                all => all,
+            }
+        };
+        let active = reading.kind == ACTIVE & 0xff;
+        if active && reading.mode != 0 {
+            let differs = |a: usize| self.mode[a] as u32 != reading.mode;
+            if bits(named).any(differs) {
+                return orders.error(p, BAD_MODE);
+            }
+        }
+        if active {
+            orders.push(p as u32, ACTIVE_ACK, 0, 0);
+            for a in bits(named) {
+                self.activate(a, p, orders);
+            }
+        } else {
+            orders.push(p as u32, INACTIVE_ACK, 0, 0);
+            for a in bits(named) {
+                self.deactivate(a, p, orders);
+            }
+        }
+    }
+
+    fn activate(&mut self, a: usize, p: usize, orders: &mut Orders) {
+        let actives = self.actives(a);
+        if actives & one(p) != 0 {
+            return;
+        }
+        if actives == 0 {
+            self.waiting[a] = 0;
+            self.set_actives(a, one(p));
+            let to = self.members(a) & self.up_set();
+            self.notify_state(a, to, AsState::Active, orders);
+        } else if self.mode[a] == OVERRIDE {
+            self.set_actives(a, one(p));
+            orders.push_each(actives, NOTIFY, a as u32, ALTERNATE_ACTIVE);
+        } else {
+            self.set_actives(a, actives | one(p));
+        }
+    }
+
+    fn deactivate(&mut self, a: usize, p: usize, orders: &mut Orders) {
+        let actives = self.actives(a);
+        if actives & one(p) == 0 {
+            return;
+        }
+        self.set_actives(a, actives & !one(p));
+        if actives == one(p) {
+            self.waiting[a] = 1;
+            let to = self.members(a) & self.up_set();
+            self.notify_state(a, to, AsState::Pending, orders);
+        }
+    }
+
+    /// The ASes of p, as bits.
+    #[inline]
+    pub(crate) fn ases_of(&self, p: usize) -> u16 {
+        let mut ases = 0;
+        for (a, members) in self.member.as_chunks::<16>().0.iter().enumerate() {
+            ases |= (members[p] as u16) << a;
+        }
+        ases
+    }
+
+    /// The owners of the identifiers a message names, as bits, or the first
+    /// identifier that is not in the plan or owned by an AS without p.
+    fn named_ases(&self, p: usize, message: &[u8]) -> Result<u16, u32> {
+        let ids = self.link_ids();
+        let allowed = self.ases_of(p);
+        let mut named = 0;
+        // Identifiers often come in order: look at the next place first.
+        let mut place = 0;
+        for param in Params::new(message) {
+            match param.tag {
+                INTERFACE_ID => {
+                    for id in param.value.as_chunks::<4>().0 {
+                        let id = u32::from_be_bytes(*id);
+                        if ids.get(place) != Some(&id) {
+                            place = self.find_link(id).ok_or(id)?;
+                        }
+                        named |= self.owner_bit(place);
+                        if named & !allowed != 0 {
+                            return Err(id);
+                        }
+                        place += 1;
+                    }
+                }
+                INTERFACE_RANGE => {
+                    for pair in param.value.as_chunks::<8>().0 {
+                        let pair = u64::from_be_bytes(*pair);
+                        let (start, stop) = ((pair >> 32) as u32, pair as u32);
+                        if ids.get(place) != Some(&start) {
+                            place = self.first_link_from(start);
+                        }
+                        // Ends at the latest after as many steps as there
+                        // are links.
+                        let mut id = start;
+                        loop {
+                            if ids.get(place) != Some(&id) {
+                                return Err(id);
+                            }
+                            named |= self.owner_bit(place);
+                            if named & !allowed != 0 {
+                                return Err(id);
+                            }
+                            place += 1;
+                            if id == stop {
+                                break;
+                            }
+                            id += 1;
+                        }
+                    }
+                }
+                _ => {}
+            }
+        }
+        Ok(named)
+    }
+
+    /// Messages of class 6 that an ASP sends.
+    fn on_link_request(&mut self, p: usize, reading: &Reading, orders: &mut Orders) {
+        let id = reading.id;
+        if self.up[p] == 0 {
+            return orders.error(p, UNEXPECTED_MESSAGE);
+        }
+        let known = self.find_link(id);
+        let Some(link) = known.filter(|link| self.is_member(self.owner_of(*link), p)) else {
+            return orders.push(p as u32, ERROR, id, INVALID_ID);
+        };
+        if !self.is_active(self.owner_of(link), p) {
+            return orders.error(p, UNEXPECTED_MESSAGE);
+        }
+        let received = code(MAUP, reading.kind);
+        let state = self.state[link];
+        match received {
+            ESTABLISH_REQUEST => match state {
+                IN_SERVICE => orders.push(p as u32, ESTABLISH_CONFIRM, id, 0),
+                IDLE | STOPPING => {
+                    self.state[link] = STARTING;
+                    orders.push(LINK_SIDE, received, id, 0);
+                }
+                _ => {}
+            },
+            RELEASE_REQUEST => match state {
+                IDLE => orders.push(p as u32, RELEASE_CONFIRM, id, 0),
+                STARTING | IN_SERVICE => {
+                    self.state[link] = STOPPING;
+                    orders.push(LINK_SIDE, received, id, 0);
+                }
+                _ => {}
+            },
+            DATA => {
+                if state != IN_SERVICE {
+                    return orders.error(p, UNEXPECTED_MESSAGE);
+                }
+                orders.push(LINK_SIDE, received, id, 0);
+                if reading.has_correlation != 0 {
+                    orders.push(p as u32, DATA_ACK, id, reading.correlation);
+                }
+            }
+            STATE_REQUEST => orders.push(LINK_SIDE, received, id, reading.state),
+            RETRIEVAL_REQUEST => orders.push(LINK_SIDE, received, id, reading.action),
+            // Data Ack: nothing.
+            _ => {}
+        }
+    }
+
+    #[inline(always)]
+    pub(crate) fn owner_of(&self, link: usize) -> usize {
+        self.owner[link] as usize % MAX_ASES
+    }
+
+    /// The AS that owns a link, as a bit.
+    #[inline(always)]
+    pub(crate) fn owner_bit(&self, link: usize) -> u16 {
+        1 << self.owner_of(link)
+    }
+
+    fn end_waiting(&mut self, a: usize, orders: &mut Orders) {
+        if self.waiting[a] == 0 {
+            return;
+        }
+        self.waiting[a] = 0;
+        // Nobody up: down, of which nobody is told.
+        let to = self.members(a) & self.up_set();
+        self.notify_state(a, to, AsState::Inactive, orders);
+    }
+
+    fn on_link_up(&mut self, link: usize, orders: &mut Orders) {
+        if self.state[link] != STARTING {
+            return;
+        }
+        self.state[link] = IN_SERVICE;
+        let to = self.recipients(link);
+        orders.push_each(to, ESTABLISH_CONFIRM, self.link_id[link], 0);
+    }
+
+    fn on_link_down(&mut self, link: usize, orders: &mut Orders) {
+        let kind = match self.state[link] {
+            IDLE => return,
+            STOPPING => RELEASE_CONFIRM,
+            _ => RELEASE_INDICATION,
+        };
+        self.state[link] = IDLE;
+        let to = self.recipients(link);
+        orders.push_each(to, kind, self.link_id[link], 0);
+    }
+}
+
+/// Runs an event that is not refused so far, if the list has room.
+#[inline(always)]
+fn perform(code: u32, list: &mut [u32], run: impl FnOnce(&mut Orders)) -> (u32, u32) {
+    if code != 0 {
+        return (code, 0);
+    }
+    let Some(room) = list.first_chunk_mut::<LIST_WORDS>() else {
+        return (SHORT_LIST, 0);
+    };
+    let mut orders = Orders {
+        list: room.as_chunks_mut::<4>().0,
+        count: 0,
+    };
+    run(&mut orders);
+    (0, orders.count as u32)
+}
+
+/// An Error is never answered, readable or not.
+#[inline(always)]
+pub(crate) fn is_error(message: &[u8]) -> bool {
+    message.len() >= 4 && message[2] == 0 && message[3] == 0
+}
+
+/// The bits of a set of ASes, ascending.
+#[inline(always)]
+pub fn bits(mut set: u16) -> impl Iterator<Item = usize> {
+    std::iter::from_fn(move || {
+        if set == 0 {
+            return None;
+        }
+        let a = set.trailing_zeros() as usize;
+        set &= set - 1;
+        Some(a)
+    })
+}

@@ -1,0 +1,268 @@
+//! The board: what the gateway knows of ASPs, ASes and links.
+
+/// Most ASPs and most ASes.
+pub const MAX_ASPS: usize = 16;
+pub const MAX_ASES: usize = 16;
+pub const MAX_LINKS: usize = 128;
+
+// Traffic modes of an AS.
+pub const OVERRIDE: u8 = 1;
+pub const LOAD_SHARE: u8 = 2;
+pub const BROADCAST: u8 = 3;
+
+// States of a link.
+pub const IDLE: u8 = 0;
+pub const STARTING: u8 = 1;
+pub const IN_SERVICE: u8 = 2;
+pub const STOPPING: u8 = 3;
+
+/// The board with its plan. The place of a pair is 16 times the AS plus the
+/// ASP, so that the ASPs of one AS are 16 bytes in a row.
+#[repr(C)]
+#[derive(Clone, Copy, PartialEq, Eq, Debug)]
+pub struct Gateway {
+    pub asps: u8,
+    pub ases: u8,
+    pub links: u8,
+    pub asp_id: [u32; 16],
+    /// 1 for an ASP that is up.
+    pub up: [u8; 16],
+    /// 1 for an ASP in an AS.
+    pub member: [u8; 256],
+    /// 1 for an ASP active in an AS.
+    pub active: [u8; 256],
+    /// Traffic mode of each AS.
+    pub mode: [u8; 16],
+    /// 1 for an AS that waits for an active ASP.
+    pub waiting: [u8; 16],
+    pub link_id: [u32; 128],
+    /// The AS that owns each link.
+    pub owner: [u8; 128],
+    pub state: [u8; 128],
+}
+
+/// State of an AS, numbered as Notify numbers it.
+#[derive(Clone, Copy, PartialEq, Eq, Debug)]
+#[repr(u32)]
+pub enum AsState {
+    Down = 1,
+    Inactive = 2,
+    Active = 3,
+    Pending = 4,
+}
+
+/// A set of ASPs: 16 bytes, of which byte p is 1 for ASP p.
+pub type Asps = u128;
+
+/// The set of all 16.
+const ALL: Asps = 0x0101_0101_0101_0101_0101_0101_0101_0101;
+
+/// The set of ASP p alone.
+#[inline(always)]
+pub const fn one(p: usize) -> Asps {
+    1 << (8 * p)
+}
+
+/// The members of a set, ascending.
+#[derive(Clone, Copy)]
+pub struct Each(pub Asps);
+
+impl Iterator for Each {
+    type Item = usize;
+
+    #[inline(always)]
+    fn next(&mut self) -> Option<usize> {
+        if self.0 == 0 {
+            return None;
+        }
+        let p = self.0.trailing_zeros() as usize / 8;
+        self.0 &= self.0 - 1;
+        Some(p)
+    }
+}
+
+#[inline(always)]
+fn row(table: &[u8; 256], a: usize) -> Asps {
+    let (rows, _) = table.as_chunks::<16>();
+    Asps::from_le_bytes(rows[a])
+}
+
+impl Gateway {
+    /// The board of zeros, which no plan gives.
+    pub const ZERO: Gateway = Gateway {
+        asps: 0,
+        ases: 0,
+        links: 0,
+        asp_id: [0; 16],
+        up: [0; 16],
+        member: [0; 256],
+        active: [0; 256],
+        mode: [0; 16],
+        waiting: [0; 16],
+        link_id: [0; 128],
+        owner: [0; 128],
+        state: [0; 128],
+    };
+
+    /// The ASPs that are up.
+    #[inline(always)]
+    pub fn up_set(&self) -> Asps {
+        Asps::from_le_bytes(self.up)
+    }
+
+    #[inline(always)]
+    pub fn members(&self, a: usize) -> Asps {
+        row(&self.member, a)
+    }
+
+    #[inline(always)]
+    pub fn actives(&self, a: usize) -> Asps {
+        row(&self.active, a)
+    }
+
+    #[inline(always)]
+    pub fn set_actives(&mut self, a: usize, asps: Asps) {
+        let (rows, _) = self.active.as_chunks_mut::<16>();
+        rows[a] = asps.to_le_bytes();
+    }
+
+    #[inline(always)]
+    pub fn is_member(&self, a: usize, p: usize) -> bool {
+        self.member[16 * a + p] != 0
+    }
+
+    #[inline(always)]
+    pub fn is_active(&self, a: usize, p: usize) -> bool {
+        self.active[16 * a + p] != 0
+    }
+
+    #[inline(always)]
+    pub fn as_state(&self, a: usize) -> AsState {
+        if self.actives(a) != 0 {
+            AsState::Active
+        } else if self.waiting[a] != 0 {
+            AsState::Pending
+        } else if self.members(a) & self.up_set() != 0 {
+            AsState::Inactive
+        } else {
+            AsState::Down
+        }
+    }
+
+    /// The identifiers of the links, ascending.
+    #[inline(always)]
+    pub fn link_ids(&self) -> &[u32] {
+        &self.link_id[..(self.links as usize).min(MAX_LINKS)]
+    }
+
+    /// The place of the first link whose identifier is not below `id`.
+    #[inline]
+    pub fn first_link_from(&self, id: u32) -> usize {
+        self.link_ids().partition_point(|other| *other < id)
+    }
+
+    /// The place of a link, if the plan has it.
+    #[inline]
+    pub fn find_link(&self, id: u32) -> Option<usize> {
+        let place = self.first_link_from(id);
+        (self.link_ids().get(place) == Some(&id)).then_some(place)
+    }
+
+    /// Those that get what comes from a link.
+    #[inline]
+    pub fn recipients(&self, link: usize) -> Asps {
+        let a = self.owner[link] as usize % MAX_ASES;
+        let actives = self.actives(a);
+        if self.mode[a] != LOAD_SHARE || actives == 0 {
+            return actives;
+        }
+        // Drop as many as come before the chosen one, then keep the lowest.
+        let mut chosen = actives;
+        for _ in 0..self.link_id[link] % actives.count_ones() {
+            chosen &= chosen - 1;
+        }
+        chosen & chosen.wrapping_neg()
+    }
+
+    /// Whether the board is sound: what every event asks first. No exit inside
+    /// the loops, so that they take many places at a time.
+    pub fn is_sound(&self) -> bool {
+        let asps = self.asps as usize;
+        let ases = self.ases as usize;
+        let links = self.links as usize;
+        if asps.wrapping_sub(1) >= MAX_ASPS || ases.wrapping_sub(1) >= MAX_ASES {
+            return false;
+        }
+        if links > MAX_LINKS {
+            return false;
+        }
+        self.asps_sound(asps) & self.ases_sound(asps, ases) & self.links_sound(ases, links)
+    }
+
+    /// Identifiers that differ, zeros beyond.
+    #[inline(always)]
+    fn asps_sound(&self, asps: usize) -> bool {
+        let mut beyond = 0;
+        for (p, id) in self.asp_id.iter().enumerate() {
+            beyond |= if p < asps { 0 } else { *id };
+        }
+        // Each is equal to itself and, if it is 0, to the places beyond; to
+        // nothing else.
+        let mut equal = 0;
+        let mut zeros = 0;
+        for id in &self.asp_id[..asps] {
+            for other in &self.asp_id {
+                equal += (id == other) as u32;
+            }
+            zeros += (*id == 0) as u32;
+        }
+        let differ = equal == asps as u32 + zeros * (MAX_ASPS - asps) as u32;
+        (beyond == 0) & differ
+    }
+
+    #[inline(always)]
+    fn ases_sound(&self, asps: usize, ases: usize) -> bool {
+        let planned = ALL & (Asps::MAX >> (8 * (MAX_ASPS - asps)));
+        let up = self.up_set();
+        let mut wrong = up & !planned != 0;
+        for a in 0..ases {
+            let member = self.members(a);
+            let active = self.actives(a);
+            wrong |= member & !planned != 0;
+            wrong |= active & !(member & up) != 0;
+            wrong |= self.mode[a].wrapping_sub(1) > 2;
+            wrong |= (self.mode[a] == OVERRIDE) & (active & active.wrapping_sub(1) != 0);
+            wrong |= self.waiting[a] > (active == 0) as u8;
+        }
+        let mut beyond = 0;
+        for a in ases..MAX_ASES {
+            beyond |= self.members(a) | self.actives(a);
+            beyond |= (self.mode[a] | self.waiting[a]) as Asps;
+        }
+        !wrong & (beyond == 0)
+    }
+
+    #[inline(always)]
+    fn links_sound(&self, ases: usize, links: usize) -> bool {
+        let (ids, ids_beyond) = self.link_id.split_at(links);
+        let (owners, owners_beyond) = self.owner.split_at(links);
+        let (states, states_beyond) = self.state.split_at(links);
+        let mut wrong = false;
+        for (id, next) in ids.iter().zip(ids.iter().skip(1)) {
+            wrong |= id >= next;
+        }
+        let last = owners.iter().fold(0, |last, owner| last.max(*owner));
+        wrong |= last as usize >= ases;
+        // 0 to 3 are all numbers of two bits.
+        wrong |= states.iter().fold(0, |bits, state| bits | state) > STOPPING;
+        let mut beyond = ids_beyond.iter().fold(0, |bits, id| bits | id);
+        beyond |= owners_beyond.iter().fold(0, |bits, owner| bits | owner) as u32;
+        beyond |= states_beyond.iter().fold(0, |bits, state| bits | state) as u32;
+        !wrong & (beyond == 0)
+    }
+}
+
+/// Whether the board is sound.
+pub fn is_sound(gateway: &Gateway) -> bool {
+    gateway.is_sound()
+}

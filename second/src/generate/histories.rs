@@ -1,0 +1,593 @@
+//! Lines of the kind `event`: long histories, each over one board.
+
+use super::message::{self, Message, Piece};
+use super::plans::{self, Plan};
+use super::reading::{self, put_bytes};
+use super::rng::Rng;
+use super::{malformed, MESSAGES};
+use crate::events::{bits, Event, LIST_WORDS};
+use crate::gateway::{Gateway, IDLE, IN_SERVICE, STARTING};
+use crate::script::{put_number, Session};
+use crate::wire::*;
+use std::collections::VecDeque;
+
+/// Lines that are no good events.
+const MALFORMED: [&str; 40] = [
+    "msg",
+    "msg 0",
+    "msg 0 1032",
+    "msg 0 1032 ",
+    "msg 0 1032 0100030100000008 ",
+    "msg 0 1032 0100030100000008 0",
+    "msg 0 1032 010003010000000",
+    "msg 0 1032 010003010000000G",
+    "msg 4294967296 1032 0100030100000008",
+    "msg 0 4294967296 0100030100000008",
+    "msg -1 1032 0100030100000008",
+    "msg 0  1032 0100030100000008",
+    "msg 0 x 0100030100000008",
+    "lost",
+    "lost 0",
+    "lost 0 ",
+    "lost 0 1032 0",
+    "lost 0 1032 ",
+    "lost  0 1032",
+    "recovery 0",
+    "recovery 0 1032 -",
+    "recovery 99999999999 1032",
+    "up 0",
+    "up 0 1032 1",
+    "up - 1032",
+    "down 0",
+    "down 0 1032 -",
+    "down 0 -",
+    "linkmsg 1032",
+    "linkmsg 0 1032 -",
+    "linkmsg - -",
+    "bytes 0 99",
+    "bytes 0 99 state",
+    "bytes 0 lost 0 1032",
+    "bytes 0 99 lost 0",
+    "bytes 0 99 reach lost 0 1032",
+    "reach",
+    "reach lost 0",
+    "reach bytes 0 99 lost 0 1032",
+    "reach reach lost 0 1032",
+];
+
+pub struct History {
+    /// What the script has done so far, so that events can be aimed.
+    session: Session,
+    /// Lines that come next.
+    queue: VecDeque<Vec<u8>>,
+    /// Events left on this board.
+    left: u64,
+    results: Vec<u8>,
+}
+
+impl History {
+    pub fn new() -> Self {
+        History {
+            session: Session::new(),
+            queue: VecDeque::new(),
+            // A few events on the board of zeros come first.
+            left: 3,
+            results: Vec::new(),
+        }
+    }
+
+    pub fn line(&mut self, rng: &mut Rng, line: &mut Vec<u8>) {
+        if let Some(queued) = self.queue.pop_front() {
+            line.extend_from_slice(&queued);
+        } else if self.left == 0 {
+            self.start(rng, line);
+        } else {
+            self.left -= 1;
+            self.any(rng, line);
+        }
+        self.results.clear();
+        self.session.line(line, &mut self.results);
+    }
+
+    /// A new plan.
+    fn start(&mut self, rng: &mut Rng, line: &mut Vec<u8>) {
+        if rng.one_in(20) {
+            // Mostly refused, and then every event is.
+            self.left = rng.range(1, 4);
+            return plans::put(&plans::any(rng), line);
+        }
+        self.left = rng.range(80, 400);
+        let plan = if rng.one_in(12) {
+            self.storm(rng)
+        } else {
+            any_plan(rng)
+        };
+        plans::put(&plan.encode(), line);
+    }
+
+    /// The most orders there can be: all up, one active everywhere, and its
+    /// Up again.
+    fn storm(&mut self, rng: &mut Rng) -> Plan {
+        let links = rng.pick(&[0, 16, 128]);
+        let mut plan = plans::valid(rng, 16, 16, links);
+        for asp in &mut plan.asps {
+            asp.1 = 0xffff;
+        }
+        let who = rng.below(16) as u32;
+        let mut say = |p: u32, kind: (u8, u8)| {
+            let mut line = b"msg ".to_vec();
+            put_number(p, &mut line);
+            line.extend_from_slice(b" 1032 ");
+            put_bytes(&Message::new(kind.0, kind.1, vec![]).encode(), &mut line);
+            self.queue.push_back(line);
+        };
+        for p in 0..16 {
+            say(p, (3, 1));
+        }
+        say(who, (4, 1));
+        let then = rng.pick(&[(3, 1), (3, 1), (3, 2), (4, 2)]);
+        say(who, then);
+        say(rng.below(16) as u32, (4, 1));
+        self.queue.push_back(b"state".to_vec());
+        plan
+    }
+
+    fn any(&mut self, rng: &mut Rng, line: &mut Vec<u8>) {
+        match rng.below(500) {
+            0 => return malformed::line(rng, line),
+            1..=3 => return line.extend_from_slice(rng.pick(&MALFORMED).as_bytes()),
+            4 => return reading::line(rng, line),
+            5..=34 => return line.extend_from_slice(b"state"),
+            _ => {}
+        }
+        let gateway = *self.session.gateway();
+        let event = Made::any(rng, &gateway);
+        let list = match rng.below(60) {
+            0 => 1031,
+            1 => rng.pick(&[0, 4, 1028, 1030]),
+            2 | 3 => rng.pick(&[1033, 2048, 2049, u32::MAX]),
+            _ => 1032,
+        };
+        match rng.below(10) {
+            0 => line.extend_from_slice(b"reach "),
+            1 | 2 => put_bytes_command(rng, &gateway, &event, line),
+            _ => {}
+        }
+        event.put(list, line);
+        if rng.one_in(400) {
+            malformed::damage(rng, line);
+        }
+    }
+}
+
+fn any_plan(rng: &mut Rng) -> Plan {
+    let (asps, ases, links) = match rng.below(12) {
+        0 => (16, 16, 128),
+        1 => (1, 1, rng.below(3)),
+        2 => (rng.range(1, 16), rng.range(1, 16), rng.below(129)),
+        3 => (3, 3, 0),
+        _ => (rng.range(2, 5), rng.range(1, 5), rng.range(2, 24)),
+    };
+    let mut plan = plans::valid(rng, asps as usize, ases as usize, links as usize);
+    // Often all of one mode, so that each is seen at length.
+    if rng.one_in(3) {
+        let mode = rng.range(1, 3) as u32;
+        plan.modes.fill(mode);
+    }
+    plan
+}
+
+/// An event that owns its message.
+enum Made {
+    Message(u32, Vec<u8>),
+    Lost(u32),
+    Recovery(u32),
+    LinkUp(u32),
+    LinkDown(u32),
+    LinkMessage(Vec<u8>),
+}
+
+impl Made {
+    fn any(rng: &mut Rng, gateway: &Gateway) -> Made {
+        match rng.below(100) {
+            0 | 1 => Made::Lost(index(rng, gateway.asps)),
+            2..=7 => Made::Recovery(waiting_server(rng, gateway)),
+            8..=15 => Made::LinkUp(link_in(rng, gateway, STARTING)),
+            16..=19 => {
+                let state = rng.below(4) as u8;
+                Made::LinkDown(link_in(rng, gateway, state))
+            }
+            20..=29 => Made::LinkMessage(link_message(rng, gateway)),
+            _ => {
+                let p = index(rng, gateway.asps);
+                Made::Message(p, asp_message(rng, gateway, p))
+            }
+        }
+    }
+
+    fn event(&self) -> Event<'_> {
+        match self {
+            Made::Message(asp, message) => Event::Message { asp: *asp, message },
+            Made::Lost(asp) => Event::Lost { asp: *asp },
+            Made::Recovery(server) => Event::Recovery { server: *server },
+            Made::LinkUp(link) => Event::LinkUp { link: *link },
+            Made::LinkDown(link) => Event::LinkDown { link: *link },
+            Made::LinkMessage(message) => Event::LinkMessage { message },
+        }
+    }
+
+    /// The line of the event.
+    fn put(&self, list: u32, line: &mut Vec<u8>) {
+        let (name, index, message): (&[u8], _, _) = match self {
+            Made::Message(asp, message) => (b"msg ", Some(asp), Some(message)),
+            Made::Lost(asp) => (b"lost ", Some(asp), None),
+            Made::Recovery(server) => (b"recovery ", Some(server), None),
+            Made::LinkUp(link) => (b"up ", Some(link), None),
+            Made::LinkDown(link) => (b"down ", Some(link), None),
+            Made::LinkMessage(message) => (b"linkmsg ", None, Some(message)),
+        };
+        line.extend_from_slice(name);
+        if let Some(index) = index {
+            put_number(*index, line);
+            line.push(b' ');
+        }
+        put_number(list, line);
+        if let Some(message) = message {
+            line.push(b' ');
+            put_bytes(message, line);
+        }
+    }
+}
+
+/// `bytes` with a place among the orders, or just beyond, and a buffer around
+/// the length of the order.
+fn put_bytes_command(rng: &mut Rng, gateway: &Gateway, event: &Made, line: &mut Vec<u8>) {
+    let mut list = [0; LIST_WORDS];
+    let count = gateway.event(event.event(), &mut list).count as u64;
+    let place = match rng.below(30) {
+        0 => rng.pick(&[count as u32 + 1, 257, 258, 259, u32::MAX]),
+        1..=3 => count as u32,
+        _ => rng.below(count.max(1)) as u32,
+    };
+    let mut buffer = [0; MAX_MESSAGE];
+    let length = gateway
+        .order_bytes(event.event(), place, &mut buffer)
+        .length;
+    let room = match rng.below(10) {
+        0 | 1 => length.saturating_sub(1),
+        2 => rng.below(length as u64 + 1) as u32,
+        3 => rng.pick(&[0, 7, 8, 2048, 8192, u32::MAX]),
+        4 => length + 1,
+        _ => length,
+    };
+    line.extend_from_slice(b"bytes ");
+    put_number(place, line);
+    line.push(b' ');
+    put_number(room, line);
+    line.push(b' ');
+}
+
+/// An index below the count, seldom one beyond.
+fn index(rng: &mut Rng, count: u8) -> u32 {
+    if count == 0 || rng.one_in(80) {
+        return rng.pick(&[count as u32, count as u32 + 1, 16, 128, 255, 256, u32::MAX]);
+    }
+    rng.below(count as u64) as u32
+}
+
+/// Mostly an AS that waits, if there is one.
+fn waiting_server(rng: &mut Rng, gateway: &Gateway) -> u32 {
+    let waiting = gateway.waiting.iter().enumerate();
+    let waiting: Vec<u32> = waiting
+        .filter(|(_, mark)| **mark != 0)
+        .map(|(a, _)| a as u32)
+        .collect();
+    if waiting.is_empty() || rng.one_in(3) {
+        return index(rng, gateway.ases);
+    }
+    rng.pick(&waiting)
+}
+
+/// Mostly a link in this state, if there is one.
+fn link_in(rng: &mut Rng, gateway: &Gateway, state: u8) -> u32 {
+    let states = gateway.state[..gateway.links as usize].iter().enumerate();
+    let links: Vec<u32> = states
+        .filter(|(_, other)| **other == state)
+        .map(|(i, _)| i as u32)
+        .collect();
+    if links.is_empty() || rng.one_in(4) {
+        return index(rng, gateway.links);
+    }
+    rng.pick(&links)
+}
+
+/// An identifier: of a link that passes the first test that any link passes,
+/// of any link, or unknown.
+fn identifier(rng: &mut Rng, gateway: &Gateway, tests: &[&dyn Fn(usize) -> bool]) -> u32 {
+    let ids = gateway.link_ids();
+    match rng.below(40) {
+        0 => return rng.word(),
+        1 if !ids.is_empty() => return rng.pick(ids).wrapping_add(1),
+        2 if !ids.is_empty() => return rng.pick(ids).wrapping_sub(1),
+        3 | 4 if !ids.is_empty() => return rng.pick(ids),
+        _ => {}
+    }
+    for test in tests {
+        let fit = (0..ids.len()).filter(|i| test(*i)).map(|i| ids[i]);
+        let fit: Vec<u32> = fit.collect();
+        if !fit.is_empty() {
+            return rng.pick(&fit);
+        }
+    }
+    match ids {
+        [] => rng.below(5) as u32,
+        ids => rng.pick(ids),
+    }
+}
+
+/// Whether ASP p is in the AS that owns a link.
+fn serves(gateway: &Gateway, p: u32, link: usize) -> bool {
+    p < 16 && gateway.is_member(gateway.owner[link] as usize, p as usize)
+}
+
+/// A range of identifiers, mostly a run of links that p serves, with its ends
+/// now and then one off.
+fn range(rng: &mut Rng, gateway: &Gateway, p: u32) -> (u32, u32) {
+    let ids = gateway.link_ids();
+    if ids.is_empty() || rng.one_in(20) {
+        let (a, b) = (rng.word(), rng.word());
+        return (a.min(b), a.max(b));
+    }
+    if rng.one_in(40) {
+        return rng.pick(&[
+            (0, u32::MAX),
+            (0, 0),
+            (u32::MAX, u32::MAX),
+            (ids[0], u32::MAX),
+        ]);
+    }
+    let start = identifier(rng, gateway, &[&|link| serves(gateway, p, link)]);
+    let mut stop = start;
+    // How far the run goes.
+    let mut place = gateway.first_link_from(start);
+    while ids.get(place) == Some(&stop) && serves(gateway, p, place) {
+        place += 1;
+        if stop == u32::MAX || ids.get(place) != Some(&(stop + 1)) {
+            break;
+        }
+        if !serves(gateway, p, place) && !rng.one_in(8) {
+            break;
+        }
+        stop += 1;
+        if rng.one_in(12) {
+            break;
+        }
+    }
+    match rng.below(12) {
+        0 => (start, stop.saturating_add(1)),
+        1 => (start.saturating_sub(1), stop),
+        2 => (start, start),
+        _ => (start, stop),
+    }
+}
+
+/// Parameters of identifiers, lists and ranges mixed.
+fn ids(rng: &mut Rng, gateway: &Gateway, p: u32) -> Vec<Piece> {
+    let mut pieces = Vec::new();
+    for _ in 0..rng.pick(&[1, 1, 1, 2, 3]) {
+        let count = rng.pick(&[1, 1, 1, 2, 2, 5]);
+        let mut value = Vec::new();
+        let tag = rng.pick(&[INTERFACE_ID, INTERFACE_RANGE]);
+        for _ in 0..count {
+            if tag == INTERFACE_ID {
+                let id = identifier(rng, gateway, &[&|link| serves(gateway, p, link)]);
+                value.extend_from_slice(&id.to_be_bytes());
+            } else {
+                let (start, stop) = range(rng, gateway, p);
+                value.extend_from_slice(&start.to_be_bytes());
+                value.extend_from_slice(&stop.to_be_bytes());
+            }
+        }
+        pieces.push(Piece::new(tag, value));
+    }
+    pieces
+}
+
+/// What an ASP sends: aimed at what it can do, often enough at what it can't.
+fn asp_message(rng: &mut Rng, gateway: &Gateway, p: u32) -> Vec<u8> {
+    match rng.below(100) {
+        // Damaged or strange messages.
+        0..=2 => return message::any(rng),
+        3 => {
+            return rng
+                .pick::<&[u8]>(&[&[], &[1], &[1, 0], &[1, 0, 0], &[1, 0, 3, 1]])
+                .to_vec()
+        }
+        // Errors, readable or not, of any length.
+        4 => {
+            let size = rng.pick(&[4, 5, 8, 16, 17]);
+            let mut bytes = rng.bytes(size);
+            if rng.one_in(2) {
+                bytes = message::valid(rng, 0, 0).encode();
+            }
+            bytes[2] = 0;
+            bytes[3] = rng.pick(&[0, 0, 0, 1]);
+            return bytes;
+        }
+        5 if rng.one_in(20) => return huge(rng, gateway),
+        // Any type, on any identifier.
+        6..=8 => {
+            let (class, kind) = rng.pick(&MESSAGES);
+            return aimed(rng, gateway, p, class, kind).encode();
+        }
+        _ => {}
+    }
+    let (class, kind) = likely(rng, gateway, p);
+    let mut message = aimed(rng, gateway, p, class, kind);
+    if rng.one_in(25) {
+        message::damage_pieces(rng, &mut message);
+    }
+    let mut bytes = message.encode();
+    if rng.one_in(40) {
+        message::damage_bytes(rng, &mut bytes);
+    }
+    bytes
+}
+
+/// A type that makes sense for the state of p, mostly.
+fn likely(rng: &mut Rng, gateway: &Gateway, p: u32) -> (u8, u8) {
+    let q = p as usize % 16;
+    let mut links = 0..gateway.links as usize;
+    // Whether there is a link that p can do something with.
+    let busy = links.any(|link| gateway.is_active(gateway.owner[link] as usize, q));
+    let roll = rng.below(100);
+    if gateway.up[q] == 0 && roll < 75 {
+        return (3, 1);
+    }
+    if !busy && gateway.ases_of(q) != 0 && roll < 85 {
+        let active = (0..gateway.ases as usize).any(|a| gateway.is_active(a, q));
+        return if active { (4, 2) } else { (4, 1) };
+    }
+    match roll {
+        0..=1 => (3, 1),
+        2..=3 => (3, 2),
+        4..=8 => (3, 3),
+        9 => (3, 6),
+        10..=24 => (4, 1),
+        25..=33 => (4, 2),
+        34..=52 => (6, 2),
+        53..=60 => (6, 4),
+        61..=80 => (6, 1),
+        81..=87 => (6, 7),
+        88..=94 => (6, 10),
+        _ => (6, 15),
+    }
+}
+
+/// A good message of this type, about identifiers of the plan.
+fn aimed(rng: &mut Rng, gateway: &Gateway, p: u32, class: u8, kind: u8) -> Message {
+    let mut message = message::valid(rng, class, kind);
+    let q = p as usize % 16;
+    match (class, kind) {
+        (3, 1) => {
+            let right = gateway.asp_id[q];
+            for piece in &mut message.pieces {
+                if piece.tag == ASP_ID && !rng.one_in(8) {
+                    piece.value = right.to_be_bytes().to_vec();
+                }
+            }
+        }
+        (4, _) => {
+            let mut links = 0..gateway.links as usize;
+            let serves_any = links.any(|link| serves(gateway, p, link));
+            let none = rng.one_in(3) || (!serves_any && !rng.one_in(8));
+            let is_id = |tag: u16| tag == INTERFACE_ID || tag == INTERFACE_RANGE;
+            message.pieces.retain(|piece| !is_id(piece.tag));
+            if !none {
+                message.pieces.extend(ids(rng, gateway, p));
+            }
+            fit_mode(rng, gateway, q, none, &mut message);
+            rng.shuffle(&mut message.pieces);
+        }
+        (6, _) => {
+            // Data goes to links in service, mostly where p is active.
+            let active = |link: usize| gateway.is_active(gateway.owner[link] as usize, q);
+            let fits = |link: usize| match kind {
+                1 => gateway.state[link] == IN_SERVICE && active(link),
+                2 => gateway.state[link] == IDLE && active(link),
+                _ => active(link),
+            };
+            let member = |link: usize| serves(gateway, p, link);
+            let id = identifier(rng, gateway, &[&fits, &active, &member]);
+            message.pieces[0].value = id.to_be_bytes().to_vec();
+        }
+        _ => {}
+    }
+    // Long texts would only make long lines here.
+    for piece in &mut message.pieces {
+        if matches!(
+            piece.tag,
+            INFO_STRING | DIAGNOSTIC | HEARTBEAT_DATA | DATA1 | DATA2
+        ) {
+            piece.value.truncate(24);
+        }
+    }
+    message
+}
+
+/// Makes the mode, if one is given, mostly that of the ASes named.
+fn fit_mode(rng: &mut Rng, gateway: &Gateway, q: usize, none: bool, message: &mut Message) {
+    let mut mode = None;
+    for piece in &message.pieces {
+        if let (INTERFACE_ID | INTERFACE_RANGE, Some(link)) =
+            (piece.tag, gateway.find_link(be32(&piece.value)))
+        {
+            mode = Some(gateway.mode[gateway.owner[link] as usize]);
+        }
+    }
+    if none {
+        mode = bits(gateway.ases_of(q)).next().map(|a| gateway.mode[a]);
+    }
+    let Some(mode) = mode else {
+        return;
+    };
+    for piece in &mut message.pieces {
+        if piece.tag == TRAFFIC_MODE && !rng.one_in(6) {
+            piece.value = (mode as u32).to_be_bytes().to_vec();
+        }
+    }
+}
+
+/// Long messages: a full list of identifiers, a Beat of 2,048 bytes, one of
+/// more.
+fn huge(rng: &mut Rng, gateway: &Gateway) -> Vec<u8> {
+    let ids = gateway.link_ids();
+    match rng.below(3) {
+        0 if !ids.is_empty() => {
+            let value = (0..500)
+                .flat_map(|i| ids[i % ids.len()].to_be_bytes())
+                .collect();
+            Message::new(4, 1, vec![Piece::new(INTERFACE_ID, value)]).encode()
+        }
+        1 => {
+            let size = rng.range(2033, 2040) as usize;
+            let data = Piece::new(HEARTBEAT_DATA, rng.bytes(size));
+            Message::new(3, 3, vec![data]).encode()
+        }
+        _ => {
+            let mut bytes = vec![0; rng.range(2047, 2060) as usize];
+            bytes[2] = rng.pick(&[0, 0, 3]);
+            bytes
+        }
+    }
+}
+
+/// What the link side sends.
+fn link_message(rng: &mut Rng, gateway: &Gateway) -> Vec<u8> {
+    if rng.one_in(25) {
+        return message::any(rng);
+    }
+    let kind = if rng.one_in(12) {
+        rng.range(1, 15) as u8
+    } else {
+        rng.pick(&[1, 1, 8, 9, 11, 12, 13, 14])
+    };
+    let mut message = message::valid(rng, 6, kind);
+    let has_actives = |link: usize| gateway.recipients(link) != 0;
+    let id = identifier(rng, gateway, &[&has_actives]);
+    message.pieces[0].value = id.to_be_bytes().to_vec();
+    for piece in &mut message.pieces {
+        if matches!(piece.tag, DATA1 | DATA2) && !rng.one_in(50) {
+            piece.value.truncate(24);
+        }
+    }
+    // What must not go on: spare and padding.
+    if rng.one_in(3) {
+        message.spare = rng.byte();
+        message.padding = rng.byte();
+    }
+    if rng.one_in(25) {
+        message::damage_pieces(rng, &mut message);
+    }
+    message.encode()
+}

@@ -1,0 +1,68 @@
+//! Generated scripts. The same seed, count and kind always give the same
+//! lines.
+
+mod histories;
+mod malformed;
+mod message;
+mod plans;
+mod reading;
+mod rng;
+mod writing;
+
+use histories::History;
+use message::MESSAGES;
+pub use rng::Rng;
+use std::io;
+
+#[derive(Clone, Copy, PartialEq, Eq, Debug)]
+pub enum Kind {
+    /// `read` and `show`.
+    Read,
+    /// `write`, with some reading.
+    Write,
+    /// `plan` and `state`.
+    Plan,
+    /// The six events, `bytes`, `reach` and `state`.
+    Event,
+    /// Malformed lines of every sort, also with bytes that are no text.
+    Bad,
+}
+
+impl Kind {
+    pub const NAMES: [&'static str; 5] = ["read", "write", "plan", "event", "bad"];
+
+    pub fn named(name: &str) -> Option<Kind> {
+        match name {
+            "read" => Some(Kind::Read),
+            "write" => Some(Kind::Write),
+            "plan" => Some(Kind::Plan),
+            "event" => Some(Kind::Event),
+            "bad" => Some(Kind::Bad),
+            _ => None,
+        }
+    }
+}
+
+/// Gives `lines` lines, without newlines, to `take`.
+pub fn generate(
+    seed: u64,
+    lines: u64,
+    kind: Kind,
+    take: &mut dyn FnMut(&[u8]) -> io::Result<()>,
+) -> io::Result<()> {
+    let mut rng = Rng::new(seed);
+    let mut history = History::new();
+    let mut line = Vec::new();
+    for _ in 0..lines {
+        line.clear();
+        match kind {
+            Kind::Read => reading::line(&mut rng, &mut line),
+            Kind::Write => writing::line(&mut rng, &mut line),
+            Kind::Plan => plans::line(&mut rng, &mut line),
+            Kind::Event => history.line(&mut rng, &mut line),
+            Kind::Bad => malformed::any_line(&mut rng, &mut line),
+        }
+        take(&line)?;
+    }
+    Ok(())
+}
