@@ -213,7 +213,7 @@ fn end_of(all: bool, sequence: u32) -> u32
 }
 
 // Check 8.
-fn end_code(row: usize, c: u8, t: u8, met: &[bool; 32], words: &[u32; 32]) -> u32
+pub fn end_code(row: usize, c: u8, t: u8, met: &[bool; 32], words: &[u32; 32]) -> u32
     requires { ⌜ row < 17 ⌝ }
     ensures { λ r. ⌜ r ≡ endAt row c t (now (met .entry)) (now (words .entry)) ⌝ }
 {
@@ -258,7 +258,7 @@ fn head_of(v: &[u8]) -> u32
 }
 
 // The number kept of a slot is that of its first parameter.
-fn kept(again: bool, old: u32, v: &[u8]) -> u32
+pub fn kept(again: bool, old: u32, v: &[u8]) -> u32
     ensures { λ r. ⌜ r ≡ cond again old (head (now (v .entry))) ⌝ }
 {
     if again {
