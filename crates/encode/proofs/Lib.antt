@@ -1,0 +1,4 @@
+pub mod Lists
+pub mod Puts
+pub mod Verdicts
+pub mod Writes
