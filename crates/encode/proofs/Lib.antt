@@ -2,3 +2,5 @@ pub mod Lists
 pub mod Puts
 pub mod Verdicts
 pub mod Writes
+pub mod Plain
+pub mod RoundTrip
