@@ -14,7 +14,7 @@ use Rattle.parameter.specs.Table.{table, hasClass, rowIn}
 use Rattle.message.specs.Verdict.{_orElse_, _if_, verdict}
 use Rattle.put.specs.Bytes.{overlay, headBytes, parsBytes}
 use Rattle.encode.specs.Encode.{sizeOf, encode, parsIn, whole}
-use Rattle.encode.specs.Write.{sizeIf, listVerdict, writeCode, Sized, Fits, Emits, Writes}
+use Rattle.encode.specs.Write.{sizeIf, listVerdict, roomCode, writeCode, Sized, Fits, Emits, Writes}
 use Rattle.encode.specs.declared.Written.{Written}
 use Rattle.encode.proofs.Lists.{size-some}
 use Rattle.encode.proofs.Verdicts.{length-encode, size-list, list-verdict}
@@ -31,6 +31,12 @@ if-none n false e = refl
 or-assoc : (a b c : ℕ) → ((a orElse b) orElse c) ≡ a orElse (b orElse c)
 or-assoc zero b c = refl
 or-assoc (suc a) b c = refl
+
+-- the room is asked last
+room-same : (code n m : ℕ) → roomCode code n m ≡ code orElse (103 if ltb m n)
+unfolding roomCode
+room-same zero n m = refl
+room-same (suc code) n m = rw (ne-eqb (suc code) 0 (λ e. omega arith))
 
 -- a header with the right length, and the parameters
 pub encode-sized : (c t : ℕ) (ps : List Par) (n : ℕ) → n ≡ sizeOf ps → headBytes c t n ++ parsBytes ps ≡ encode c t ps
@@ -50,7 +56,10 @@ pub emits-all : (code n c t : ℕ) (ps : List Par) (out out′ : List ℕ) → c
 emits-all code n c t ps out out′ e b = record { code-is = refl; length-is = rw (eq-eqb code 0 e); bytes-are = rw (eq-eqb code 0 e) b }
 
 module _ (c t : ℕ) (ts ns vs out : List ℕ) (size code r : ℕ) (es : size ≡ sizeIf (length ts) ns (length vs))
-    (ec : code ≡ listVerdict size (hasClass table c) (rowIn table c t) c t (parsIn ts ns vs)) (er : r ≡ code orElse (103 if ltb (length out) size)) where
+    (ec : code ≡ listVerdict size (hasClass table c) (rowIn table c t) c t (parsIn ts ns vs)) (er : r ≡ roomCode code size (length out)) where
+  first-of : r ≡ code orElse (103 if ltb (length out) size)
+  first-of = er ∙ room-same code size (length out)
+
   -- a list without a length is refused
   none-refused : size ≡ 0 → code ≡ 7
   unfolding listVerdict
@@ -65,7 +74,7 @@ module _ (c t : ℕ) (ts ns vs out : List ℕ) (size code r : ℕ) (es : size �
   -- where the number is 0, the message fits
   pub writes-fits : r ≡ 0 → Fits ts ns vs size out
   writes-fits z =
-      let b = or-none code (103 if ltb (length out) size) (sym er ∙ z) in
+      let b = or-none code (103 if ltb (length out) size) (sym first-of ∙ z) in
       record { sized = code-sized (b .0); fits = ltb-false (length out) size (if-none 102 (ltb (length out) size) (b .1)) }
 
   abbrev e : List ℕ
@@ -86,7 +95,7 @@ module _ (c t : ℕ) (ts ns vs out : List ℕ) (size code r : ℕ) (es : size �
   code-of-all : r ≡ writeCode c t ts ns vs (length out)
   unfolding writeCode
   code-of-all =
-      er ∙ by-length
+      first-of ∙ by-length
       ∙ ap (λ (x : ℕ). x orElse (103 if ltb (length out) (length e))) (ec ∙ ap (λ (n : ℕ). listVerdict n (hasClass table c) (rowIn table c t) c t (parsIn ts ns vs)) es ∙ list-verdict c t ts ns vs)
       ∙ or-assoc (7 if not (whole ts ns vs)) (verdict e) (103 if ltb (length out) (length e))
 

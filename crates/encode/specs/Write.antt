@@ -62,6 +62,10 @@ rowCode i c t ps = check7 i ps orElse check8 i c t ps
 unfoldable pub listVerdict : ℕ → Bool → ℕ → ℕ → ℕ → List Par → ℕ
 listVerdict n listed i c t ps = cond (eqb n 0) 7 (cond (not listed) 3 (cond (eqb i 17) 4 (rowCode i c t ps)))
 
+-- the number, then 103 where a buffer of m bytes is short for n
+unfoldable pub roomCode : ℕ → ℕ → ℕ → ℕ
+roomCode code n m = cond (eqb code 0) (cond (ltb m n) 103 0) code
+
 -- what is written where the number is known
 pub record Emits (code n c t : ℕ) (ps : List Par) (out : List ℕ) (r : Written) (out′ : List ℕ) : Type 0 where
   pub code-is : r .code ≡ code

@@ -2,12 +2,10 @@
 ghost use mathlib.Core.Path.{_≡_};
 ghost use Prim.Native.Nat.{_+_, _≤_, _<_};
 ghost use lib.ListN.{length};
-ghost use lib.Dec.{ltb};
 ghost use Rattle.parameter.specs.Table.{table, hasClass, rowIn};
-ghost use Rattle.message.specs.Verdict.{_orElse_, _if_};
 ghost use Rattle.put.specs.Bytes.{overlay, parsBytes};
 ghost use Rattle.encode.specs.Encode.{encode, parsIn};
-ghost use Rattle.encode.specs.Write.{sizeIf, Lent, Fits, rowCode, listVerdict, Emits, Writes};
+ghost use Rattle.encode.specs.Write.{sizeIf, Lent, Fits, rowCode, listVerdict, roomCode, Emits, Writes};
 
 // What a write did. A refused list has its number in `code`, and length 0.
 #[repr(C)]
@@ -98,11 +96,11 @@ fn check(
 }
 
 // The reader's number, then 103 where a buffer of so many bytes is short.
-fn with_room(code: u32, size: usize, room: usize) -> u32
-    ensures { λ r. ⌜ r ≡ code orElse (103 if ltb room size) ⌝ }
+fn with_room(verdict: u32, size: usize, room: usize) -> u32
+    ensures { λ r. ⌜ r ≡ roomCode verdict size room ⌝ }
 {
-    if code != 0 {
-        return code;
+    if verdict != 0 {
+        return verdict;
     }
     if room < size {
         return 103;
@@ -145,7 +143,7 @@ fn put_message(
 
 // Nothing where the number is a refusal, else the message.
 fn emit(
-    code: u32,
+    refusal: u32,
     size: usize,
     class: u8,
     kind: u8,
@@ -154,14 +152,20 @@ fn emit(
     values: &[u8],
     out: &mut [u8],
 ) -> Written
-    requires { ⌜ (code ≡ 0 → Fits (now tags) (now lens) (now values) size (now out)) ⌝ }
-    ensures { λ r. ⌜ Emits code size class kind (parsIn (now (tags .entry)) (now (lens .entry)) (now (values .entry))) (now (out .entry)) r (now (out .exit)) ⌝ }
+    requires { ⌜ (refusal ≡ 0 → Fits (now tags) (now lens) (now values) size (now out)) ⌝ }
+    ensures { λ r. ⌜ Emits refusal size class kind (parsIn (now (tags .entry)) (now (lens .entry)) (now (values .entry))) (now (out .entry)) r (now (out .exit)) ⌝ }
 {
-    if code != 0 {
-        return Written { code, length: 0 };
+    if refusal != 0 {
+        return Written {
+            code: refusal,
+            length: 0,
+        };
     }
     put_message(out, size, class, kind, tags, lens, values);
-    Written { code, length: size }
+    Written {
+        code: refusal,
+        length: size,
+    }
 }
 
 // The number of a list: the reader's.
