@@ -1,0 +1,6 @@
+pub mod Lists
+pub mod Puts
+pub mod Verdicts
+pub mod Writes
+pub mod Plain
+pub mod RoundTrip
