@@ -4,3 +4,4 @@ pub mod Verdicts
 pub mod Writes
 pub mod Plain
 pub mod RoundTrip
+pub mod Samples

@@ -13,6 +13,7 @@ unfoldable pub sizeOf : List Par → ℕ
 sizeOf ps = 8 + length (parsBytes ps)
 
 -- "Given class, type and a list of tags and values, the writer keeps their order and writes spare and padding as zero."
+-- It is defined for every list: one with a value that a 16-bit length cannot say is over 2,048 bytes long, which the reader's check 1 refuses.
 unfoldable pub encode : ℕ → ℕ → List Par → List ℕ
 encode c t ps = headBytes c t (sizeOf ps) ++ parsBytes ps
 

@@ -47,7 +47,7 @@ pub record Lent (ts ns vs : List ℕ) : Type 0 where
 pub record Sized (ts ns vs : List ℕ) (n : ℕ) : Type 0 where
   pub lent : Lent ts ns vs
   pub size-is : n ≡ 8 + sizes ns
-  pub small : n ≤ 2048
+  pub small : n ≤ most
 
 -- and a buffer that has room for it
 pub record Fits (ts ns vs : List ℕ) (n : ℕ) (out : List ℕ) : Type 0 where

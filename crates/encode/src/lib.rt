@@ -70,7 +70,7 @@ fn list_code(row: usize, class: u8, kind: u8, tags: &[u16], lens: &[u32], values
 }
 
 // The verdict on the message of a list, of its length, whether the class is listed, and the row.
-fn check(
+fn verdict_of(
     size: usize,
     listed: bool,
     row: usize,
@@ -173,7 +173,7 @@ fn code_of(size: usize, class: u8, kind: u8, tags: &[u16], lens: &[u32], values:
     requires { ⌜ size ≡ sizeIf (length (now tags)) (now lens) (length (now values)) ⌝ }
     ensures { λ r. ⌜ r ≡ listVerdict size (hasClass table class) (rowIn table class kind) class kind (parsIn (now (tags .entry)) (now (lens .entry)) (now (values .entry))) ⌝ }
 {
-    check(
+    verdict_of(
         size,
         parameter::class_ok(class),
         parameter::row_of(class, kind),

@@ -11,12 +11,12 @@ class-ok-requires c κs = search needs
 row-of-requires : tie.Need-row-of-requires
 row-of-requires c κs = search needs
 
-check-requires : tie.Need-check-requires
+verdict-of-requires : tie.Need-verdict-of-requires
 unfolding table
-check-requires c κs = let m : c .row-of .result ≤ 17 = rw (c .row-of .ensures) (row-most table _ _) in (m, c .before .before .before .before .before .pre)
+verdict-of-requires c κs = let m : c .row-of .result ≤ 17 = rw (c .row-of .ensures) (row-most table _ _) in (m, c .before .before .before .before .before .pre)
 
 returns : tie.Need-returns
 returns c = cc
 
 pub code-of-spec : {M : Type 1} → statement M
-code-of-spec = tie.close (tie.spec class-ok-requires row-of-requires check-requires returns)
+code-of-spec = tie.close (tie.spec class-ok-requires row-of-requires verdict-of-requires returns)

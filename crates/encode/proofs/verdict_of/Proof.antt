@@ -2,8 +2,8 @@ use native.Mathlib.Omega.{arith}
 use Rattle.encode.proofs.Lists.{size-some}
 use Rattle.encode.specs.Write.{listVerdict}
 use Rattle.laws.specs.Choice.{choices}
-use Rattle.encode.proofs.check.Statement.{statement}
-use Rattle.encode.proofs.check.Tie as tie
+use Rattle.encode.proofs.verdict_of.Statement.{statement}
+use Rattle.encode.proofs.verdict_of.Tie as tie
 
 returns : tie.Need-returns
 unfolding listVerdict
@@ -24,5 +24,5 @@ returns-4 : tie.Need-returns-4
 unfolding listVerdict
 returns-4 c = search choices depth 9
 
-pub check-spec : {M : Type 1} → statement M
-check-spec = tie.close (tie.spec returns returns-2 returns-3 list-code-requires returns-4)
+pub verdict-of-spec : {M : Type 1} → statement M
+verdict-of-spec = tie.close (tie.spec returns returns-2 returns-3 list-code-requires returns-4)
