@@ -13,7 +13,8 @@ use Rattle.wire.specs.Number.{be}
 use Rattle.wire.specs.Walk.{Par, Walk, walk}
 use Rattle.wire.proofs.Number.{be-two, be-four}
 use Rattle.parameter.specs.Table.{table, hasClass, rowIn}
-use Rattle.message.specs.Verdict.{_if_, most, check1, check2, check3, check4, check5, check6, parsCode, lastChecks, verdict}
+use Rattle.laws.specs.Choice.{_if_}
+use Rattle.message.specs.Verdict.{most, check1, check2, check3, check4, check5, check6, parsCode, lastChecks, verdict}
 use Rattle.message.specs.Meaning.{meaning, outcome, readingOf}
 use Rattle.put.specs.Bytes.{overlay, four, headBytes, parsBytes}
 use Rattle.put.proofs.Sets.{take-over}

@@ -13,7 +13,8 @@ use Rattle.wire.specs.Number.{be}
 use Rattle.wire.specs.Walk.{Par, Walk, walk}
 use Rattle.wire.proofs.Number.{be-four}
 use Rattle.parameter.specs.Table.{table, hasClass, rowIn}
-use Rattle.message.specs.Verdict.{_orElse_, _if_, most, check1, check2, check3, check4, check5, parsCode, lastChecks, verdict}
+use Rattle.laws.specs.Choice.{_orElse_, _if_}
+use Rattle.message.specs.Verdict.{most, check1, check2, check3, check4, check5, parsCode, lastChecks, verdict}
 use Rattle.put.specs.Bytes.{headBytes, parsBytes}
 use Rattle.put.proofs.Round.{be-two-in, walk-written, pars-multiple}
 use Rattle.encode.specs.Encode.{sizeOf, encode, total, parsIn, whole}

@@ -11,7 +11,8 @@ use lib.Dec.{ltb, eqb}
 use borrow.Author.Tests.{eq-eqb, ne-eqb, ltb-false}
 use Rattle.wire.specs.Walk.{Par}
 use Rattle.parameter.specs.Table.{table, hasClass, rowIn}
-use Rattle.message.specs.Verdict.{_orElse_, _if_, verdict}
+use Rattle.laws.specs.Choice.{_orElse_, _if_}
+use Rattle.message.specs.Verdict.{verdict}
 use Rattle.put.specs.Bytes.{overlay, headBytes, parsBytes}
 use Rattle.encode.specs.Encode.{sizeOf, encode, parsIn, whole}
 use Rattle.encode.specs.Write.{sizeIf, listVerdict, roomCode, writeCode, Sized, Fits, Emits, Writes}

@@ -7,7 +7,8 @@ use mathlib.Core.List.{List, [], _∷_}
 use lib.ListN.{length}
 use lib.Dec.{ltb, eqb}
 use Rattle.wire.specs.Walk.{Par}
-use Rattle.message.specs.Verdict.{_orElse_, _if_, most, check7, check8, verdict}
+use Rattle.laws.specs.Choice.{_orElse_, _if_}
+use Rattle.message.specs.Verdict.{most, check7, check8, verdict}
 use Rattle.put.specs.Bytes.{overlay, room}
 use Rattle.encode.specs.Encode.{encode, total, parsIn, whole}
 use Rattle.encode.specs.declared.Written.{Written}

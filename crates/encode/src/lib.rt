@@ -1,8 +1,10 @@
 // Writes M2UA messages from a lent list of tags and values.
+use parameter::RowInfo;
 ghost use mathlib.Core.Path.{_≡_};
 ghost use Prim.Native.Nat.{_+_, _≤_, _<_};
 ghost use lib.ListN.{length};
 ghost use Rattle.parameter.specs.Table.{table, hasClass, rowIn};
+ghost use Rattle.parameter.specs.Slot.{infoOf};
 ghost use Rattle.put.specs.Bytes.{overlay, parsBytes};
 ghost use Rattle.encode.specs.Encode.{encode, parsIn};
 ghost use Rattle.encode.specs.Write.{sizeIf, Lent, Fits, rowCode, listVerdict, roomCode, Emits, Writes};
@@ -42,9 +44,9 @@ fn size_of(tags: usize, lens: &[u32], values: usize) -> usize
 }
 
 // The checks 7 and 8 of a whole list: the value of each tag in turn is as many bytes of values as lens says.
-fn list_code(row: usize, class: u8, kind: u8, tags: &[u16], lens: &[u32], values: &[u8]) -> u32
-    requires { ⌜ (row < 17) × Lent (now tags) (now lens) (now values) ⌝ }
-    ensures { λ r. ⌜ r ≡ rowCode row class kind (parsIn (now (tags .entry)) (now (lens .entry)) (now (values .entry))) ⌝ }
+fn list_code(info: RowInfo, class: u8, kind: u8, tags: &[u16], lens: &[u32], values: &[u8]) -> u32
+    requires { ⌜ (rowIn table class kind < 17) × (info ≡ infoOf (rowIn table class kind)) × Lent (now tags) (now lens) (now values) ⌝ }
+    ensures { λ r. ⌜ r ≡ rowCode (rowIn table class kind) class kind (parsIn (now (tags .entry)) (now (lens .entry)) (now (values .entry))) ⌝ }
 {
     let mut met = [false; 32];
     let mut words = [0u32; 32];
@@ -56,7 +58,7 @@ fn list_code(row: usize, class: u8, kind: u8, tags: &[u16], lens: &[u32], values
         let stop = at + lens[i] as usize;
         let k = parameter::slot_of(tag);
         let again = met[k];
-        let code = parameter::par_at(row, first, again, k, tag, &values[at..stop]);
+        let code = parameter::par_at(info.uses, first, again, k, tag, &values[at..stop]);
         if code != 0 {
             return code;
         }
@@ -66,7 +68,7 @@ fn list_code(row: usize, class: u8, kind: u8, tags: &[u16], lens: &[u32], values
         at = stop;
         i += 1;
     }
-    message::end_code(row, class, kind, &met, &words)
+    message::end_code(info.musts, class, kind, &met, &words)
 }
 
 // The verdict on the message of a list, of its length, whether the class is listed, and the row.
@@ -80,7 +82,7 @@ fn verdict_of(
     lens: &[u32],
     values: &[u8],
 ) -> u32
-    requires { ⌜ (row ≤ 17) × (size ≡ sizeIf (length (now tags)) (now lens) (length (now values))) ⌝ }
+    requires { ⌜ (row ≤ 17) × (row ≡ rowIn table class kind) × (size ≡ sizeIf (length (now tags)) (now lens) (length (now values))) ⌝ }
     ensures { λ r. ⌜ r ≡ listVerdict size listed row class kind (parsIn (now (tags .entry)) (now (lens .entry)) (now (values .entry))) ⌝ }
 {
     if size == 0 {
@@ -92,7 +94,7 @@ fn verdict_of(
     if row == 17 {
         return 4;
     }
-    list_code(row, class, kind, tags, lens, values)
+    list_code(parameter::row_info(row), class, kind, tags, lens, values)
 }
 
 // The reader's number, then 103 where a buffer of so many bytes is short.

@@ -138,7 +138,7 @@ module _ {s : List ℕ} {met : List Bool} {words : List ℕ} {first : Bool} {at 
     refused ne =
         let d = turn-refused (h .here) hi ei t k r v (walk s n .pars) (pars-next s at t l n w) ek hk er ne (check8 (rowOf s) (getD s 2 0) (getD s 3 0) (walk s 8 .pars)) in
         let f : lastChecks s ≡ walk s n .code orElse r =
-            ap (λ (x : ℕ). walk s 8 .code orElse x) (sym d) ∙ ap (λ (x : ℕ). x orElse r) (sym next-code) in
+        ap (λ (x : ℕ). walk s 8 .code orElse x) (sym d) ∙ ap (λ (x : ℕ). x orElse r) (sym next-code) in
         sym (refuses (walk s n .code orElse r) s (or-zero (walk s n .code) r ne)) ∙ ap (λ (x : ℕ). outcome x s) (sym f)
 
     pub passes : length met ≡ 32 → length words ≡ 32 → (x : ℕ) → x ≡ cond (getD met k false) (getD words k 0) (head v) → r ≡ 0

@@ -13,7 +13,7 @@ row-of-requires c κs = search needs
 
 verdict-of-requires : tie.Need-verdict-of-requires
 unfolding table
-verdict-of-requires c κs = let m : c .row-of .result ≤ 17 = rw (c .row-of .ensures) (row-most table _ _) in (m, c .before .before .before .before .before .pre)
+verdict-of-requires c κs = let m : c .row-of .result ≤ 17 = rw (c .row-of .ensures) (row-most table _ _) in (m, c .row-of .ensures, c .before .before .before .before .before .pre)
 
 returns : tie.Need-returns
 returns c = cc

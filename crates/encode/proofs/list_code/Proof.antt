@@ -5,6 +5,7 @@ use native.Mathlib.Omega.{arith}
 use Prim.Native.Nat.{ℕ, _+_, _-_, _≤_}
 use mathlib.Core.Path.{_≡_, refl, _∙_}
 use lib.ListN.{length, drop, getD, take, length-set}
+use Rattle.parameter.specs.Table.{table, rowIn}
 use Rattle.put.specs.Bytes.{par}
 use Rattle.encode.specs.Encode.{total, parsIn}
 use Rattle.message.proofs.Turns.{Head, head-none, turn-refused, turn-passes, turn-ends}
@@ -13,10 +14,10 @@ use Rattle.encode.proofs.list_code.Statement.{statement}
 use Rattle.encode.proofs.list_code.Tie as tie
 
 abbrev Inv-loop : tie.InvT-loop
-Inv-loop row class kind tags lens values met₀ words₀ first₀ i₀ at₀ met words first i at = (i ≤ length tags) × (at + total (drop i lens) ≡ length values) × Head row (parsIn tags lens values) met words first (left tags lens values i at) × ((length met ≡ 32) × (length words ≡ 32))
+Inv-loop info class kind tags lens values met₀ words₀ first₀ i₀ at₀ met words first i at = (i ≤ length tags) × (at + total (drop i lens) ≡ length values) × Head (rowIn table class kind) (parsIn tags lens values) met words first (left tags lens values i at) × ((length met ≡ 32) × (length words ≡ 32))
 
 abbrev μ-loop : tie.MeasureT-loop
-μ-loop row class kind tags lens values met₀ words₀ first₀ i₀ at₀ met words first i at = length tags - i
+μ-loop info class kind tags lens values met₀ words₀ first₀ i₀ at₀ met words first i at = length tags - i
 
 abbrev tags : (c : tie.In-loop Inv-loop μ-loop) → List ℕ
 tags c = c .before .before .before .before .before .args .tags .now
@@ -79,7 +80,7 @@ par-at-requires c κs = search needs
 
 returns : tie.Need-returns Inv-loop μ-loop
 unfolding rowCode
-returns c = let d = c .before .before .before .before .before .before in turn-refused (d .before .loop .inv .2) _ _ _ _ _ (pars-next d) (c .before .before .before .slot-of .ensures .0) (c .before .before .before .slot-of .ensures .1) (c .before .par-at .ensures) (c .if1 .taken) _
+returns c = let d = c .before .before .before .before .before .before in turn-refused (d .before .loop .inv .2) (d .before .before .before .before .before .pre .0) (d .before .before .before .before .before .pre .1) _ _ _ _ _ (pars-next d) (c .before .before .before .slot-of .ensures .0) (c .before .before .before .slot-of .ensures .1) (c .before .par-at .ensures) (c .if1 .taken) _
 
 mul-kept : tie.Need-mul-kept Inv-loop μ-loop
 mul-kept c = search needs
@@ -115,14 +116,14 @@ loop-less : tie.Need-loop-less Inv-loop μ-loop
 loop-less c = search needs
 
 loop-again : tie.Need-loop-again Inv-loop μ-loop
-loop-again c = let d = c .before .before .before .before .before .before .before .before in let e = lens-next d in let i = d .before .loop .inv in (omega arith, omega arith, turn-passes (i .2) _ _ _ _ _ (pars-next d) (c .before .before .before .before .before .slot-of .ensures .0) (c .before .before .before .before .before .slot-of .ensures .1) (c .before .before .before .par-at .ensures) (i .3 .0) (i .3 .1) _ (c .kept .ensures) (c .before .before .if1 .left), (simp length-set (i .3 .0), simp length-set (i .3 .1)))
+loop-again c = let d = c .before .before .before .before .before .before .before .before in let e = lens-next d in let i = d .before .loop .inv in (omega arith, omega arith, turn-passes (i .2) (d .before .before .before .before .before .pre .0) (d .before .before .before .before .before .pre .1) _ _ _ _ _ (pars-next d) (c .before .before .before .before .before .slot-of .ensures .0) (c .before .before .before .before .before .slot-of .ensures .1) (c .before .before .before .par-at .ensures) (i .3 .0) (i .3 .1) _ (c .kept .ensures) (c .before .before .if1 .left), (simp length-set (i .3 .0), simp length-set (i .3 .1)))
 
 end-code-requires : tie.Need-end-code-requires Inv-loop μ-loop
 end-code-requires c κs = search needs
 
 returns-2 : tie.Need-returns-2 Inv-loop μ-loop
 unfolding rowCode
-returns-2 c = let l = c .before .before .before .before in let a = l .before .before .before .before .args in c .end-code .ensures ∙ turn-ends (l .loop .inv .2) (left-none (a .tags .now) (a .lens .now) (a .values .now) (l .loop .i) (l .loop .at) (omega arith)) _ _
+returns-2 c = let l = c .before .before .before .before in let st = l .before .before .before .before in let a = st .args in c .end-code .ensures ∙ turn-ends (l .loop .inv .2) (st .pre .0) (st .pre .1) (left-none (a .tags .now) (a .lens .now) (a .values .now) (l .loop .i) (l .loop .at) (omega arith)) _ _
 
 pub list-code-spec : {M : Type 1} → statement M
 list-code-spec =
