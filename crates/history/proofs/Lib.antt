@@ -1,2 +1,4 @@
 pub mod Bits
 pub mod Servers
+pub mod Within
+pub mod Alike
