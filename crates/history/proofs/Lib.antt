@@ -2,3 +2,4 @@ pub mod Bits
 pub mod Servers
 pub mod Within
 pub mod Alike
+pub mod Frame
