@@ -10,7 +10,7 @@ use lib.Dec.{eqb, ltb}
 use borrow.Author.Tests.{eq-eqb, ne-eqb, lt-ltb, le-ltb, ltb-true, ltb-false, eqb-true}
 use Rattle.laws.specs.Below.{firstBelow, first-at, countBelow, count-small}
 use Rattle.laws.specs.Tab.{col}
-use Rattle.laws.specs.Rank.{count-prefix, first-not}
+use Rattle.laws.specs.Rank.{count-prefix, first-not, first-hit}
 use Rattle.gateway.specs.Sound.{ascends}
 use Rattle.gateway.specs.Laws.{ascends-any}
 
@@ -75,3 +75,9 @@ index-own iid links h l b =
     first-at (λ k. eqb (col iid k) (col iid l)) l links
     (first-not (λ k. eqb (col iid k) (col iid l)) l (λ i q. ne-eqb (col iid i) (col iid l) (λ z. omega (arith, ascends-any iid links h i l q b))))
     (eq-eqb (col iid l) (col iid l) refl) b
+
+-- what stands at an identifier's index is that identifier
+pub index-is : (iid : List ℕ) (links x : ℕ) → indexOf iid links x < links → col iid (indexOf iid links x) ≡ x
+unfolding indexOf
+index-is iid links x h =
+    eqb-true (col iid (firstBelow (λ l. eqb (col iid l) x) links)) x (first-hit (λ l. eqb (col iid l) x) links h)

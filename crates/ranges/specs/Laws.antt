@@ -1,23 +1,27 @@
 -- The walk along the links, and what it says of every identifier of a range.
 -- Assumes nothing.
-use Prim.Native.Nat.{ℕ, zero, suc, _+_, _*_, _-_, _<_, _≤_}
+use Prim.Native.Nat.{ℕ, zero, suc, _+_, _*_, _-_, _/_, _<_, _≤_}
 use mathlib.Core.Path.{_≡_, refl, ap, _∙_, sym}
 use mathlib.Core.Bool.{Bool, true, false, _||_, _&&_, cond, not, false≢true}
 use mathlib.Core.List.{List}
 use native.Mathlib.Omega.{arith}
+use native.Mathlib.Numerals.{add-one}
+use native.Mathlib.Nat.{add-zero, add-suc}
 use native.Mathlib.Decide.{decLt, ℕ-discrete}
 use lib.Dec.{eqb, leb, ltb}
+use lib.ListN.{length}
 use borrow.Author.Tests.{eq-eqb, ne-eqb, lt-ltb, le-ltb, le-leb, lt-leb, ltb-true, leb-true, eqb-true}
 use Rattle.laws.specs.Below.{allBelow, all-at, all-of, anyBelow, any-at, any-in, firstBelow, first-none, first-more, first-at}
 use Rattle.laws.specs.Tab.{col, on}
 use Rattle.laws.specs.Every.{and-left, and-right, and-both, same-truth}
 use Rattle.laws.specs.Rank.{first-hit}
+use Rattle.wire.specs.Number.{be}
 use Rattle.gateway.specs.Sound.{pair, ascends, allUnder, consistent}
 use Rattle.gateway.specs.Laws.{ascends-any, parts, links-parts, counts-within}
 use Rattle.gateway.specs.declared.Gateway.{Gateway}
-use Rattle.lookup.specs.Links.{indexOf, known, rank, rank-most, rank-below, rank-from, index-here, index-not, index-own}
+use Rattle.lookup.specs.Links.{indexOf, known, rank, rank-most, rank-below, rank-from, index-here, index-not, index-own, index-is}
 use Rattle.ranges.specs.declared.Refused.{Refused}
-use Rattle.ranges.specs.Named.{ownerOf, isRefused, isOf, span, nothing, refusing, firstIn, someIn}
+use Rattle.ranges.specs.Named.{ownerOf, isRefused, isOf, span, nothing, refusing, firstIn, someIn, firstOf, startAt, stopAt, entries, refusedEntry, refusedIn}
 
 -- what the walk needs of the links: few, ascending, their owners within the table of pairs
 pub record Table (iid owner : List ℕ) (links : ℕ) : Type 0 where
@@ -120,3 +124,105 @@ none-refused bad start x stop e h =
 pub empty-range : (bad : ℕ → Bool) (start stop : ℕ) → stop < start → nothing ≡ firstIn bad start stop
 unfolding firstIn
 empty-range bad start stop h = let z : stop + 1 - start ≡ 0 = omega arith in rw (z, first-none (λ i. bad (start + i)))
+
+-- ---- the owners of a range, link by link
+
+-- the link l of AS a is named
+unfoldable pub named : List ℕ → List ℕ → ℕ → ℕ → ℕ → ℕ → Bool
+named iid owner start stop a l = (leb start (col iid l) && leb (col iid l) stop) && eqb (col owner l) a
+
+-- some known identifier of the range is owned by a just where some link of a is named
+pub some-owned : (iid owner : List ℕ) (links : ℕ) → Table iid owner links → (start stop a : ℕ) → someIn (isOf iid owner links a) start stop ≡ anyBelow (named iid owner start stop a) links
+unfolding someIn isOf known ownerOf named
+some-owned iid owner links t start stop a =
+    same-truth (anyBelow (λ i. isOf iid owner links a (start + i)) (span start stop)) (anyBelow (named iid owner start stop a) links)
+    (λ e. let y = any-at (λ i. isOf iid owner links a (start + i)) (span start stop) e in to (y .0) (y .1) (y .2))
+    (λ e. let y = any-at (named iid owner start stop a) links e in from (y .0) (y .1) (y .2))
+  where
+    to : (i : ℕ) → i < span start stop → (ltb (indexOf iid links (start + i)) links && eqb (col owner (indexOf iid links (start + i))) a) ≡ true → anyBelow (named iid owner start stop a) links ≡ true
+    to i b h =
+        let l = indexOf iid links (start + i) in
+        let p : l < links = ltb-true l links (and-left (ltb l links) (eqb (col owner l) a) h) in
+        let z : col iid l ≡ start + i = index-is iid links (start + i) p in
+        any-in (named iid owner start stop a) links l p
+        (and-both (leb start (col iid l) && leb (col iid l) stop) (eqb (col owner l) a)
+        (and-both (leb start (col iid l)) (leb (col iid l) stop) (le-leb start (col iid l) (omega arith)) (le-leb (col iid l) stop (omega arith)))
+        (and-right (ltb l links) (eqb (col owner l) a) h))
+
+    from : (l : ℕ) → l < links → ((leb start (col iid l) && leb (col iid l) stop) && eqb (col owner l) a) ≡ true → anyBelow (λ i. isOf iid owner links a (start + i)) (span start stop) ≡ true
+    from l b h =
+        let r = and-left (leb start (col iid l) && leb (col iid l) stop) (eqb (col owner l) a) h in
+        let p : start ≤ col iid l = leb-true start (col iid l) (and-left (leb start (col iid l)) (leb (col iid l) stop) r) in
+        let q : col iid l ≤ stop = leb-true (col iid l) stop (and-right (leb start (col iid l)) (leb (col iid l) stop) r) in
+        let z : start + (col iid l - start) ≡ col iid l = omega arith in
+        let i : indexOf iid links (col iid l) ≡ l = index-own iid links (t .order) l b in
+        any-in (λ i. isOf iid owner links a (start + i)) (span start stop) (col iid l - start) (omega arith)
+        (rw (z, i, lt-ltb l links b) (and-right (leb start (col iid l) && leb (col iid l) stop) (eqb (col owner l) a) h))
+
+-- ---- entries in order
+
+-- what finds nothing is the answer that refuses nothing
+pub not-found : (bad : ℕ → Bool) (start stop : ℕ) → firstIn bad start stop .found ≡ false → firstIn bad start stop ≡ nothing
+unfolding firstIn
+not-found bad start stop = go (ltb (firstBelow (λ i. bad (start + i)) (span start stop)) (span start stop))
+  where
+    go : (u : Bool) → cond u (refusing (start + firstBelow (λ i. bad (start + i)) (span start stop))) nothing .found ≡ false → cond u (refusing (start + firstBelow (λ i. bad (start + i)) (span start stop))) nothing ≡ nothing
+    go true e = absurd (false≢true (sym e))
+    go false e = refl
+
+pub first-of-none : (f : ℕ → Refused) → firstOf f 0 ≡ nothing
+unfolding firstOf
+first-of-none f = refl
+
+pub first-of-more : (f : ℕ → Refused) (i : ℕ) → firstOf f i ≡ nothing → f i ≡ nothing → firstOf f (i + 1) ≡ nothing
+unfolding firstOf
+first-of-more f i h e = rw (add-one, h) e
+
+pub first-of-found : (f : ℕ → Refused) (i k : ℕ) → firstOf f i ≡ nothing → f i .found ≡ true → firstOf f (i + 1 + k) ≡ f i
+unfolding firstOf
+first-of-found f i zero h e = rw (add-zero, add-one, h)
+first-of-found f i (suc k) h e = rw (add-suc (i + 1) k, first-of-found f i k h e, e)
+
+pub first-of-at : (f : ℕ → Refused) (i n : ℕ) → firstOf f i ≡ nothing → f i .found ≡ true → i < n → firstOf f n ≡ f i
+first-of-at f i n h e b = let z : i + 1 + (n - (i + 1)) ≡ n = omega arith in rw z at (first-of-found f i (n - (i + 1)) h e)
+
+-- entry by entry: nothing so far, an entry that adds nothing, one that refuses
+module _ (bad : ℕ → Bool) (pairs : Bool) (s : List ℕ) (i : ℕ) (h : firstOf (refusedEntry bad pairs s) i ≡ nothing) where
+  pub entry-good : (r : Refused) → r ≡ refusedEntry bad pairs s i → r .found ≡ false → firstOf (refusedEntry bad pairs s) (i + 1) ≡ nothing
+  unfolding refusedEntry
+  entry-good r e f =
+      first-of-more (refusedEntry bad pairs s) i h (not-found bad (startAt pairs s i) (stopAt pairs s i) (rw e at f))
+
+  pub entry-refused : (r : Refused) → r ≡ refusedEntry bad pairs s i → r .found ≡ true → i < entries pairs s → r ≡ refusedIn bad pairs s
+  unfolding refusedIn
+  entry-refused r e f b = e ∙ sym (first-of-at (refusedEntry bad pairs s) i (entries pairs s) h (rw e at f) b)
+
+  pub entries-good : i ≡ entries pairs s → nothing ≡ refusedIn bad pairs s
+  unfolding refusedIn
+  entries-good e = rw e at (sym h)
+
+-- an entry lies within the value
+pub pair-inside : (pairs : Bool) (s : List ℕ) (i : ℕ) → pairs ≡ true → i < entries pairs s → 8 * i + 8 ≤ length s
+unfolding entries
+pair-inside pairs s i e h = let g : i < length s / 8 = rw e at h in omega arith
+
+pub single-inside : (pairs : Bool) (s : List ℕ) (i : ℕ) → pairs ≡ false → i < entries pairs s → 4 * i + 4 ≤ length s
+unfolding entries
+single-inside pairs s i e h = let g : i < length s / 4 = rw e at h in omega arith
+
+-- its ends
+pub pair-start : (pairs : Bool) (s : List ℕ) (i : ℕ) → pairs ≡ true → startAt pairs s i ≡ be 4 s (8 * i)
+unfolding startAt
+pair-start pairs s i e = rw e
+
+pub pair-stop : (pairs : Bool) (s : List ℕ) (i : ℕ) → pairs ≡ true → stopAt pairs s i ≡ be 4 s (8 * i + 4)
+unfolding stopAt
+pair-stop pairs s i e = rw e
+
+pub single-start : (pairs : Bool) (s : List ℕ) (i : ℕ) → pairs ≡ false → startAt pairs s i ≡ be 4 s (4 * i)
+unfolding startAt
+single-start pairs s i e = rw e
+
+pub single-stop : (pairs : Bool) (s : List ℕ) (i : ℕ) → pairs ≡ false → stopAt pairs s i ≡ be 4 s (4 * i)
+unfolding stopAt
+single-stop pairs s i e = let z : 4 * i + 0 ≡ 4 * i = omega arith in rw (e, z)

@@ -68,10 +68,16 @@ unfoldable pub firstOf : (ℕ → Refused) → ℕ → Refused
 firstOf f zero = nothing
 firstOf f (suc n) = cond (firstOf f n .found) (firstOf f n) (f n)
 
--- "entries in order, ranges ascending": the first refused identifier of the value
-unfoldable pub refusedIn : (ℕ → Bool) → Bool → List ℕ → Refused
-refusedIn bad pairs s = firstOf (λ i. firstIn bad (startAt pairs s i) (stopAt pairs s i)) (entries pairs s)
+-- the first refused identifier of an entry, and whether it names a good one
+unfoldable pub refusedEntry : (ℕ → Bool) → Bool → List ℕ → ℕ → Refused
+refusedEntry bad pairs s i = firstIn bad (startAt pairs s i) (stopAt pairs s i)
 
--- whether some identifier of the value is good
+unfoldable pub someEntry : (ℕ → Bool) → Bool → List ℕ → ℕ → Bool
+someEntry good pairs s i = someIn good (startAt pairs s i) (stopAt pairs s i)
+
+-- the same of the value, its entries in order
+unfoldable pub refusedIn : (ℕ → Bool) → Bool → List ℕ → Refused
+refusedIn bad pairs s = firstOf (refusedEntry bad pairs s) (entries pairs s)
+
 unfoldable pub someOf : (ℕ → Bool) → Bool → List ℕ → Bool
-someOf good pairs s = anyBelow (λ i. someIn good (startAt pairs s i) (stopAt pairs s i)) (entries pairs s)
+someOf good pairs s = anyBelow (someEntry good pairs s) (entries pairs s)

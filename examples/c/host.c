@@ -1,0 +1,51 @@
+/* Reads sample M of document 01, whole and with a traffic mode that there is not, and loads a plan. */
+#include <stdio.h>
+#include <string.h>
+#include "m2ua.h"
+
+static int failures;
+
+static void expect(const char *what, uint32_t got, uint32_t want) {
+    if (got == want) return;
+    printf("%s: %u, expected %u\n", what, got, want);
+    failures++;
+}
+
+int main(void) {
+    uint8_t m[28] = {1, 0, 4, 1, 0, 0, 0, 28, 0, 0xb, 0, 8, 0, 0, 0, 1, 0, 8, 0, 12, 0, 0, 0, 100, 0, 0, 0, 115};
+    m2ua_reading r = m2ua_read(m, sizeof m);
+    expect("code of M", r.code, 0);
+    expect("class of M", r.class_, 4);
+    expect("type of M", r.kind, 1);
+    expect("identifiers in M", r.ids, 1);
+    expect("mode of M", r.mode, 1);
+    m[15] = 4;
+    r = m2ua_read(m, sizeof m);
+    expect("code with mode 4", r.code, 5);
+    expect("class with mode 4", r.class_, 0);
+    expect("code of no bytes", m2ua_read(m, 0).code, 7);
+    const uint16_t tags[2] = {0xb, 0x8};
+    const uint32_t lens[2] = {4, 8};
+    const uint8_t values[12] = {0, 0, 0, 1, 0, 0, 0, 100, 0, 0, 0, 115};
+    uint8_t out[32];
+    memset(out, 0xaa, sizeof out);
+    m2ua_written w = m2ua_write(4, 1, tags, 2, lens, 2, values, 12, out, 27);
+    expect("code of M in 27 bytes", w.code, 103);
+    expect("its buffer's first byte", out[0], 0xaa);
+    w = m2ua_write(4, 1, tags, 2, lens, 2, values, 12, out, sizeof out);
+    m[15] = 1;
+    expect("code of M written", w.code, 0);
+    expect("M written", w.length == 28 && memcmp(out, m, 28) == 0, 1);
+    expect("the byte behind it", out[28], 0xaa);
+    const uint8_t smallest[36] = {0, 0, 0, 24, 0, 0, 0, 1, 0, 0, 0, 32, 0, 0, 0, 1, 0, 0, 0, 36, 0, 0, 0, 0,
+                                  0, 0, 0, 7, 0, 1, 0, 0, 0, 0, 0, 1};
+    m2ua_loaded plan = m2ua_load(smallest, sizeof smallest);
+    expect("code of the smallest plan", plan.code, 0);
+    expect("identifier of its ASP", plan.gateway.aspid[0], 7);
+    expect("its state is consistent", m2ua_is_consistent(plan.gateway), 1);
+    plan.gateway.up[0] = 2;
+    expect("a flag of 2 is not", m2ua_is_consistent(plan.gateway), 0);
+    expect("code of a plan cut short", m2ua_load(smallest, 35).code, 201);
+    printf("C example: %s\n", failures ? "FAILED" : "ok");
+    return failures != 0;
+}
