@@ -63,6 +63,24 @@ moved g k named =
       state = g .state;
     }
 
+-- the gateway with link l in state v
+unfoldable pub linked : Gateway → ℕ → ℕ → Gateway
+linked g l v =
+    record {
+      asps = g .asps;
+      ases = g .ases;
+      links = g .links;
+      aspid = g .aspid;
+      up = g .up;
+      member = g .member;
+      active = g .active;
+      mode = g .mode;
+      waiting = g .waiting;
+      iid = g .iid;
+      owner = g .owner;
+      state = set (g .state) l v;
+    }
+
 unfoldable pub actionsAt : Change → List Bool → (ℕ → AsRecord) → ℕ → List Action
 actionsAt k named records a = actionsIn (at named a) k a (records a)
 
