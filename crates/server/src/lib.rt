@@ -1,6 +1,6 @@
 // What one AS keeps, cut out of the gateway's columns: what an event does to it, and the Notifies that follow.
 ghost use mathlib.Core.Path.{_≡_};
-ghost use Prim.Native.Nat.{ℕ, _+_, _*_, _<_, _≤_};
+ghost use Prim.Native.Nat.{_+_, _*_, _<_, _≤_};
 ghost use lib.ListN.{length};
 ghost use Rattle.laws.specs.Below.{one};
 ghost use Rattle.action.specs.Words.{Written};

@@ -1,6 +1,6 @@
 -- One turn of the loop over the ASes: the record that it finds is the one from before the event.
 -- Assumes nothing.
-use Prim.Native.Nat.{ℕ, zero, suc, _+_, _*_, _/_, _%_, _≤_, _<_}
+use Prim.Native.Nat.{ℕ, _+_, _*_, _/_, _%_, _≤_, _<_}
 use mathlib.Core.Path.{_≡_, refl, ap, _∙_, sym}
 use mathlib.Core.Bool.{Bool, true, false, not, cond, false≢true}
 use mathlib.Core.List.{List}
@@ -10,7 +10,7 @@ use lib.Dec.{eqb}
 use lib.ListN.{length, set}
 use Rattle.laws.specs.Below.{one}
 use Rattle.laws.specs.Tab.{at, on, col, tab, tab-ext, getD-tab, length-tab, HalfCol, half-none, half-more, half-keep, half-end}
-use Rattle.action.specs.Words.{Written, written-none, Emitted, emit-none, emit-more, emit-end}
+use Rattle.action.specs.Words.{Written, written-none, emit-none, emit-more, emit-end}
 use Rattle.server.specs.declared.AsRecord.{AsRecord}
 use Rattle.server.specs.declared.Change.{Change}
 use Rattle.server.specs.Record.{row, membersUp, recordFrom, laid, laidAt, laid-in, laid-out}

@@ -1,12 +1,11 @@
 -- What is read back after an event: each place, and the record of each AS.
 -- Assumes nothing.
-use Prim.Native.Nat.{ℕ, _+_, _*_, _/_, _%_, _≤_, _<_}
+use Prim.Native.Nat.{ℕ, _+_, _*_, _/_, _%_, _<_}
 use mathlib.Core.Path.{_≡_, refl, ap, _∙_, sym}
-use mathlib.Core.Bool.{Bool, true, false, _||_, _&&_, cond, not, false≢true}
+use mathlib.Core.Bool.{Bool, true, false, _||_, _&&_, cond, not}
 use mathlib.Core.List.{List}
 use native.Mathlib.Omega.{arith}
 use lib.Dec.{eqb}
-use borrow.Author.Tests.{eq-eqb, eqb-true}
 use Rattle.laws.specs.Below.{one}
 use Rattle.laws.specs.Tab.{at, on, col, tab, tab-ext, getD-tab}
 use Rattle.gateway.specs.Sound.{pair}

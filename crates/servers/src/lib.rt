@@ -1,7 +1,7 @@
 // An event in the ASes that it names: one loop that cuts each record out, changes it, writes the Notifies and puts it back.
 ghost use mathlib.Core.Path.{_≡_};
 ghost use mathlib.Core.Bool.{true};
-ghost use Prim.Native.Nat.{ℕ, _+_, _*_, _<_, _≤_};
+ghost use Prim.Native.Nat.{_+_, _*_, _<_, _≤_};
 ghost use lib.ListN.{length};
 ghost use Rattle.server.specs.Record.{recordFrom};
 ghost use Rattle.server.specs.Change.{fits};
