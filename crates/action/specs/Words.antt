@@ -1,7 +1,7 @@
 -- Actions as words. A function that emits leaves the list `place ws n os`: by stores, so that one list of actions after the other needs no
 -- bounds; `place-first` is the same as the whole list, the actions' words and after them the words that were there.
 -- Assumes nothing.
-use Prim.Native.Nat.{ℕ, zero, suc, _+_, _*_, _≤_, _<_}
+use Prim.Native.Nat.{ℕ, suc, _+_, _*_, _≤_}
 use mathlib.Core.Path.{_≡_, refl, ap, _∙_, sym}
 use mathlib.Core.Bool.{Bool, true, false}
 use mathlib.Core.List.{List, [], _∷_, _++_}

@@ -1,6 +1,6 @@
 // Actions (document 01's orders) and how they are written, four words to an action.
 ghost use mathlib.Core.Path.{_≡_};
-ghost use Prim.Native.Nat.{ℕ, _+_, _*_, _≤_};
+ghost use Prim.Native.Nat.{_+_, _*_, _≤_};
 ghost use lib.ListN.{length};
 ghost use Rattle.laws.specs.Below.{when};
 ghost use Rattle.action.specs.Words.{putAt, Written, toAll};

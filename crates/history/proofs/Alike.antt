@@ -9,6 +9,7 @@ use native.Mathlib.Omega.{arith}
 use lib.Dec.{eqb, ltb, leb}
 use borrow.Author.Tests.{lt-ltb, ltb-true, eqb-true, eq-eqb, not-false}
 use Rattle.laws.specs.Below.{anyBelow, any-ext, countBelow}
+use Rattle.laws.specs.Count.{count-ext}
 use Rattle.laws.specs.Every.{and-left, and-right, and-both}
 use Rattle.laws.specs.Tab.{at, on, col, tab, tab-ext}
 use Rattle.wire.specs.Walk.{Par, walk}
@@ -32,14 +33,15 @@ use Rattle.rules.specs.Link.{linkWork, classSixDeed, recipientsOf, toRecipients
 use Rattle.rules.specs.Rules.{isError, typeOf, fromAsp, fromLink, readDeed, messageDeed, deedOf, inPlan}
 use Rattle.rules.specs.Reach.{ownsId, readReach, messageReach, kindReach, fromController}
 use Rattle.history.specs.Local.{false-of}
-use Rattle.history.proofs.Bits.{clash, or-left, or-right, cond-same, cond-both, count-ext}
-use Rattle.history.proofs.Servers.{dyn, at-column, same-record}
+use Rattle.history.proofs.Bits.{clash, or-left, or-right, cond-same, cond-both}
+use Rattle.servers.specs.Records.{column-at}
+use Rattle.history.proofs.Servers.{dyn, same-record}
 use Rattle.history.proofs.Within.{Reaches, known-below, owner-in, member-in, asps-16, reach-up, reach-six, neither}
 
 -- u, c, w, s are what g has, at an event's own controller and in the ASes of R
 pub record Alike (g : Gateway) (R own : ℕ → Bool) (u c w s : List ℕ) : Type 0 where
-  pub mine : (q : ℕ) → own q ≡ true → col u q ≡ col (g .up) q
-  pub ups : (a q : ℕ) → a < 16 → R a ≡ true → isMember g a q ≡ true → col u q ≡ col (g .up) q
+  pub mine : (q : ℕ) → q < 16 → own q ≡ true → col u q ≡ col (g .up) q
+  pub ups : (a q : ℕ) → a < 16 → q < 16 → R a ≡ true → isMember g a q ≡ true → col u q ≡ col (g .up) q
   pub acts : (a q : ℕ) → a < 16 → q < 16 → R a ≡ true → col c (pair a q) ≡ col (g .active) (pair a q)
   pub waits : (a : ℕ) → a < 16 → R a ≡ true → col w a ≡ col (g .waiting) a
   pub lines : (l : ℕ) → R (ownerAt g l) ≡ true → col s l ≡ col (g .state) l
@@ -108,7 +110,7 @@ narrow : (g : Gateway) (R R′ own : ℕ → Bool) (u c w s : List ℕ) → ((a 
 narrow g R R′ own u c w s h k =
     record {
       mine = k .mine;
-      ups = λ a q b e. k .ups a q b (h a e);
+      ups = λ a q b d e. k .ups a q b d (h a e);
       acts = λ a q b d e. k .acts a q b d (h a e);
       waits = λ a b e. k .waits a b (h a e);
       lines = λ l e. k .lines l (h (ownerAt g l) e);
@@ -117,7 +119,7 @@ narrow g R R′ own u c w s h k =
 -- the record of an AS reached
 pub record-alike : (g : Gateway) (R own : ℕ → Bool) (u c w s : List ℕ) → Alike g R own u c w s → (a : ℕ) → a < 16 → R a ≡ true → recordOf (dyn g u c w s) a ≡ recordOf g a
 record-alike g R own u c w s k a b r =
-    same-record u (g .up) (g .member) c (g .active) w (g .waiting) (g .mode) a (λ q d m. k .ups a q b r m) (λ q d. k .acts a q b d r) (k .waits a b r)
+    same-record u (g .up) (g .member) c (g .active) w (g .waiting) (g .mode) a (λ q d m. k .ups a q b d r m) (λ q d. k .acts a q b d r) (k .waits a b r)
 
 -- ---- what hangs on the rest
 
@@ -126,7 +128,7 @@ module _ (g : Gateway) (u c w s : List ℕ) (ok : consistent g ≡ true) (ok′ 
   active-alike : (R own : ℕ → Bool) → Alike g R own u c w s → (p : ℕ) → p < 16 → ((a : ℕ) → a < 16 → isMember g a p ≡ true → R a ≡ true) → some (activeIn (dyn g u c w s) p) ≡ some (activeIn g p)
   unfolding some
   active-alike R own k p b h =
-      any-ext _ _ 16 (λ a d. at-column c p a d ∙ go a d (isMember g a p) refl ∙ sym (at-column (g .active) p a d))
+      any-ext _ _ 16 (λ a d. column-at c p a d ∙ go a d (isMember g a p) refl ∙ sym (column-at (g .active) p a d))
     where
       go : (a : ℕ) → a < 16 → (t : Bool) → isMember g a p ≡ t → on c (pair a p) ≡ on (g .active) (pair a p)
       go a d true m = flag (k .acts a p d b (h a d m))
@@ -165,7 +167,7 @@ module _ (g : Gateway) (u c w s : List ℕ) (ok : consistent g ≡ true) (ok′ 
         (λ _. ap (λ (t : Bool). change (sent p 772 0 0 ++ cond t (error p 6) []) (Rise p) (asesOf g p)) (active-alike R (eqb p) k p (asps-16 g ok p b) h))
 
     mine-alike : (R : ℕ → Bool) → Alike g R (eqb p) u c w s → on u p ≡ on (g .up) p
-    mine-alike R k = flag (k .mine p (eq-eqb p p refl))
+    mine-alike R k = flag (k .mine p (asps-16 g ok p b) (eq-eqb p p refl))
 
     traffic-alike : (R : ℕ → Bool) → Alike g R (eqb p) u c w s → (r : Reading) (ps : List Par) (act′ act : List Bool → Deed) → ((n : List Bool) → act′ n ≡ act n) → trafficDeed (dyn g u c w s) p r ps act′ ≡ trafficDeed g p r ps act
     unfolding trafficDeed

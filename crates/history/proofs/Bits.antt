@@ -8,7 +8,6 @@ use native.Mathlib.Omega.{arith}
 use native.Mathlib.Decide.{decLt, ℕ-discrete}
 use lib.ListN.{length, getD, set, drop}
 use lib.Seq.{ext-getD, getD-set-same, getD-set-other, set-out, getD-drop}
-use Rattle.laws.specs.Below.{one, countBelow}
 use Rattle.laws.specs.Tab.{col}
 
 pub clash : {A : Type 0} (t : Bool) → t ≡ false → t ≡ true → A
@@ -66,8 +65,3 @@ ext-front n l m f e d = ext-getD 0 l m e (λ i b. go i (decLt i n))
 
 pub cond-both : {A : Type 0} (t : Bool) {t′ : Bool} {x y x′ y′ : A} → t′ ≡ t → (t ≡ true → x′ ≡ x) → (t ≡ false → y′ ≡ y) → cond t′ x′ y′ ≡ cond t x y
 cond-both t {x′ = x′} {y′ = y′} e hx hy = ap (λ (b : Bool). cond b x′ y′) e ∙ cond-same t hx hy
-
-pub count-ext : (f g : ℕ → Bool) (n : ℕ) → ((i : ℕ) → i < n → f i ≡ g i) → countBelow f n ≡ countBelow g n
-unfolding countBelow
-count-ext f g zero h = refl
-count-ext f g (suc n) h = λ j. count-ext f g n (λ i b. h i (omega arith)) j + one (h n (omega arith) j)

@@ -3,3 +3,5 @@ pub mod Servers
 pub mod Within
 pub mod Alike
 pub mod Frame
+pub mod Keeps
+pub mod History

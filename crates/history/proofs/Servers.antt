@@ -1,24 +1,24 @@
--- The few laws on the loop over the ASes (server's Servers.antt) that locality needs. Nothing else here opens its definitions.
+-- The few laws on the loop over the ASes (crate servers) that locality needs beside those proved there.
 -- Assumes nothing.
 use mathlib.Core.Path.{_≡_, refl, sym, ap, _∙_}
 use mathlib.Core.Bool.{Bool, true, false, _&&_, cond}
 use mathlib.Core.List.{List, [], _∷_}
-use Prim.Native.Nat.{ℕ, _+_, _*_, _/_, _%_, _<_, _≤_}
+use Prim.Native.Nat.{ℕ, _+_, _*_, _<_, _≤_}
 use native.Mathlib.Omega.{arith}
-use lib.ListN.{length, getD, set, drop, drop-of-length-le}
+use lib.ListN.{length, getD, drop, drop-of-length-le}
 use lib.Dec.{eqb}
-use Rattle.laws.specs.Below.{one, concatBelow, concat-ext}
-use Rattle.laws.specs.Tab.{at, on, col, tab, getD-tab, length-tab, tab-ext}
+use Rattle.laws.specs.Below.{concatBelow, concat-ext}
+use Rattle.laws.specs.Tab.{at, on, col, tab, length-tab, tab-ext}
 use Rattle.gateway.specs.Sound.{pair}
 use Rattle.gateway.specs.declared.Gateway.{Gateway}
-use Rattle.action.specs.declared.Action.{Action}
 use Rattle.server.specs.declared.AsRecord.{AsRecord}
 use Rattle.server.specs.declared.Change.{Change}
+use Rattle.server.specs.declared.Change.the-variants.{Rise, Fall, Off, On, Recover}
 use Rattle.server.specs.Record.{row, membersUp, recordFrom, recordOf}
-use Rattle.server.specs.Change.{after}
 use Rattle.server.specs.Notify.{actionsIn}
-use Rattle.server.specs.Servers.{columnOf, newActive, newWaiting, upAfter, moved, allActions}
-use Rattle.history.proofs.Bits.{cond-yes, cond-no, and-cong}
+use Rattle.servers.specs.Moved.{flagAt, newActive, newWaiting, upAfter, moved, actionsAt, allActions}
+use Rattle.servers.specs.Records.{flag-at}
+use Rattle.history.proofs.Bits.{and-cong}
 
 -- the gateway g with other contents where events change it
 abbrev pub dyn : Gateway → List ℕ → List ℕ → List ℕ → List ℕ → Gateway
@@ -38,10 +38,6 @@ dyn g u c w s =
       state = s;
     }
 
-pub at-column : (c : List ℕ) (p a : ℕ) → a < 16 → at (columnOf c p) a ≡ on c (pair a p)
-unfolding columnOf
-at-column c p a b = getD-tab 16 (λ a. on c (pair a p)) a false b
-
 -- the record of an AS hangs on its members' up flags, its row, its mark and its mode
 pub same-record : (up′ up member active′ active waiting′ waiting mode : List ℕ) (a : ℕ)
     → ((q : ℕ) → q < 16 → on member (pair a q) ≡ true → col up′ q ≡ col up q)
@@ -57,46 +53,78 @@ same-record up′ up member active′ active waiting′ waiting mode a hu hc hw 
     acts : tab 16 (λ q. on active′ (pair a q)) ≡ tab 16 (λ q. on active (pair a q))
     acts = tab-ext false 16 _ _ (λ q b. ap (λ (x : ℕ). eqb x 1) (hc q b))
 
-module _ (g : Gateway) (k : Change) (named : List Bool) where
-  abbrev pub actives : List ℕ
-  actives = tab 256 (newActive k named (recordOf g) (g .active))
-
-  abbrev pub waitings : List ℕ
-  waitings = tab 16 (newWaiting k named (recordOf g) (g .waiting))
-
-  -- only these change
-  pub moved-is : moved g k named ≡ dyn g (upAfter k (g .up)) actives waitings (g .state)
-  unfolding moved
-  moved-is = refl
-
-  pub active-new : (i : ℕ) → i < 256 → at named (i / 16) ≡ true → col actives i ≡ one (at (after k (recordOf g (i / 16)) .acts) (i % 16))
-  unfolding newActive
-  active-new i b h = getD-tab 256 (newActive k named (recordOf g) (g .active)) i 0 b ∙ cond-yes _ _ h
-
-  pub active-old : (i : ℕ) → i < 256 → at named (i / 16) ≡ false → col actives i ≡ col (g .active) i
-  unfolding newActive
-  active-old i b h = getD-tab 256 (newActive k named (recordOf g) (g .active)) i 0 b ∙ cond-no _ _ h
-
-  pub waiting-new : (a : ℕ) → a < 16 → at named a ≡ true → col waitings a ≡ one (after k (recordOf g a) .waiting)
-  unfolding newWaiting
-  waiting-new a b h = getD-tab 16 (newWaiting k named (recordOf g) (g .waiting)) a 0 b ∙ cond-yes _ _ h
-
-  pub waiting-old : (a : ℕ) → a < 16 → at named a ≡ false → col waitings a ≡ col (g .waiting) a
-  unfolding newWaiting
-  waiting-old a b h = getD-tab 16 (newWaiting k named (recordOf g) (g .waiting)) a 0 b ∙ cond-no _ _ h
-
-  pub length-actives : length actives ≡ 256
-  length-actives = length-tab 256 (newActive k named (recordOf g) (g .active))
-
-  pub length-waitings : length waitings ≡ 16
-  length-waitings = length-tab 16 (newWaiting k named (recordOf g) (g .waiting))
-
 -- the actions hang on the records of the ASes named
 pub same-actions : (g′ g : Gateway) (k : Change) (named : List Bool) → ((a : ℕ) → a < 16 → at named a ≡ true → recordOf g′ a ≡ recordOf g a)
     → allActions g′ k named ≡ allActions g k named
-unfolding allActions actionsIn
+unfolding allActions actionsAt actionsIn
 same-actions g′ g k named h = concat-ext _ _ 16 (λ a b. go a (at named a) (h a b))
   where
     go : (a : ℕ) (t : Bool) → (t ≡ true → recordOf g′ a ≡ recordOf g a) → actionsIn t k a (recordOf g′ a) ≡ actionsIn t k a (recordOf g a)
     go a true e = ap (actionsIn true k a) (e refl)
     go a false e = refl
+
+-- an up flag after a change hangs on that flag
+pub same-up : (k : Change) (u v : List ℕ) (q : ℕ) → q < 16 → col u q ≡ col v q → col (upAfter k u) q ≡ col (upAfter k v) q
+same-up (Rise p) u v q b e = flag-at u p 1 q b ∙ ap (cond (eqb q p) 1) e ∙ sym (flag-at v p 1 q b)
+same-up (Fall p) u v q b e = flag-at u p 0 q b ∙ ap (cond (eqb q p) 0) e ∙ sym (flag-at v p 0 q b)
+same-up (Off p) u v q b e = e
+same-up (On p) u v q b e = e
+same-up Recover u v q b e = e
+
+-- ---- what a change leaves, and the lengths of what it makes
+
+-- whether a change makes the table of up flags anew
+abbrev pub remakesUp : Change → Bool
+remakesUp (Rise p) = true
+remakesUp (Fall p) = true
+remakesUp (Off p) = false
+remakesUp (On p) = false
+remakesUp Recover = false
+
+tab-drop : (n : ℕ) (f : ℕ → ℕ) → drop n (tab n f) ≡ []
+tab-drop n f = drop-of-length-le (tab n f) {i = n} (omega (arith, length-tab n f))
+
+pub up-length : (k : Change) (u : List ℕ) → length (upAfter k u) ≡ cond (remakesUp k) 16 (length u)
+unfolding flagAt
+up-length (Rise p) u = length-tab 16 _
+up-length (Fall p) u = length-tab 16 _
+up-length (Off p) u = refl
+up-length (On p) u = refl
+up-length Recover u = refl
+
+pub up-drop : (k : Change) (u : List ℕ) → drop 16 (upAfter k u) ≡ cond (remakesUp k) [] (drop 16 u)
+unfolding flagAt
+up-drop (Rise p) u = tab-drop 16 _
+up-drop (Fall p) u = tab-drop 16 _
+up-drop (Off p) u = refl
+up-drop (On p) u = refl
+up-drop Recover u = refl
+
+module _ (g : Gateway) (k : Change) (named : List Bool) where
+  pub moved-is : moved g k named ≡ dyn g (upAfter k (g .up)) (moved g k named .active) (moved g k named .waiting) (g .state)
+  unfolding moved
+  moved-is = refl
+
+  pub moved-up : moved g k named .up ≡ upAfter k (g .up)
+  unfolding moved
+  moved-up = refl
+
+  pub moved-state : moved g k named .state ≡ g .state
+  unfolding moved
+  moved-state = refl
+
+  pub active-length : length (moved g k named .active) ≡ 256
+  unfolding moved
+  active-length = length-tab 256 (newActive k named (recordOf g) (g .active))
+
+  pub active-drop : drop 256 (moved g k named .active) ≡ []
+  unfolding moved
+  active-drop = tab-drop 256 (newActive k named (recordOf g) (g .active))
+
+  pub waiting-length : length (moved g k named .waiting) ≡ 16
+  unfolding moved
+  waiting-length = length-tab 16 (newWaiting k named (recordOf g) (g .waiting))
+
+  pub waiting-drop : drop 16 (moved g k named .waiting) ≡ []
+  unfolding moved
+  waiting-drop = tab-drop 16 (newWaiting k named (recordOf g) (g .waiting))

@@ -20,13 +20,14 @@ use Rattle.gateway.specs.Sound.{pair, consistent}
 use Rattle.gateway.specs.Laws.{counts-within, owner-within, member-within}
 use Rattle.gateway.specs.declared.Gateway.{Gateway}
 use Rattle.lookup.specs.Links.{indexOf, known}
-use Rattle.ranges.specs.Named.{ownerOf, isRefused, isOf, span, nothing, refusing, firstIn, someIn, startAt, stopAt, entries, firstOf, refusedIn, someOf}
+use Rattle.ranges.specs.Named.{ownerOf, isRefused, isOf, span, nothing, refusing, firstIn, someIn, startAt, stopAt, entries, firstOf, refusedEntry, refusedIn, someEntry, someOf}
 use Rattle.ranges.specs.declared.Refused.{Refused}
 use Rattle.action.specs.declared.Action.{Action}
 use Rattle.server.specs.declared.Change.{Change}
 use Rattle.server.specs.declared.Change.the-variants.{Rise, Fall, Off, On, Recover}
 use Rattle.server.specs.Record.{some}
-use Rattle.server.specs.Servers.{columnOf}
+use Rattle.servers.specs.Moved.{columnOf}
+use Rattle.servers.specs.Records.{moves, NamesOwn, names-own, column-at}
 use Rattle.rules.specs.Event.{Kind, message, lost, recovery, linkUp, linkDown, linkMessage, Event}
 use Rattle.rules.specs.Identifiers.{isIds, firstRefused, ownsNamed, ownersNamed, isKnown, linkOf, ownerAt, isMember, isActive}
 use Rattle.rules.specs.Deed.{Deed, say, turn, change, sent, error, error2}
@@ -36,15 +37,6 @@ use Rattle.rules.specs.Rules.{isError, typeOf, fromAsp, readDeed, messageDeed, 
 use Rattle.rules.specs.Reach.{ownsId, readReach, messageReach, kindReach, fromController}
 use Rattle.history.specs.Local.{false-of}
 use Rattle.history.proofs.Bits.{clash, or-left, or-right, or-case, by-cond}
-use Rattle.history.proofs.Servers.{at-column}
-
--- whom a change sets up or down
-abbrev pub moves : Change → ℕ → Bool
-moves (Rise p) q = eqb p q
-moves (Fall p) q = eqb p q
-moves (Off p) q = false
-moves (On p) q = false
-moves Recover q = false
 
 -- what a change needs to leave a consistent state so
 abbrev pub Safe : Gateway → Change → List Bool → Type 0
@@ -59,7 +51,7 @@ Safe g Recover named = Unit {0}
 pub record In (g : Gateway) (R own : ℕ → Bool) (k : Change) (named : List Bool) : Type 0 where
   pub reached : (a : ℕ) → a < 16 → at named a ≡ true → R a ≡ true
   pub mine : (q : ℕ) → moves k q ≡ true → own q ≡ true
-  pub whole : (q a : ℕ) → a < 16 → moves k q ≡ true → isMember g a q ≡ true → at named a ≡ true
+  pub whole : NamesOwn k (g .member) named
   pub safe : Safe g k named
 
 -- the same of all that an event does; a link that it turns is the plan's, and its owner is reached
@@ -122,7 +114,7 @@ first-none-found f (suc n) h i b = go (firstOf f n .found) refl h (λ z l. first
 
 -- the same of the value of a parameter
 value-good : (bad good : ℕ → Bool) (pairs : Bool) (s : List ℕ) → refusedIn bad pairs s .found ≡ false → someOf good pairs s ≡ true → (x : ℕ) × (good x ≡ true) × (bad x ≡ false)
-unfolding refusedIn someOf
+unfolding refusedIn someOf refusedEntry someEntry
 value-good bad good pairs s h k =
     let x = any-at (λ i. someIn good (startAt pairs s i) (stopAt pairs s i)) (entries pairs s) k in
     range-good bad good (startAt pairs s (x .0)) (stopAt pairs s (x .0))
@@ -138,7 +130,7 @@ passed true r rest h = go (r .found) refl h
 
 -- an AS that owns one of those named owns one in the plan, and, where none is refused, has p
 named-one : (g : Gateway) (ps : List Par) (a : ℕ) → ownsNamed g ps a ≡ true → (x : ℕ) × (isOf (g .iid) (g .owner) (g .links) a x ≡ true)
-unfolding ownsNamed someOf someIn
+unfolding ownsNamed someOf someEntry someIn
 named-one g [] a h = clash false refl h
 named-one g (x ∷ ps) a h =
     let good = isOf (g .iid) (g .owner) (g .links) a in
@@ -196,17 +188,17 @@ module _ (g : Gateway) (ok : consistent g ≡ true) where
     -- all ASes of p
     all-of-p : (K : ℕ → Bool) → ((a : ℕ) → isMember g a p ≡ true → K a ≡ true) → (a : ℕ) → a < 16 → at (asesOf g p) a ≡ true → (ltb a (g .ases) && K a) ≡ true
     all-of-p K h a c e =
-        let m = sym (at-column (g .member) p a c) ∙ e in
+        let m = sym (column-at (g .member) p a c) ∙ e in
         and-both (ltb a (g .ases)) (K a) (member-in p a b c m) (h a m)
 
-    whole-p : (q a : ℕ) → a < 16 → eqb p q ≡ true → isMember g a q ≡ true → at (asesOf g p) a ≡ true
-    whole-p q a c e m = at-column (g .member) p a c ∙ rw (eqb-true p q e) m
+    mine-p : (q : ℕ) → eqb q p ≡ true → eqb p q ≡ true
+    mine-p q e = eq-eqb p q (sym (eqb-true q p e))
 
     rise-in : (K : ℕ → Bool) → ((a : ℕ) → isMember g a p ≡ true → K a ≡ true) → In g (λ a. ltb a (g .ases) && K a) (eqb p) (Rise p) (asesOf g p)
-    rise-in K h = record { reached = all-of-p K h; mine = λ q e. e; whole = whole-p; safe = b }
+    rise-in K h = record { reached = all-of-p K h; mine = mine-p; whole = names-own (Rise p) (g .member) p (λ q m. eqb-true q p m); safe = b }
 
     fall-in : (K : ℕ → Bool) → ((a : ℕ) → isMember g a p ≡ true → K a ≡ true) → In g (λ a. ltb a (g .ases) && K a) (eqb p) (Fall p) (asesOf g p)
-    fall-in K h = record { reached = all-of-p K h; mine = λ q e. e; whole = whole-p; safe = tt }
+    fall-in K h = record { reached = all-of-p K h; mine = mine-p; whole = names-own (Fall p) (g .member) p (λ q m. eqb-true q p m); safe = tt }
 
     -- Active and Inactive: those named by identifiers, or all ASes of p
     traffic-in : (K : ℕ → Bool) (r : Reading) (ps : List Par) (act : List Bool → Deed)
@@ -222,7 +214,7 @@ module _ (g : Gateway) (ok : consistent g ≡ true) where
         (λ n. h (tab 16 (ownsNamed g ps)) (λ a c e. and-both (ltb a (g .ases)) (K a) (named-in ps a (own a c e)) (ids i a (own a c e)))
         (λ a c e. named-mine g p ps a n (own a c e)) (not-false (on (g .up) p) u)))
         (λ i. by-cond (some (asesOf g p)) W
-        (λ _. h (asesOf g p) (all-of-p K (all i)) (λ a c e. sym (at-column (g .member) p a c) ∙ e) (not-false (on (g .up) p) u)) (λ _. tt)))
+        (λ _. h (asesOf g p) (all-of-p K (all i)) (λ a c e. sym (column-at (g .member) p a c) ∙ e) (not-false (on (g .up) p) u)) (λ _. tt)))
       where
         W : Deed → Type 0
         W = Within g (λ a. ltb a (g .ases) && K a) (eqb p)
@@ -234,11 +226,11 @@ module _ (g : Gateway) (ok : consistent g ≡ true) where
     unfolding activeDeed
     active-in K mode named h m u =
         by-cond (otherMode g mode named) (Within g (λ a. ltb a (g .ases) && K a) (eqb p)) (λ _. tt)
-        (λ _. record { reached = h; mine = λ q e. clash false refl e; whole = λ q a c e. clash false refl e; safe = (asps-16 p b, u, m) })
+        (λ _. record { reached = h; mine = λ q e. clash false refl e; whole = λ q a e c. clash false refl e; safe = (asps-16 p b, u, m) })
 
     inactive-in : (K : ℕ → Bool) (named : List Bool) → ((a : ℕ) → a < 16 → at named a ≡ true → (ltb a (g .ases) && K a) ≡ true) → ((a : ℕ) → a < 16 → at named a ≡ true → isMember g a p ≡ true) → on (g .up) p ≡ true → Within g (λ a. ltb a (g .ases) && K a) (eqb p) (inactiveDeed p named)
     unfolding inactiveDeed
-    inactive-in K named h m u = record { reached = h; mine = λ q e. clash false refl e; whole = λ q a c e. clash false refl e; safe = tt }
+    inactive-in K named h m u = record { reached = h; mine = λ q e. clash false refl e; whole = λ q a e c. clash false refl e; safe = tt }
 
     -- class 6: the owner of a known identifier
     six-in : (K : ℕ → Bool) (r : Reading) → ((a : ℕ) → ownsId g (r .id) a ≡ true → K a ≡ true) → Within g (λ a. ltb a (g .ases) && K a) (eqb p) (classSixDeed g p r)
@@ -349,7 +341,7 @@ module _ (g : Gateway) (ok : consistent g ≡ true) where
             let z : c ≡ a = eqb-true c a (sym (getD-tab 16 (λ c. eqb c a) c false d) ∙ e) in
             rw z (and-both (ltb a (g .ases)) (eqb a a) (lt-ltb a (g .ases) b) (eq-eqb a a refl));
         mine = λ q e. clash false refl e;
-        whole = λ q c d e. clash false refl e;
+        whole = λ q c e d. clash false refl e;
         safe = tt;
       }
 

@@ -1,17 +1,21 @@
 -- Demand 3: what is said of entire histories. "Demand 3 is one statement on entire histories, not one per event."
 -- Assumes nothing.
 use mathlib.Core.Path.{_≡_}
-use mathlib.Core.Bool.{Bool, true, false, _&&_}
+use mathlib.Core.Bool.{Bool, true, false, _&&_, not}
 use mathlib.Core.List.{List, [], _∷_, _++_, map}
 use Prim.Native.Nat.{ℕ, _*_, _<_}
+use lib.Dec.{eqb, ltb}
 use lib.ListN.{length, take}
 use Rattle.laws.specs.Tab.{col}
 use Rattle.action.specs.Words.{wordsOf}
 use Rattle.gateway.specs.Sound.{pair}
 use Rattle.gateway.specs.declared.Gateway.{Gateway}
 use Rattle.rules.specs.declared.Outcome.{Outcome}
-use Rattle.rules.specs.Event.{Event}
-use Rattle.rules.specs.Rules.{refusal}
+use Rattle.message.specs.Verdict.{verdict}
+use Rattle.message.specs.Meaning.{readingOf}
+use Rattle.rules.specs.Event.{Event, message}
+use Rattle.rules.specs.Identifiers.{isMember}
+use Rattle.rules.specs.Rules.{refusal, isError, typeOf}
 use Rattle.rules.specs.Reach.{reach, fromController}
 use Rattle.rules.specs.Entry.{actions, next, Handed}
 use Rattle.history.specs.Trade.{swaps, Trades, outs, last}
@@ -78,7 +82,7 @@ pub record Untouched (g : Gateway) (e : Event) (c : Gateway) : Type 0 where
   pub active : (a q : ℕ) → a < 16 → q < 16 → reaches g e a ≡ false → col (c .active) (pair a q) ≡ col (g .active) (pair a q)
   pub state : (l : ℕ) → reachesLink g e l ≡ false → col (c .state) l ≡ col (g .state) l
   -- an ASP comes up or goes down by its own events alone
-  pub up : (q : ℕ) → fromController (e .kind) q ≡ false → col (c .up) q ≡ col (g .up) q
+  pub up : (q : ℕ) → q < 16 → fromController (e .kind) q ≡ false → col (c .up) q ≡ col (g .up) q
 
 -- at every call of a history
 abbrev pub Outside : Gateway → List Call → Type 0
@@ -100,6 +104,14 @@ pub record Demand3 (g : Gateway) (cs ds : List Call) (c c′ : Gateway) (ts : Li
 abbrev pub Statement : Type 0
 Statement = (g c c′ : Gateway) (cs ds : List Call) (ts : List ℕ) → Calls g cs c → Calls g ds c′
     → Trades next Free g (events cs) ts → events ds ≡ swaps ts (events cs) → Demand3 g cs ds c c′ ts
+
+-- "Reach: Up ..: all ASes of p": stated beside it, of a readable Up that is not refused.
+unfoldable pub isUp : List ℕ → Bool
+isUp s = not (isError s) && (eqb (verdict s) 0 && eqb (typeOf (readingOf s)) 769)
+
+abbrev pub ReachOfUp : Type 0
+ReachOfUp = (g : Gateway) (p : ℕ) (s : List ℕ) (room a : ℕ) → refusal g (record { kind = message p s; room = room }) ≡ 0 → isUp s ≡ true
+    → reaches g (record { kind = message p s; room = room }) a ≡ (ltb a (g .ases) && isMember g a p)
 
 -- lent lists of the lengths that the events have
 abbrev pub Rooms : List Event → List (List ℕ) → Type 0

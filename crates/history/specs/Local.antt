@@ -17,19 +17,19 @@ module _ {B E K : Type 0} {W : K → Type 0} (get : B → (k : K) → W k) (read
   abbrev pub Apart : B → E → E → Type 0
   Apart b e f = (k : K) → writes b e k ≡ true → reads b f k ≡ true → ⊥
 
-pub record Local {B E O K S : Type 0} {W : K → Type 0} (get : B → (k : K) → W k) (shape : B → S) (reads writes : B → E → K → Bool) (shapes : B → E → Bool) (reshape : Bool → S → S) (out : B → E → O) (next : B → E → B) : Type 0 where
+pub record Local {B E O K S M : Type 0} {W : K → Type 0} (get : B → (k : K) → W k) (shape : B → S) (reads writes : B → E → K → Bool) (shapes : B → E → M) (reshape : M → S → S) (out : B → E → O) (next : B → E → B) : Type 0 where
   pub ext : (b b′ : B) → ((k : K) → get b k ≡ get b′ k) → shape b ≡ shape b′ → b ≡ b′
   pub covers : (b : B) (e : E) (k : K) → writes b e k ≡ true → reads b e k ≡ true
   pub untouched : (b : B) (e : E) (k : K) → writes b e k ≡ false → get (next b e) k ≡ get b k
   pub same-out : (b b′ : B) (e : E) → Agree get reads writes b b′ e → out b′ e ≡ out b e
   pub same-writes : (b b′ : B) (e : E) → Agree get reads writes b b′ e → (k : K) → writes b′ e k ≡ writes b e k
   pub same-next : (b b′ : B) (e : E) → Agree get reads writes b b′ e → (k : K) → writes b e k ≡ true → get (next b′ e) k ≡ get (next b e) k
-  -- an event either leaves the shape or brings it to one that hangs on nothing
+  -- what an event does to the shape goes by a mark that hangs on what it reads
   pub same-shapes : (b b′ : B) (e : E) → Agree get reads writes b b′ e → shapes b′ e ≡ shapes b e
   pub reshaped : (b : B) (e : E) → shape (next b e) ≡ reshape (shapes b e) (shape b)
-  pub reshape-trade : (u v : Bool) (s : S) → reshape u (reshape v s) ≡ reshape v (reshape u s)
+  pub reshape-trade : (u v : M) (s : S) → reshape u (reshape v s) ≡ reshape v (reshape u s)
 
-module _ {B E O K S : Type 0} {W : K → Type 0} (get : B → (k : K) → W k) (shape : B → S) (reads writes : B → E → K → Bool) (shapes : B → E → Bool) (reshape : Bool → S → S) (out : B → E → O) (next : B → E → B)
+module _ {B E O K S M : Type 0} {W : K → Type 0} (get : B → (k : K) → W k) (shape : B → S) (reads writes : B → E → K → Bool) (shapes : B → E → M) (reshape : M → S → S) (out : B → E → O) (next : B → E → B)
     (L : Local get shape reads writes shapes reshape out next) where
   -- after e, f still finds all that it reads
   agree-after : (b : B) (e f : E) → Apart get reads writes b e f → Agree get reads writes b (next b e) f

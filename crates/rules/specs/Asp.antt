@@ -12,7 +12,7 @@ use Rattle.ranges.specs.declared.Refused.{Refused}
 use Rattle.gateway.specs.declared.Gateway.{Gateway}
 use Rattle.server.specs.declared.Change.the-variants.{Rise, Fall, Off, On, Recover}
 use Rattle.server.specs.Record.{some}
-use Rattle.server.specs.Servers.{columnOf}
+use Rattle.servers.specs.Moved.{columnOf}
 use Rattle.rules.specs.Identifiers.{firstRefused, ownersNamed}
 use Rattle.rules.specs.Deed.{Deed, say, change, sent, error, error2}
 

@@ -8,7 +8,7 @@ use Rattle.action.specs.declared.Action.{Action}
 use Rattle.action.specs.Words.{action}
 use Rattle.gateway.specs.declared.Gateway.{Gateway}
 use Rattle.server.specs.declared.Change.{Change}
-use Rattle.server.specs.Servers.{moved, allActions}
+use Rattle.servers.specs.Moved.{moved, allActions}
 
 pub data Deed : Type 0 where
   -- actions alone

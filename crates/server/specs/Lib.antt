@@ -1,4 +1,3 @@
 pub mod Change
 pub mod Notify
 pub mod Record
-pub mod Servers

@@ -1,19 +1,19 @@
 -- The Notifies in an AS that an event names: s is its record before the event, t after it.
 -- Assumes nothing.
 use Prim.Native.Nat.{ℕ, _+_, _*_, _≤_, _<_}
-use mathlib.Core.Path.{_≡_, refl, ap, _∙_, sym}
-use mathlib.Core.Bool.{Bool, true, false, _||_, _&&_, cond, not}
+use mathlib.Core.Path.{_≡_, refl, _∙_, sym}
+use mathlib.Core.Bool.{Bool, true, false, _&&_, cond, not}
 use mathlib.Core.List.{List, [], _++_}
 use native.Mathlib.Omega.{arith}
 use lib.Dec.{eqb}
 use lib.ListN.{length}
 use borrow.Author.Tests.{eq-eqb, ne-eqb, ltb-true}
-use Rattle.laws.specs.Below.{anyBelow, any-not, concatBelow, concat-ext, concat-empty, when, when-nil}
+use Rattle.laws.specs.Below.{any-not, concatBelow, concat-ext, concat-empty, when, when-nil}
 use Rattle.laws.specs.Tab.{at}
 use Rattle.action.specs.Words.{action, toEach, toAll, toAll-short}
 use Rattle.action.specs.declared.Action.{Action}
 use Rattle.server.specs.Record.{some, stateIn}
-use Rattle.server.specs.Change.{after, overtaken, overtakenIn, turned, settle, nobody, fits, nobody-none, some-at, some-some, overtaken-was, some-turned}
+use Rattle.server.specs.Change.{after, overtaken, overtakenIn, settle, nobody, fits, nobody-none, some-at, some-some, overtaken-was, some-turned}
 use Rattle.server.specs.declared.AsRecord.{AsRecord}
 use Rattle.server.specs.declared.Change.{Change}
 use Rattle.server.specs.declared.Change.the-variants.{Rise, Fall, Off, On, Recover}
