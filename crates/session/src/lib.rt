@@ -1,4 +1,4 @@
-// A script line by line: what goes from line to line, and the commands on the gateway's state.
+// A script line by line: what goes from line to line, and the commands beside `read` and `show`.
 //
 // A further command is a case of `Command`, a line of `command_of`, an arm of `answer` and a
 // function of its own, which writes at most 17,000 characters and hands the next state back.
@@ -27,6 +27,7 @@ pub struct State {
 pub enum Command {
     Plan,
     State,
+    Write,
     Other,
 }
 
@@ -54,6 +55,9 @@ fn command_of(line: &[u8]) -> Command {
     let name = word_of(line);
     if is(name, b"plan") {
         return Command::Plan;
+    }
+    if is(name, b"write") {
+        return Command::Write;
     }
     if is(line, b"state") {
         return Command::State;
@@ -215,6 +219,15 @@ fn show_state(out: &mut [u8; 65536], s: State) -> State
     at(s, put_state(out, s.used, g))
 }
 
+// ---- `write CLASS TYPE BUFLEN LIST`
+
+fn write(rest: &[u8], bytes: &mut [u8; 32768], out: &mut [u8; 65536], s: State) -> State
+    requires { ⌜ s .used + 17000 ≤ 65536 ⌝ }
+    ensures { λ r. ⌜ r .used ≤ s .used + 17000 ⌝ }
+{
+    at(s, writing::put_message(rest, bytes, out, s.used))
+}
+
 // ---- Lines
 
 // The answer of a command of this crate to what follows its name.
@@ -231,6 +244,7 @@ fn answer(
     match command {
         Command::Plan => plan(rest, bytes, out, s),
         Command::State => show_state(out, s),
+        Command::Write => write(rest, bytes, out, s),
         Command::Other => bad(out, s),
     }
 }

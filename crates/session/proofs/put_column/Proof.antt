@@ -1,6 +1,6 @@
 use borrow.Author.Needs.{needs}
 use native.Mathlib.Omega.{arith}
-use Rattle.session.proofs.Short.{take-short}
+use Rattle.text.proofs.Puts.{take-short}
 use borrow.Author.Needs.{needs}
 use Rattle.session.proofs.put_column.Statement.{statement}
 use Rattle.session.proofs.put_column.Tie as tie
