@@ -230,21 +230,21 @@ fn write(rest: &[u8], bytes: &mut [u8; 32768], out: &mut [u8; 65536], s: State) 
 
 // ---- Lines
 
-// The answer of a command of this crate to what follows its name.
+// The answer to a line of a command.
 fn answer(
     command: Command,
-    rest: &[u8],
+    line: &[u8],
     bytes: &mut [u8; 32768],
     out: &mut [u8; 65536],
     s: State,
 ) -> State
-    requires { ⌜ (s .used + 17000 ≤ 65536) × (length (now rest) ≤ 65535) ⌝ }
+    requires { ⌜ (s .used + 17000 ≤ 65536) × (length (now line) ≤ 65535) ⌝ }
     ensures { λ r. ⌜ r .used ≤ s .used + 17000 ⌝ }
 {
     match command {
-        Command::Plan => plan(rest, bytes, out, s),
+        Command::Plan => plan(rest_of(line), bytes, out, s),
         Command::State => show_state(out, s),
-        Command::Write => write(rest, bytes, out, s),
+        Command::Write => write(rest_of(line), bytes, out, s),
         Command::Other => bad(out, s),
     }
 }
@@ -252,19 +252,19 @@ fn answer(
 // The answer and the line's end.
 fn answer_line(
     command: Command,
-    rest: &[u8],
+    line: &[u8],
     bytes: &mut [u8; 32768],
     out: &mut [u8; 65536],
     s: State,
 ) -> State
-    requires { ⌜ (s .used + 17001 ≤ 65536) × (length (now rest) ≤ 65535) ⌝ }
+    requires { ⌜ (s .used + 17001 ≤ 65536) × (length (now line) ≤ 65535) ⌝ }
     ensures { λ r. ⌜ r .used ≤ s .used + 17001 ⌝ }
 {
-    let t = answer(command, rest, bytes, out, s);
+    let t = answer(command, line, bytes, out, s);
     at(t, put_byte(out, t.used, b'\n'))
 }
 
-// A line that does not concern the gateway's state.
+// A line that is no command of this crate.
 fn other(line: &[u8], bytes: &mut [u8; 32768], out: &mut [u8; 65536], s: State) -> State
     requires { ⌜ s .used + 17001 ≤ 65536 ⌝ }
     ensures { λ r. ⌜ r .used ≤ s .used + 17001 ⌝ }
@@ -285,5 +285,5 @@ pub fn run(line: &[u8], bytes: &mut [u8; 32768], out: &mut [u8; 65536], s: State
     if let Command::Other = command {
         return other(line, bytes, out, s);
     }
-    answer_line(command, rest_of(line), bytes, out, s)
+    answer_line(command, line, bytes, out, s)
 }

@@ -208,7 +208,7 @@ fn lent(n: usize) -> usize
 }
 
 // `0 HEX`, or the number alone.
-fn put_written(w: Written, message: &[u8], out: &mut [u8; 65536], at: usize) -> usize
+pub fn put_written(w: Written, message: &[u8], out: &mut [u8; 65536], at: usize) -> usize
     requires { ⌜ at + 17000 ≤ 65536 ⌝ }
     ensures { λ r. ⌜ r ≤ at + 17000 ⌝ }
 {
