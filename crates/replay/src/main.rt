@@ -1,7 +1,7 @@
 // Reads scripts from standard input and writes the answers.
 use libc::STDIN_FILENO;
 use libc::STDOUT_FILENO;
-use script::State;
+use session::State;
 use text::collect;
 use text::first;
 ghost use mathlib.Core.Path.{_≡_};
@@ -34,7 +34,7 @@ fn flush(out: &[u8; 65536], s: State) -> State
         return s;
     }
     write_out(out, used);
-    script::at(s, 0)
+    session::at(s, 0)
 }
 
 // The line that is held is whole.
@@ -49,7 +49,7 @@ fn end_line(
 {
     let held = s.held;
     let state = s.state;
-    let answered = script::run(first(line, held), bytes, out, state);
+    let answered = session::run(first(line, held), bytes, out, state);
     session_of(0, flush(out, answered))
 }
 
@@ -163,7 +163,7 @@ fn main() {
         &mut line,
         &mut bytes,
         &mut out,
-        session_of(0, State { used: 0 }),
+        session_of(0, session::start()),
     );
     let t = last_line(&line, &mut bytes, &mut out, s);
     write_out(&out, t.used);

@@ -3,10 +3,10 @@
 use mathlib.Core.Path.{_≡_, refl, sym, ap, _∙_}
 use mathlib.Core.List.{List, [], _∷_, _++_}
 use Prim.Native.Nat.{ℕ, zero, suc, _+_, _-_, _*_, _/_, _%_, _<_, _≤_}
-use native.Mathlib.Nat.{add-zero}
+use native.Mathlib.Nat.{add-zero, min-le-left}
 use native.Mathlib.Omega.{arith}
 use native.Mathlib.Numerals.{add-one}
-use lib.ListN.{length, getD, take, set, length-append}
+use lib.ListN.{length, getD, take, set, length-append, length-take}
 use lib.Seq.{take-suc, take-all, length-take-le, length-sets, set-comm}
 use Rattle.text.specs.Put.{overlay, Put}
 use Rattle.text.specs.Digits.{digits, places, decimal, glyph, pair, hex}
@@ -97,3 +97,7 @@ hex-done l₀ l s at i b h = rw (take-all i s b) at h
 pub decimal-put : (l l₁ : List ℕ) (at n k : ℕ) → k ≡ places n → Put l l₁ at (digits k n) (at + k) → Put l l₁ at (decimal n) (at + k)
 unfolding decimal
 decimal-put l l₁ at n k e h = record { bytes = rw e at (h .bytes); place = h .place ∙ ap (λ (x : ℕ). at + length (digits x n)) e }
+
+-- the first part of a list is no longer than it says
+pub take-short : (v l : List ℕ) (n : ℕ) → v ≡ take n l → length v ≤ n
+take-short v l n e = rw (e, length-take) (min-le-left n (length l))

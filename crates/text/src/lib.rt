@@ -191,7 +191,7 @@ fn nibble(b: u8) -> u8
 }
 
 // The byte of two hex digits; 256 where one is none.
-fn octet(h: u8, l: u8) -> u16
+pub fn octet(h: u8, l: u8) -> u16
     ensures { λ r. ⌜ (r ≡ octetOf h l) × (r ≤ 256) ⌝ }
 {
     let x = nibble(h);

@@ -1,0 +1,263 @@
+// The event lines of a script: what they say, and the text of what an event answers.
+use text::Number;
+use text::Size;
+use text::bytes_of;
+use text::is;
+use text::number_of;
+use text::put_byte;
+use text::put_bytes;
+use text::put_number;
+use text::rest_of;
+use text::word_of;
+ghost use mathlib.Core.Path.{_≡_};
+ghost use Prim.Native.Nat.{_+_, _*_, _≤_, _<_};
+ghost use lib.ListN.{length};
+
+// `msg`, `lost`, `recovery`, `up`, `down`, `linkmsg`
+pub enum Kind {
+    Message,
+    Lost,
+    Recovery,
+    LinkUp,
+    LinkDown,
+    LinkMessage,
+    NoKind,
+}
+
+// What an event line says. The index is that of an ASP, an AS or a link place, and 0 for a message of the link side; a message stands in the first bytes of
+// the buffer, `size` of them; `words` is the length of the lent list.
+pub struct Event {
+    pub kind: Kind,
+    pub index: u32,
+    pub words: usize,
+    pub size: usize,
+}
+
+pub enum Parsed {
+    Line(Event),
+    NoEvent,
+}
+
+// ---- Reading
+
+fn kind_of(name: &[u8]) -> Kind {
+    if is(name, b"msg") {
+        return Kind::Message;
+    }
+    if is(name, b"lost") {
+        return Kind::Lost;
+    }
+    if is(name, b"recovery") {
+        return Kind::Recovery;
+    }
+    if is(name, b"up") {
+        return Kind::LinkUp;
+    }
+    if is(name, b"down") {
+        return Kind::LinkDown;
+    }
+    if is(name, b"linkmsg") {
+        return Kind::LinkMessage;
+    }
+    Kind::NoKind
+}
+
+// The length of the lent list: at most 2,048 words.
+fn words_of(n: u32) -> usize {
+    if n < 2048 { n as usize } else { 2048 }
+}
+
+// `HEX`, the last word.
+fn message_of(kind: Kind, index: u32, words: usize, hex: &[u8], bytes: &mut [u8; 32768]) -> Parsed
+    requires { ⌜ length (now hex) ≤ 65535 ⌝ }
+{
+    let size = bytes_of(hex, bytes);
+    let Size::Count(n) = size else {
+        return Parsed::NoEvent;
+    };
+    Parsed::Line(Event {
+        kind,
+        index,
+        words,
+        size: n,
+    })
+}
+
+// `LISTLEN HEX`
+fn listed(kind: Kind, index: u32, rest: &[u8], bytes: &mut [u8; 32768]) -> Parsed
+    requires { ⌜ length (now rest) ≤ 65535 ⌝ }
+{
+    let number = number_of(word_of(rest));
+    let Number::Value(n) = number else {
+        return Parsed::NoEvent;
+    };
+    message_of(kind, index, words_of(n), rest_of(rest), bytes)
+}
+
+// `LISTLEN`, the last word.
+fn plain(kind: Kind, index: u32, rest: &[u8]) -> Parsed {
+    let number = number_of(rest);
+    let Number::Value(n) = number else {
+        return Parsed::NoEvent;
+    };
+    let words = words_of(n);
+    Parsed::Line(Event {
+        kind,
+        index,
+        words,
+        size: 0,
+    })
+}
+
+// The index of an event.
+fn index_of(rest: &[u8]) -> Number {
+    number_of(word_of(rest))
+}
+
+// `P LISTLEN HEX`
+fn message_line(rest: &[u8], bytes: &mut [u8; 32768]) -> Parsed
+    requires { ⌜ length (now rest) ≤ 65535 ⌝ }
+{
+    let number = index_of(rest);
+    let Number::Value(n) = number else {
+        return Parsed::NoEvent;
+    };
+    listed(Kind::Message, n, rest_of(rest), bytes)
+}
+
+// `INDEX LISTLEN`
+fn plain_line(kind: Kind, rest: &[u8]) -> Parsed {
+    let number = index_of(rest);
+    let Number::Value(n) = number else {
+        return Parsed::NoEvent;
+    };
+    plain(kind, n, rest_of(rest))
+}
+
+fn line_of(kind: Kind, rest: &[u8], bytes: &mut [u8; 32768]) -> Parsed
+    requires { ⌜ length (now rest) ≤ 65535 ⌝ }
+{
+    match kind {
+        Kind::Message => message_line(rest, bytes),
+        Kind::Lost => plain_line(Kind::Lost, rest),
+        Kind::Recovery => plain_line(Kind::Recovery, rest),
+        Kind::LinkUp => plain_line(Kind::LinkUp, rest),
+        Kind::LinkDown => plain_line(Kind::LinkDown, rest),
+        Kind::LinkMessage => listed(Kind::LinkMessage, 0, rest, bytes),
+        Kind::NoKind => Parsed::NoEvent,
+    }
+}
+
+// One of the six event lines, its message in the first bytes of a buffer.
+pub fn event_of(line: &[u8], bytes: &mut [u8; 32768]) -> Parsed
+    requires { ⌜ length (now line) ≤ 65535 ⌝ }
+{
+    line_of(kind_of(word_of(line)), rest_of(line), bytes)
+}
+
+// ---- Writing
+
+// A number, and a character after it.
+fn put_field(out: &mut [u8; 65536], at: usize, n: u32, end: u8) -> usize
+    requires { ⌜ at + 11 ≤ 65536 ⌝ }
+    ensures { λ r. ⌜ r ≤ at + 11 ⌝ }
+{
+    let next = put_number(out, at, n);
+    put_byte(out, next, end)
+}
+
+// ` (a,c,s,v)`
+fn put_order(out: &mut [u8; 65536], at: usize, a: u32, c: u32, s: u32, v: u32) -> usize
+    requires { ⌜ at + 46 ≤ 65536 ⌝ }
+    ensures { λ r. ⌜ r ≤ at + 46 ⌝ }
+{
+    let x = put_bytes(out, at, b" (");
+    let y = put_field(out, x, a, b',');
+    let z = put_field(out, y, c, b',');
+    let w = put_field(out, z, s, b',');
+    put_field(out, w, v, b')')
+}
+
+// The first orders of a list; as many as it has, and at most 258.
+fn orders_in(list: &[u32], count: u32) -> usize
+    ensures { λ r. ⌜ (r ≤ 258) × (4 * r ≤ length (now (list .entry))) ⌝ }
+{
+    let room = list.len() / 4;
+    if count > 258 {
+        return 0;
+    }
+    if (count as usize) > room {
+        return 0;
+    }
+    count as usize
+}
+
+fn put_orders(out: &mut [u8; 65536], from: usize, list: &[u32], n: usize) -> usize
+    requires { ⌜ (from + 11868 ≤ 65536) × (n ≤ 258) × (4 * n ≤ length (now list)) ⌝ }
+    ensures { λ r. ⌜ r ≤ from + 11868 ⌝ }
+{
+    let mut at = from;
+    for i in 0..n {
+        at = put_order(
+            out,
+            at,
+            list[4 * i],
+            list[4 * i + 1],
+            list[4 * i + 2],
+            list[4 * i + 3],
+        );
+    }
+    at
+}
+
+// `N COUNT (a,c,s,v) ..`, or `R NUMBER`
+pub fn put_outcome(out: &mut [u8; 65536], at: usize, code: u32, count: u32, list: &[u32]) -> usize
+    requires { ⌜ at + 17000 ≤ 65536 ⌝ }
+    ensures { λ r. ⌜ r ≤ at + 17000 ⌝ }
+{
+    if code != 0 {
+        let next = put_bytes(out, at, b"R ");
+        return put_number(out, next, code);
+    }
+    let next = put_bytes(out, at, b"N ");
+    let from = put_number(out, next, count);
+    put_orders(out, from, list, orders_in(list, count))
+}
+
+// A number after a comma; the first has none.
+fn put_next(out: &mut [u8; 65536], start: usize, at: usize, yes: bool, a: usize) -> usize
+    requires { ⌜ (at + 11 ≤ 65536) × (a < 16) ⌝ }
+    ensures { λ r. ⌜ r ≤ at + 11 ⌝ }
+{
+    if !yes {
+        return at;
+    }
+    if at == start {
+        return put_number(out, at, a as u32);
+    }
+    let next = put_byte(out, at, b',');
+    put_number(out, next, a as u32)
+}
+
+fn put_ases(out: &mut [u8; 65536], start: usize, reached: &[bool; 16]) -> usize
+    requires { ⌜ start + 176 ≤ 65536 ⌝ }
+    ensures { λ r. ⌜ r ≤ start + 176 ⌝ }
+{
+    let mut at = start;
+    for a in 0..16usize {
+        at = put_next(out, start, at, reached[a], a);
+    }
+    at
+}
+
+// The ASes reached, joined by commas; `-` if none.
+pub fn put_reached(out: &mut [u8; 65536], start: usize, reached: &[bool; 16]) -> usize
+    requires { ⌜ start + 17000 ≤ 65536 ⌝ }
+    ensures { λ r. ⌜ r ≤ start + 17000 ⌝ }
+{
+    let next = put_ases(out, start, reached);
+    if next == start {
+        return put_byte(out, next, b'-');
+    }
+    next
+}

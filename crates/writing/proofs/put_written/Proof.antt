@@ -1,0 +1,39 @@
+use borrow.Author.Needs.{needs}
+use native.Mathlib.Omega.{arith}
+use Rattle.text.proofs.Puts.{take-short}
+use borrow.Author.Needs.{needs}
+use Rattle.writing.proofs.put_written.Statement.{statement}
+use Rattle.writing.proofs.put_written.Tie as tie
+
+put-number-requires : tie.Need-put-number-requires
+put-number-requires c κs = search needs
+
+returns : tie.Need-returns
+returns c = search needs
+
+put-byte-requires : tie.Need-put-byte-requires
+put-byte-requires c κs = search needs
+
+lent-requires : tie.Need-lent-requires
+lent-requires c κs = search needs
+
+first-requires : tie.Need-first-requires
+first-requires c κs = search needs
+
+put-hex-requires : tie.Need-put-hex-requires
+put-hex-requires c κs = omega (arith, take-short _ (c .before .before .before .before .before .before .before .before .before .before .args .message .now) (c .before .lent .result) (c .first .ensures))
+
+returns-2 : tie.Need-returns-2
+returns-2 c = omega (arith, take-short _ (c .before .before .before .before .before .before .before .before .before .before .before .args .message .now) (c .before .before .lent .result) (c .before .first .ensures))
+
+pub put-written-spec : {M : Type 1} → statement M
+put-written-spec =
+    tie.close
+    (tie.spec
+    put-number-requires
+    returns
+    put-byte-requires
+    lent-requires
+    first-requires
+    put-hex-requires
+    returns-2)
