@@ -233,64 +233,56 @@ fn narrow_128(c: &[u32; 128]) -> [u8; 128]
 }
 
 // "all ASPs down, no pair active, no AS waiting, all links idle, places beyond the counts zero"
-fn build(
+fn build<'a>(
     asps: usize,
     ases: usize,
     links: usize,
-    aspid: [u32; 16],
-    mask: [u16; 16],
-    mode: [u32; 16],
-    iid: [u32; 128],
-    owner: [u32; 128],
+    aspid: &'a [u32; 16],
+    mask: &'a [u16; 16],
+    mode: &'a [u32; 16],
+    iid: &'a [u32; 128],
+    owner: &'a [u32; 128],
 ) -> Gateway
-    requires { ⌜ (asps ≤ 16) × (ases ≤ 16) × (links ≤ 128) × (allBelow (λ i. ltb (col mode i) 256) 16 ≡ true) × (allBelow (λ i. ltb (col owner i) 256) 128 ≡ true) ⌝ }
-    ensures { λ r. ⌜ r ≡ fresh asps ases links aspid mask mode iid owner ⌝ }
+    requires { ⌜ (asps ≤ 16) × (ases ≤ 16) × (links ≤ 128) × (allBelow (λ i. ltb (col (now mode) i) 256) 16 ≡ true) × (allBelow (λ i. ltb (col (now owner) i) 256) 128 ≡ true) × (length (now mode) ≡ 16) × (length (now owner) ≡ 128) ⌝ }
+    ensures { λ r. ⌜ r ≡ fresh asps ases links (now (aspid .entry)) (now (mask .entry)) (now (mode .entry)) (now (iid .entry)) (now (owner .entry)) ⌝ }
 {
-    let member = members_of(&mask);
-    let traffic = narrow_16(&mode);
-    let owned = narrow_128(&owner);
+    let member = members_of(mask);
+    let traffic = narrow_16(mode);
+    let owned = narrow_128(owner);
+    let asp_ids = *aspid;
+    let link_ids = *iid;
     Gateway {
         asps: asps as u8,
         ases: ases as u8,
         links: links as u8,
-        aspid: aspid,
+        aspid: asp_ids,
         up: [0; 16],
         member: member,
         active: [0; 256],
         mode: traffic,
         waiting: [0; 16],
-        iid: iid,
+        iid: link_ids,
         owner: owned,
         state: [0; 128],
     }
 }
 
 // The answer to a file that is laid out well, from its counts and tables.
-fn answer(
+fn answer<'a>(
     asps: usize,
     ases: usize,
     links: usize,
-    aspid: [u32; 16],
-    mask: [u16; 16],
-    spare: [u16; 16],
-    mode: [u32; 16],
-    iid: [u32; 128],
-    owner: [u32; 128],
+    aspid: &'a [u32; 16],
+    mask: &'a [u16; 16],
+    spare: &'a [u16; 16],
+    mode: &'a [u32; 16],
+    iid: &'a [u32; 128],
+    owner: &'a [u32; 128],
 ) -> Loaded
-    requires { ⌜ (asps ≤ 16) × (ases ≤ 16) × (links ≤ 128) × (blankFrom mode ases 16 ≡ true) × (blankFrom owner links 128 ≡ true) ⌝ }
-    ensures { λ r. ⌜ r ≡ built asps ases links aspid mask spare mode iid owner ⌝ }
+    requires { ⌜ (asps ≤ 16) × (ases ≤ 16) × (links ≤ 128) × (blankFrom (now mode) ases 16 ≡ true) × (blankFrom (now owner) links 128 ≡ true) × (length (now mode) ≡ 16) × (length (now owner) ≡ 128) ⌝ }
+    ensures { λ r. ⌜ r ≡ built asps ases links (now (aspid .entry)) (now (mask .entry)) (now (spare .entry)) (now (mode .entry)) (now (iid .entry)) (now (owner .entry)) ⌝ }
 {
-    if !rows_ok(
-        asps,
-        ases,
-        links,
-        &aspid,
-        &mask,
-        &spare,
-        &mode,
-        &iid,
-        &owner,
-    ) {
+    if !rows_ok(asps, ases, links, aspid, mask, spare, mode, iid, owner) {
         return Loaded {
             code: 202,
             gateway: Gateway::zeros(),
@@ -319,7 +311,7 @@ fn rows(s: &[u8]) -> Loaded
     let mode = as_words(s, y, m);
     let iid = link_words(s, z, k);
     let owner = link_words(s, z + 4, k);
-    answer(n, m, k, aspid, mask, spare, mode, iid, owner)
+    answer(n, m, k, &aspid, &mask, &spare, &mode, &iid, &owner)
 }
 
 pub fn load(file: &[u8]) -> Loaded

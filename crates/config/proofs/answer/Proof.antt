@@ -20,7 +20,7 @@ unfolding built zeros
 returns c = let e : rowsOk _ _ _ _ _ _ _ _ _ ≡ false = sym (c .before .before .rows-ok .ensures) ∙ not-true _ (c .before .if1 .taken) in rw (e, c .zeros .ensures)
 
 build-requires : tie.Need-build-requires
-build-requires c κs = let h = rows _ _ _ _ _ _ _ _ _ (sym (c .before .rows-ok .ensures) ∙ not-false _ (c .if1 .left)) in (search needs, search needs, search needs, mode-bytes _ _ (h .traffic) (c .before .before .before .before .before .before .before .before .pre .3), owner-bytes _ _ _ (search needs) (h .owned) (c .before .before .before .before .before .before .before .before .pre .4))
+build-requires c κs = let h = rows _ _ _ _ _ _ _ _ _ (sym (c .before .rows-ok .ensures) ∙ not-false _ (c .if1 .left)) in let p = c .before .before .pre in (p .0, p .1, p .2, mode-bytes _ _ (h .traffic) (p .3), owner-bytes _ _ _ (p .1) (h .owned) (p .4), p .5, p .6)
 
 returns-2 : tie.Need-returns-2
 unfolding built

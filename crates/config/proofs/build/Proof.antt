@@ -13,18 +13,18 @@ narrow-16-requires c κs = search needs
 narrow-128-requires : tie.Need-narrow-128-requires
 narrow-128-requires c κs = search needs
 
-cast-t18 : tie.Need-cast-t18
-cast-t18 c = search needs
+cast-t14 : tie.Need-cast-t14
+cast-t14 c = search needs
 
-cast-t19 : tie.Need-cast-t19
-cast-t19 c = search needs
+cast-t15 : tie.Need-cast-t15
+cast-t15 c = search needs
 
-cast-t20 : tie.Need-cast-t20
-cast-t20 c = search needs
+cast-t16 : tie.Need-cast-t16
+cast-t16 c = search needs
 
 returns : tie.Need-returns
 unfolding fresh
-returns c = rw (c .narrow-128 .ensures, c .before .before .narrow-16 .ensures, c .before .before .before .before .members-of .ensures)
+returns c = rw (c .before .before .narrow-128 .ensures, c .before .before .before .narrow-16 .ensures, c .before .before .before .before .members-of .ensures)
 
 pub build-spec : {M : Type 1} → statement M
 build-spec =
@@ -33,7 +33,7 @@ build-spec =
     members-of-requires
     narrow-16-requires
     narrow-128-requires
-    cast-t18
-    cast-t19
-    cast-t20
+    cast-t14
+    cast-t15
+    cast-t16
     returns)

@@ -52,11 +52,11 @@ link-words-requires-2 : tie.Need-link-words-requires-2
 link-words-requires-2 c κs = let l = layout _ (c .before .before .before .before .before .before .before .before .before .before .before .before .pre) in search needs
 
 answer-requires : tie.Need-answer-requires
-answer-requires c κs = let l = layout _ (c .before .before .before .before .before .before .before .before .before .before .before .before .before .pre) in (search needs, search needs, search needs, rw (c .before .before .as-words .ensures) (column-blank 16 _ _), rw (c .link-words2 .ensures) (column-blank 128 _ _))
+answer-requires c κs = let l = layout _ (c .before .before .before .before .before .before .before .before .before .before .before .before .before .before .before .before .before .before .before .pre) in (rw (c .before .before .before .before .before .before .before .before .before .before .before .before .before .before .before .before .before .count-of .ensures .0) (l .asps), rw (c .before .before .before .before .before .before .before .before .before .before .before .before .before .before .before .before .count-of2 .ensures .0) (l .ases), rw (c .before .before .before .before .before .before .before .before .before .before .before .before .before .before .before .count-of3 .ensures .0) (l .links), rw (c .before .before .before .before .before .before .before .before .as-words .ensures) (column-blank 16 _ _), rw (c .before .before .before .before .before .before .link-words2 .ensures) (column-blank 128 _ _), search needs, search needs)
 
 returns : tie.Need-returns
 unfolding loadOf aspIds masks spares modes linkIds owners
-returns c = c .answer .ensures ∙ rw (c .before .before .before .before .before .before .before .before .before .before .before .before .before .before .pre, c .before .link-words2 .ensures, c .before .before .link-words .ensures, c .before .before .before .as-words .ensures, c .before .before .before .before .asp-halves2 .ensures, c .before .before .before .before .before .asp-halves .ensures, c .before .before .before .before .before .before .asp-words .ensures, c .before .before .before .before .before .before .before .offset-of3 .ensures .0, c .before .before .before .before .before .before .before .before .offset-of2 .ensures .0, c .before .before .before .before .before .before .before .before .before .offset-of .ensures .0, c .before .before .before .before .before .before .before .before .before .before .count-of3 .ensures .0, c .before .before .before .before .before .before .before .before .before .before .before .count-of2 .ensures .0, c .before .before .before .before .before .before .before .before .before .before .before .before .count-of .ensures .0)
+returns c = c .answer .ensures ∙ rw (c .before .before .before .before .before .before .before .before .before .before .before .before .before .before .before .before .before .before .before .before .pre, c .before .before .before .before .before .before .before .link-words2 .ensures, c .before .before .before .before .before .before .before .before .link-words .ensures, c .before .before .before .before .before .before .before .before .before .as-words .ensures, c .before .before .before .before .before .before .before .before .before .before .asp-halves2 .ensures, c .before .before .before .before .before .before .before .before .before .before .before .asp-halves .ensures, c .before .before .before .before .before .before .before .before .before .before .before .before .asp-words .ensures, c .before .before .before .before .before .before .before .before .before .before .before .before .before .offset-of3 .ensures .0, c .before .before .before .before .before .before .before .before .before .before .before .before .before .before .offset-of2 .ensures .0, c .before .before .before .before .before .before .before .before .before .before .before .before .before .before .before .offset-of .ensures .0, c .before .before .before .before .before .before .before .before .before .before .before .before .before .before .before .before .count-of3 .ensures .0, c .before .before .before .before .before .before .before .before .before .before .before .before .before .before .before .before .before .count-of2 .ensures .0, c .before .before .before .before .before .before .before .before .before .before .before .before .before .before .before .before .before .before .count-of .ensures .0)
 
 pub rows-spec : {M : Type 1} → statement M
 rows-spec =
