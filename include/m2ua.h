@@ -21,6 +21,31 @@ typedef struct {
     uint32_t action;      /* of a Retrieval Request or Confirm */
 } m2ua_reading;
 
+/* The gateway's state, by value. Every pattern of bytes is a state; m2ua_is_consistent tells the sound ones. A pair's index is as * 16 + asp. */
+typedef struct {
+    uint8_t asps, ases, links;       /* how many of each the plan has */
+    uint32_t aspid[16];              /* ASP identifiers */
+    uint8_t up[16];                  /* 1: the ASP is up */
+    uint8_t member[256];             /* 1: the ASP has part in the AS */
+    uint8_t active[256];             /* 1: the ASP is active in the AS */
+    uint8_t mode[16];                /* 1 override, 2 load-share, 3 broadcast */
+    uint8_t waiting[16];             /* 1: the recovery time runs */
+    uint32_t iid[128];               /* interface identifiers, ascending */
+    uint8_t owner[128];              /* the AS that owns the link */
+    uint8_t state[128];              /* 0 idle, 1 starting, 2 in service, 3 stopping */
+} m2ua_gateway;
+
+typedef struct {
+    uint32_t code; /* 0, 201 or 202; of a refused plan the state is all zeros */
+    m2ua_gateway gateway;
+} m2ua_loaded;
+
+/* Loads a plan file of any bytes. */
+m2ua_loaded m2ua_load(const uint8_t *file, size_t len);
+
+/* 1 where the state is consistent (document 01: a sound board), else 0. */
+uint32_t m2ua_is_consistent(m2ua_gateway g);
+
 /* Reads a message of any bytes. It keeps no state and touches nothing but its result. */
 m2ua_reading m2ua_read(const uint8_t *msg, size_t len);
 

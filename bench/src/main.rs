@@ -1,9 +1,10 @@
 //! Times the proved library against the hand-written second program, both in this one run, on the same inputs. Each pair is first checked to
 //! agree on what is timed.
-mod proved;
-mod timing;
-
+use bench::plans::{full_plan, plan, plan_s};
+use bench::{proved, timing};
 use second::read::{read, Reading};
+use second::{is_sound, load, Gateway};
+use std::hint::black_box;
 
 fn number(tag: u16, value: u32) -> Vec<u8> {
     let mut p = vec![];
@@ -30,6 +31,12 @@ fn message(class: u8, kind: u8, params: &[Vec<u8>]) -> Vec<u8> {
     m
 }
 
+/// The state as the hand-written baseline gets it too: by value.
+#[inline(never)]
+fn by_value(state: Gateway) -> Gateway {
+    state
+}
+
 fn read_both(msg: &[u8]) -> Reading {
     let r = proved::read(msg);
     assert_eq!(r, read(msg), "the two readers differ");
@@ -40,12 +47,25 @@ fn main() {
     let up = message(3, 1, &[]);
     let range = bytes(0x8, &[0, 0, 0, 100, 0, 0, 0, 115]);
     let m = message(4, 1, &[number(0xb, 1), range]);
-    let data = message(6, 1, &[number(0x1, 100), number(0x13, 7), bytes(0x300, &[0x55; 60])]);
+    let data = message(
+        6,
+        1,
+        &[number(0x1, 100), number(0x13, 7), bytes(0x300, &[0x55; 60])],
+    );
     assert_eq!(data.len(), 88);
     let ids: Vec<u8> = (0..500u32).flat_map(|i| (i * 3).to_be_bytes()).collect();
     let active = message(4, 1, &[bytes(0x1, &ids)]);
-    let ranges: Vec<u8> = (0..250u32).flat_map(|i| [i * 3, i * 3 + 1]).flat_map(|x| x.to_be_bytes()).collect();
+    let ranges: Vec<u8> = (0..250u32)
+        .flat_map(|i| [i * 3, i * 3 + 1])
+        .flat_map(|x| x.to_be_bytes())
+        .collect();
     let active_ranges = message(4, 1, &[bytes(0x8, &ranges)]);
+
+    let plans = [
+        ("smallest plan", plan(&[(7, 1)], &[1], &[])),
+        ("plan S", plan_s()),
+        ("full plan", full_plan()),
+    ];
 
     timing::heading();
     for (name, msg) in [
@@ -56,6 +76,27 @@ fn main() {
         ("read Active of 250 ranges", &active_ranges),
     ] {
         assert_eq!(read_both(msg).code, 0);
-        timing::compare(name, || proved::read(std::hint::black_box(msg)), || read(std::hint::black_box(msg)));
+        timing::compare(
+            name,
+            || proved::read(black_box(msg)),
+            || read(black_box(msg)),
+        );
+    }
+    for (name, file) in &plans {
+        let loaded = proved::load(file);
+        assert_eq!(loaded, load(file), "the two loaders differ");
+        assert_eq!(loaded.code, 0);
+        timing::compare(
+            &format!("load {name}"),
+            || proved::load(black_box(file)),
+            || load(black_box(file)),
+        );
+        let state = loaded.gateway;
+        assert!(proved::is_consistent(&state) && is_sound(&state));
+        timing::compare(
+            &format!("soundness, {name}"),
+            || proved::is_consistent(black_box(&state)),
+            || is_sound(&by_value(black_box(state))),
+        );
     }
 }

@@ -5,7 +5,10 @@ use std::time::Instant;
 const RUNS: usize = 41;
 
 pub fn heading() {
-    println!("{:34} {:>9} {:>9} {:>9} {:>9} {:>6}", "ns for each call", "best", "median", "hand best", "median", "ratio");
+    println!(
+        "{:34} {:>9} {:>9} {:>9} {:>9} {:>6}",
+        "ns for each call", "best", "median", "hand best", "median", "ratio"
+    );
 }
 
 fn run<T>(f: &mut impl FnMut() -> T, calls: usize) -> f64 {

@@ -1,8 +1,19 @@
-// The public entries over the C ABI, for hosts in C and Rust. Thin: each calls the entry of its name and promises the same.
-// A slice is passed as a pointer and a length.
+// The public entries over the C ABI, for hosts in C and Rust (include/m2ua.h). Thin: each calls the entry of its name and promises the same.
+// A slice is passed as a pointer and a length, a struct by value.
+use config::Loaded;
+use gateway::Gateway;
 use message::Reading;
 ghost use mathlib.Core.Path.{_≡_};
+ghost use mathlib.Core.Bool.{cond};
 ghost use Rattle.message.specs.Meaning.{readingOf};
+ghost use Rattle.config.specs.Plan.{loadOf};
+ghost use Rattle.gateway.specs.Sound.{consistent};
+
+fn flag(b: bool) -> u32
+    ensures { λ r. ⌜ r ≡ cond b 1 0 ⌝ }
+{
+    if b { 1 } else { 0 }
+}
 
 // Reads a message: its verdict, and of an accepted one what it means.
 #[no_mangle]
@@ -10,4 +21,20 @@ pub extern "C" fn m2ua_read(msg: &[u8]) -> Reading
     ensures { λ r. ⌜ r ≡ readingOf (now (msg .entry)) ⌝ }
 {
     message::read(msg)
+}
+
+// Loads a plan file: a fresh state, or a refusal with a state of zeros.
+#[no_mangle]
+pub extern "C" fn m2ua_load(file: &[u8]) -> Loaded
+    ensures { λ r. ⌜ r ≡ loadOf (now (file .entry)) ⌝ }
+{
+    config::load(file)
+}
+
+// 1 where the state is consistent (document 01: a sound board), else 0.
+#[no_mangle]
+pub extern "C" fn m2ua_is_consistent(g: Gateway) -> u32
+    ensures { λ r. ⌜ r ≡ cond (consistent g) 1 0 ⌝ }
+{
+    flag(g.is_consistent())
 }

@@ -1,3 +1,4 @@
 pub mod Lengths
 pub mod Puts
 pub mod Parses
+pub mod Words

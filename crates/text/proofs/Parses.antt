@@ -9,8 +9,8 @@ use mathlib.Core.List.{List, [], _∷_}
 use Prim.Native.Nat.{ℕ, suc, _+_, _*_, _/_, _%_, _<_, _≤_}
 use native.Mathlib.Omega.{arith}
 use native.Mathlib.Numerals.{add-one}
-use lib.ListN.{length, getD, drop, set, drop-of-length-le}
-use lib.Seq.{drop-cons}
+use lib.ListN.{length, getD, take, drop, set, drop-of-length-le}
+use lib.Seq.{drop-cons, sets-eq, take-append-seam}
 use borrow.Author.Tests.{lt-ltb, le-ltb, eq-eqb, ne-eqb}
 use Rattle.text.specs.declared.Number.the-variants.{Value, NoNumber}
 use Rattle.text.specs.Put.{overlay}
@@ -122,3 +122,29 @@ dash-one (x ∷ y ∷ w) d = absurd (false≢true (sym (ap (λ t. cond t (eqb x 
 pub bytes-dash : (w l : List ℕ) → isDash w ≡ true → Bytes w l l (Count 0)
 unfolding sizeOf overlay
 bytes-dash w l d = record { size = sym (simp d); bytes = λ n q. sym (ap (overlay l 0) (dash-one w d)) }
+
+-- ---- the bytes in the buffer
+
+length-unhex : (w : List ℕ) → length (unhex w) ≡ length w / 2
+unfolding unhex
+length-unhex [] = refl
+length-unhex (x ∷ []) = refl
+length-unhex (x ∷ y ∷ w) = let e = length-unhex w in omega arith
+
+size-unhex : (w : List ℕ) (n : ℕ) → sizeOf w ≡ Count n → length (unhex w) ≡ n
+unfolding sizeOf octets
+size-unhex w n = go (isDash w) (eqb (length w) 0) (isHex w) refl
+  where
+    go : (d z h : Bool) → isDash w ≡ d → cond d (Count 0) (cond z NoBytes (cond h (Count (length w / 2)) NoBytes)) ≡ Count n → length (unhex w) ≡ n
+    go true z h e q = let m : 0 ≡ n = cc in ap length (dash-one w e) ∙ m
+    go false true h e q = let k : _≡_ {A = ℕ} 0 1 = cc in absurd (omega arith)
+    go false false true e q = let m : length w / 2 ≡ n = cc in length-unhex w ∙ m
+    go false false false e q = let k : _≡_ {A = ℕ} 0 1 = cc in absurd (omega arith)
+
+-- where the buffer has room for them, the first bytes are the word's
+pub bytes-are : {w before after : List ℕ} {r : Size} (n : ℕ) → Bytes w before after r → r ≡ Count n → length w ≤ 2 * length before → take n after ≡ unhex w
+unfolding overlay
+bytes-are {w} {before} {after} {r} n h e b =
+    let m : length (unhex w) ≡ n = size-unhex w n (sym (h .size) ∙ e) in
+    let k : 0 + length (unhex w) ≤ length before = omega (arith, length-unhex w) in
+    rw (h .bytes n e, sets-eq (unhex w) before 0 k, ← m) (take-append-seam (unhex w) (drop (0 + length (unhex w)) before))

@@ -1,3 +1,4 @@
 pub mod Put
 pub mod Digits
 pub mod Parse
+pub mod Word

@@ -5,6 +5,7 @@ ghost use lib.ListN.{length, take};
 ghost use mathlib.Core.List.{[], _∷_};
 ghost use Rattle.text.specs.Put.{Put};
 ghost use Rattle.text.specs.Digits.{glyph, digits, places, decimal, pair, hex};
+ghost use Rattle.text.specs.Word.{wordIn, restIn, same, Blank};
 ghost use Rattle.text.specs.Parse.{addDigit, numberOf, nibbleOf, octetOf, isDash, Bytes, Octets};
 
 // ---- Writing. Each function puts its text into `out` from `at` on and returns the place after it.
@@ -255,92 +256,56 @@ fn octets_of(w: &[u8], bytes: &mut [u8; 32768]) -> Size
     Size::Count(n)
 }
 
-// Where the words of a line end: each begins after the blank that ends the one before it. No words
-// where one is empty, or there are more than eight.
-pub struct Words {
-    pub count: usize,
-    pub ends: [usize; 8],
-}
+// ---- Words, which one blank separates.
 
-// The place after another, which is none where that is the last of all.
-fn next(at: usize) -> usize {
-    if at < 65536 { at + 1 } else { at }
-}
-
-fn no_words() -> Words
-    ensures { λ r. ⌜ r .count ≡ 0 ⌝ }
+// Where the first blank of a line stands; its length where there is none.
+fn blank_at(line: &[u8]) -> usize
+    ensures { λ r. ⌜ Blank (now (line .entry)) r ⌝ }
 {
-    Words {
-        count: 0,
-        ends: [0; 8],
+    let mut i = 0;
+    while i < line.len() {
+        if line[i] == b' ' {
+            return i;
+        }
+        i += 1;
     }
+    i
 }
 
-impl Words {
-    // Where a word ends; 0 where there is none.
-    fn end(self, i: usize) -> usize {
-        if i < self.count {
-            if i < 8 {
-                return self.ends[i];
-            }
-        }
-        0
-    }
-
-    // Where a word begins; 1 where there is none.
-    fn start(self, i: usize) -> usize {
-        if i == 0 {
-            return 0;
-        }
-        next(self.end(i - 1))
-    }
-
-    // One word more.
-    fn and(self, end: usize) -> Words
-        requires { ⌜ self .count < 8 ⌝ }
-        ensures { λ r. ⌜ r .count ≡ self .count + 1 ⌝ }
-    {
-        let mut w = self;
-        let k = w.count;
-        w.ends[k] = end;
-        w.count = k + 1;
-        w
-    }
-}
-
-// The words of a line.
-pub fn words_of(line: &[u8]) -> Words
-    ensures { λ r. ⌜ r .count ≤ 8 ⌝ }
+// The first word of a line.
+pub fn word_of(line: &[u8]) -> &[u8]
+    ensures { λ r. ⌜ now r ≡ wordIn (now (line .entry)) ⌝ }
 {
-    let mut w = no_words();
-    let mut at = 0;
-    while w.count < 8 {
-        let end = bytes::scan::find(line, at, line.len(), b' ');
-        if end <= at {
-            return no_words();
-        }
-        w = w.and(end);
-        if end == line.len() {
-            return w;
-        }
-        at = end + 1;
-    }
-    no_words()
+    first(line, blank_at(line))
 }
 
-// A word of a line, as a part of it; nothing where there is no such word.
-pub fn word(line: &[u8], w: Words, i: usize) -> &[u8]
+// What follows the first blank of a line; nothing where there is none.
+pub fn rest_of(line: &[u8]) -> &[u8]
+    ensures { λ r. ⌜ now r ≡ restIn (now (line .entry)) ⌝ }
     ensures { λ r. ⌜ length (now r) ≤ length (now (line .entry)) ⌝ }
 {
-    let from = w.start(i);
-    let to = w.end(i);
-    if to < from {
-        return &line[..0];
+    let at = blank_at(line);
+    if at < line.len() {
+        return &line[at + 1..];
     }
-    if line.len() < to {
-        return &line[..0];
+    &line[..0]
+}
+
+// Two words are the same.
+pub fn is(word: &[u8], name: &[u8]) -> bool
+    ensures { λ r. ⌜ r ≡ same (now (word .entry)) (now (name .entry)) ⌝ }
+{
+    if word.len() != name.len() {
+        return false;
     }
-    &line[from..to]
+    let mut i = 0;
+    while i < word.len() {
+        if word[i] != name[i] {
+            return false;
+        }
+        i += 1;
+    }
+    true
 }
 
 // ---- Lines.

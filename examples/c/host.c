@@ -1,4 +1,4 @@
-/* Reads sample M of document 01, whole and with a traffic mode that there is not. */
+/* Reads sample M of document 01, whole and with a traffic mode that there is not, and loads a plan. */
 #include <stdio.h>
 #include <string.h>
 #include "m2ua.h"
@@ -24,6 +24,15 @@ int main(void) {
     expect("code with mode 4", r.code, 5);
     expect("class with mode 4", r.class_, 0);
     expect("code of no bytes", m2ua_read(m, 0).code, 7);
+    const uint8_t smallest[36] = {0, 0, 0, 24, 0, 0, 0, 1, 0, 0, 0, 32, 0, 0, 0, 1, 0, 0, 0, 36, 0, 0, 0, 0,
+                                  0, 0, 0, 7, 0, 1, 0, 0, 0, 0, 0, 1};
+    m2ua_loaded plan = m2ua_load(smallest, sizeof smallest);
+    expect("code of the smallest plan", plan.code, 0);
+    expect("identifier of its ASP", plan.gateway.aspid[0], 7);
+    expect("its state is consistent", m2ua_is_consistent(plan.gateway), 1);
+    plan.gateway.up[0] = 2;
+    expect("a flag of 2 is not", m2ua_is_consistent(plan.gateway), 0);
+    expect("code of a plan cut short", m2ua_load(smallest, 35).code, 201);
     printf("C example: %s\n", failures ? "FAILED" : "ok");
     return failures != 0;
 }

@@ -1,0 +1,43 @@
+//! Plan files.
+
+/// A plan file: ASPs (identifier, mask), ASes (mode), links (identifier, owner).
+pub fn plan(asps: &[(u32, u16)], ases: &[u32], links: &[(u32, u32)]) -> Vec<u8> {
+    let at = [
+        24,
+        24 + 8 * asps.len(),
+        24 + 8 * asps.len() + 4 * ases.len(),
+    ];
+    let mut f = vec![];
+    for (offset, count) in at.into_iter().zip([asps.len(), ases.len(), links.len()]) {
+        f.extend((offset as u32).to_be_bytes());
+        f.extend((count as u32).to_be_bytes());
+    }
+    for (id, mask) in asps {
+        f.extend(id.to_be_bytes());
+        f.extend(mask.to_be_bytes());
+        f.extend([0, 0]);
+    }
+    for mode in ases {
+        f.extend(mode.to_be_bytes());
+    }
+    for (id, owner) in links {
+        f.extend(id.to_be_bytes());
+        f.extend(owner.to_be_bytes());
+    }
+    f
+}
+
+/// Plan S of document 01.
+pub fn plan_s() -> Vec<u8> {
+    let mut links: Vec<(u32, u32)> = (100..=115).map(|id| (id, 0)).collect();
+    links.push((200, 1));
+    plan(&[(7, 1), (8, 1), (9, 2)], &[1, 2], &links)
+}
+
+/// 16 ASPs, each in all of 16 ASes, and 128 links.
+pub fn full_plan() -> Vec<u8> {
+    let asps: Vec<(u32, u16)> = (0..16).map(|p| (1000 + p, 0xffff)).collect();
+    let ases: Vec<u32> = (0..16).map(|a| a % 3 + 1).collect();
+    let links: Vec<(u32, u32)> = (0..128).map(|l| (l * 3, l % 16)).collect();
+    plan(&asps, &ases, &links)
+}

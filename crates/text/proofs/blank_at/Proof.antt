@@ -1,0 +1,48 @@
+use Prim.Native.Nat.{_<_, _≤_, _-_}
+use Rattle.text.proofs.Words.{Passed, passed-none, passed-end, passed-stop, passed-more}
+use lib.ListN.{length}
+use native.Mathlib.Omega.{arith}
+use borrow.Author.Needs.{needs}
+use Rattle.text.proofs.blank_at.Statement.{statement}
+use Rattle.text.proofs.blank_at.Tie as tie
+
+abbrev Inv-loop : tie.InvT-loop
+Inv-loop line i₀ i = Passed line i
+
+abbrev μ-loop : tie.MeasureT-loop
+μ-loop line i₀ i = length line - i
+
+loop-holds : tie.Need-loop-holds Inv-loop μ-loop
+loop-holds c = passed-none _
+
+shared-slice-read-if1 : tie.Need-shared-slice-read-if1 Inv-loop μ-loop
+shared-slice-read-if1 c = search needs
+
+returns : tie.Need-returns Inv-loop μ-loop
+returns c = let a = c .before .before .before .before .args .line .now in let l = c .before .before .before .loop in let h : l .i < length a = omega arith in passed-stop a (l .i) (l .inv) h (c .if1 .taken)
+
+add-i : tie.Need-add-i Inv-loop μ-loop
+add-i c = search needs
+
+loop-less : tie.Need-loop-less Inv-loop μ-loop
+loop-less c = search needs
+
+loop-again : tie.Need-loop-again Inv-loop μ-loop
+loop-again c = let a = c .before .before .before .before .args .line .now in let l = c .before .before .before .loop in let h : l .i < length a = omega arith in passed-more a (l .i) (l .inv) h (c .if1 .left)
+
+returns-2 : tie.Need-returns-2 Inv-loop μ-loop
+returns-2 c = let a = c .before .before .args .line .now in let l = c .before .loop in let h : length a ≤ l .i = omega arith in passed-end a (l .i) (l .inv) h
+
+pub blank-at-spec : {M : Type 1} → statement M
+blank-at-spec =
+    tie.close
+    (tie.spec
+    Inv-loop
+    μ-loop
+    loop-holds
+    shared-slice-read-if1
+    returns
+    add-i
+    loop-less
+    loop-again
+    returns-2)
