@@ -21,6 +21,17 @@ typedef struct {
     uint32_t action;      /* of a Retrieval Request or Confirm */
 } m2ua_reading;
 
+/* What a write did: 0 and the bytes written, or the number of the refusal and 0. */
+typedef struct {
+    uint32_t code;
+    size_t length;
+} m2ua_written;
+
+/* Writes the message of a class, a type and a list of tags and values: the tags, the lengths of the values, and the values one after the other.
+ * A refusal (the reader's number for that message, then 103 where `out` is short) changes no byte of `out`; bytes behind the message stay. */
+m2ua_written m2ua_write(uint8_t class_, uint8_t kind, const uint16_t *tags, size_t tag_count, const uint32_t *lens, size_t len_count,
+                        const uint8_t *values, size_t value_bytes, uint8_t *out, size_t out_bytes);
+
 /* The gateway's state, by value. Every pattern of bytes is a state; m2ua_is_consistent tells the sound ones. A pair's index is as * 16 + asp. */
 typedef struct {
     uint8_t asps, ases, links;       /* how many of each the plan has */

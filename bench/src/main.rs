@@ -3,7 +3,7 @@
 use bench::plans::{full_plan, plan, plan_s};
 use bench::{proved, timing};
 use second::read::{read, Reading};
-use second::{is_sound, load, Gateway};
+use second::{is_sound, load, write, Gateway};
 use std::hint::black_box;
 
 fn number(tag: u16, value: u32) -> Vec<u8> {
@@ -80,6 +80,61 @@ fn main() {
             name,
             || proved::read(black_box(msg)),
             || read(black_box(msg)),
+        );
+    }
+    for (name, class, kind, list) in [
+        (
+            "write sample M",
+            4,
+            1,
+            vec![
+                (0xb, vec![0, 0, 0, 1]),
+                (0x8, vec![0, 0, 0, 100, 0, 0, 0, 115]),
+            ],
+        ),
+        (
+            "write Data of 88 bytes",
+            6,
+            1,
+            vec![
+                (0x1, vec![0, 0, 0, 100]),
+                (0x13, vec![0, 0, 0, 7]),
+                (0x300, vec![0x55; 60]),
+            ],
+        ),
+        (
+            "write Active Ack of 500 identifiers",
+            4,
+            3,
+            vec![(0x1, ids.clone())],
+        ),
+    ] {
+        let tags: Vec<u16> = list.iter().map(|p: &(u16, Vec<u8>)| p.0).collect();
+        let lens: Vec<u32> = list.iter().map(|p| p.1.len() as u32).collect();
+        let values: Vec<u8> = list.iter().flat_map(|p| p.1.clone()).collect();
+        let (mut a, mut b) = ([0xaa; 2048], [0xaa; 2048]);
+        let w = proved::write(class, kind, &tags, &lens, &values, &mut a);
+        let v = write(class.into(), kind.into(), &tags, &lens, &values, &mut b);
+        assert_eq!(
+            (w.code, w.length as u32),
+            (v.code, v.length),
+            "the two writers differ"
+        );
+        assert_eq!(w.code, 0);
+        assert_eq!(a, b);
+        timing::compare(
+            name,
+            || proved::write(class, kind, black_box(&tags), &lens, &values, &mut a),
+            || {
+                write(
+                    class.into(),
+                    kind.into(),
+                    black_box(&tags),
+                    &lens,
+                    &values,
+                    &mut b,
+                )
+            },
         );
     }
     for (name, file) in &plans {

@@ -3,8 +3,28 @@
 use second::read::Reading;
 use second::{Gateway, Loaded};
 
+/// What a write did.
+#[repr(C)]
+#[derive(Clone, Copy, Debug, PartialEq, Eq)]
+pub struct Written {
+    pub code: u32,
+    pub length: usize,
+}
+
 extern "C" {
     fn m2ua_read(msg: *const u8, len: usize) -> Reading;
+    fn m2ua_write(
+        class: u8,
+        kind: u8,
+        tags: *const u16,
+        tag_count: usize,
+        lens: *const u32,
+        len_count: usize,
+        values: *const u8,
+        value_bytes: usize,
+        out: *mut u8,
+        out_bytes: usize,
+    ) -> Written;
     fn m2ua_load(file: *const u8, len: usize) -> Loaded;
     fn m2ua_is_consistent(g: Gateway) -> u32;
 }
@@ -22,4 +42,29 @@ pub fn load(file: &[u8]) -> Loaded {
 pub fn is_consistent(g: &Gateway) -> bool {
     // SAFETY: the struct is passed by value, and any bytes are a state.
     unsafe { m2ua_is_consistent(*g) == 1 }
+}
+
+pub fn write(
+    class: u8,
+    kind: u8,
+    tags: &[u16],
+    lens: &[u32],
+    values: &[u8],
+    out: &mut [u8],
+) -> Written {
+    // SAFETY: each pointer and length are those of one slice, and the entry has no `requires`.
+    unsafe {
+        m2ua_write(
+            class,
+            kind,
+            tags.as_ptr(),
+            tags.len(),
+            lens.as_ptr(),
+            lens.len(),
+            values.as_ptr(),
+            values.len(),
+            out.as_mut_ptr(),
+            out.len(),
+        )
+    }
 }

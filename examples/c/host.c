@@ -24,6 +24,19 @@ int main(void) {
     expect("code with mode 4", r.code, 5);
     expect("class with mode 4", r.class_, 0);
     expect("code of no bytes", m2ua_read(m, 0).code, 7);
+    const uint16_t tags[2] = {0xb, 0x8};
+    const uint32_t lens[2] = {4, 8};
+    const uint8_t values[12] = {0, 0, 0, 1, 0, 0, 0, 100, 0, 0, 0, 115};
+    uint8_t out[32];
+    memset(out, 0xaa, sizeof out);
+    m2ua_written w = m2ua_write(4, 1, tags, 2, lens, 2, values, 12, out, 27);
+    expect("code of M in 27 bytes", w.code, 103);
+    expect("its buffer's first byte", out[0], 0xaa);
+    w = m2ua_write(4, 1, tags, 2, lens, 2, values, 12, out, sizeof out);
+    m[15] = 1;
+    expect("code of M written", w.code, 0);
+    expect("M written", w.length == 28 && memcmp(out, m, 28) == 0, 1);
+    expect("the byte behind it", out[28], 0xaa);
     const uint8_t smallest[36] = {0, 0, 0, 24, 0, 0, 0, 1, 0, 0, 0, 32, 0, 0, 0, 1, 0, 0, 0, 36, 0, 0, 0, 0,
                                   0, 0, 0, 7, 0, 1, 0, 0, 0, 0, 0, 1};
     m2ua_loaded plan = m2ua_load(smallest, sizeof smallest);

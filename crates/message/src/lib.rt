@@ -141,7 +141,7 @@ fn end_of(all: bool, sequence: u32) -> u32
 }
 
 // Check 8, of a row whose mandatory slots are packed.
-fn end_code(musts: u32, c: u8, t: u8, met: &[bool; 32], words: &[u32; 32]) -> u32
+pub fn end_code(musts: u32, c: u8, t: u8, met: &[bool; 32], words: &[u32; 32]) -> u32
     ensures { λ r. ⌜ r ≡ endAt musts c t (now (met .entry)) (now (words .entry)) ⌝ }
 {
     end_of(
@@ -184,7 +184,7 @@ fn head_of(v: &[u8]) -> u32
 }
 
 // The number kept of a slot is that of its first parameter.
-fn kept(again: bool, old: u32, v: &[u8]) -> u32
+pub fn kept(again: bool, old: u32, v: &[u8]) -> u32
     ensures { λ r. ⌜ r ≡ cond again old (head (now (v .entry))) ⌝ }
 {
     if again {

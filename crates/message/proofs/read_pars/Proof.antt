@@ -9,7 +9,7 @@ use Rattle.message.specs.Seen.{outcomeAt}
 use Rattle.laws.specs.Choice.{_orElse_}
 use Rattle.message.specs.Verdict.{inTurn, isNone}
 use Rattle.message.proofs.Seen.{seen-none}
-use Rattle.message.proofs.Turns.{Head, ends, refused, passes}
+use Rattle.message.proofs.Turns.{head-none, Walked, ends, refused, passes}
 use Rattle.wire.proofs.Steps.{step-next, Next}
 use Rattle.wire.specs.declared.Step.the-variants.{Param}
 use Rattle.wire.specs.Walk.{stepAt}
@@ -17,7 +17,7 @@ use Rattle.message.proofs.read_pars.Statement.{statement}
 use Rattle.message.proofs.read_pars.Tie as tie
 
 abbrev Inv-loop : tie.InvT-loop
-Inv-loop s info met₀ words₀ first₀ at₀ met words first at = Head s met words first at × ((length met ≡ 32) × (length words ≡ 32))
+Inv-loop s info met₀ words₀ first₀ at₀ met words first at = Walked s met words first at × ((length met ≡ 32) × (length words ≡ 32))
 
 abbrev μ-loop : tie.MeasureT-loop
 μ-loop s info met₀ words₀ first₀ at₀ met words first at = length s - at
@@ -34,8 +34,7 @@ next-at : (c : tie.After-slot-of Inv-loop μ-loop)
 next-at c = step-next _ _ _ _ _ (reads-at c)
 
 loop-holds : tie.Need-loop-holds Inv-loop μ-loop
-unfolding inTurn isNone
-loop-holds c = (record { passed = []; seen = seen-none; first-is = refl; rest = refl; split = refl; same-code = refl }, (refl, refl))
+loop-holds c = (record { here = head-none _ _; same-code = refl }, (refl, refl))
 
 step-at-requires : tie.Need-step-at-requires Inv-loop μ-loop
 step-at-requires c κs = search needs

@@ -22,7 +22,10 @@ put-number-requires c κs = search needs
 
 returns : tie.Need-returns
 unfolding headLine
-returns c = let p = c .before .before .before .before .before .before .put-bytes .ensures .place in let q = c .before .before .put-byte .ensures .place in (put-then (c .before .before .before .before .before .before .put-bytes .ensures) (put-then (c .before .before .before .before .put-two .ensures .0) (put-then (c .before .before .put-byte .ensures) (c .put-number .ensures .0))), omega arith)
+returns c =
+    let p = c .before .before .before .before .before .before .put-bytes .ensures .place in
+    let q = c .before .before .put-byte .ensures .place in
+    (put-then (c .before .before .before .before .before .before .put-bytes .ensures) (put-then (c .before .before .before .before .put-two .ensures .0) (put-then (c .before .before .put-byte .ensures) (c .put-number .ensures .0))), omega arith)
 
 pub put-head-spec : {M : Type 1} → statement M
 put-head-spec =

@@ -13,10 +13,17 @@ put-number-requires : tie.Need-put-number-requires
 put-number-requires c κs = search needs
 
 put-pars-requires : tie.Need-put-pars-requires
-put-pars-requires c κs = let e = c .before .before .before .before .before .read .ensures in let k = accepted-short _ (sym (ap (λ (r : Reading). r .code) e) ∙ c .before .if1 .taken) in omega arith
+put-pars-requires c κs =
+    let e = c .before .before .before .before .before .read .ensures in
+    let k = accepted-short _ (sym (ap (λ (r : Reading). r .code) e) ∙ c .before .if1 .taken) in
+    omega arith
 
 returns : tie.Need-returns
-returns c = let e = c .before .before .before .before .before .before .read .ensures in let z = c .before .before .if1 .taken in let k = accepted-short _ (sym (ap (λ (r : Reading). r .code) e) ∙ z) in (read-some _ _ e z (c .before .before .before .before .put-number .ensures .0) (c .put-pars .ensures .0), omega arith)
+returns c =
+    let e = c .before .before .before .before .before .before .read .ensures in
+    let z = c .before .before .if1 .taken in
+    let k = accepted-short _ (sym (ap (λ (r : Reading). r .code) e) ∙ z) in
+    (read-some _ _ e z (c .before .before .before .before .put-number .ensures .0) (c .put-pars .ensures .0), omega arith)
 
 returns-2 : tie.Need-returns-2
 returns-2 c = (read-none _ _ (c .before .before .before .before .read .ensures) (c .if1 .left) (c .before .before .put-number .ensures .0), omega arith)

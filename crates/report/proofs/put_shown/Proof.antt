@@ -10,7 +10,10 @@ read-requires : tie.Need-read-requires
 read-requires c κs = search needs
 
 put-accepted-requires : tie.Need-put-accepted-requires
-put-accepted-requires c κs = let e = c .before .before .before .read .ensures in let k = accepted-short _ (sym (ap (λ (r : Reading). r .code) e) ∙ c .before .if1 .taken) in (omega arith, omega arith)
+put-accepted-requires c κs =
+    let e = c .before .before .before .read .ensures in
+    let k = accepted-short _ (sym (ap (λ (r : Reading). r .code) e) ∙ c .before .if1 .taken) in
+    (omega arith, omega arith)
 
 returns : tie.Need-returns
 returns c = (shown-some _ _ (c .before .before .before .before .read .ensures) _ (c .before .before .if1 .taken) (c .put-accepted .ensures .0), omega arith)

@@ -16,7 +16,9 @@ put-number-requires-2 c κs = search needs
 
 returns : tie.Need-returns
 unfolding two
-returns c = let p = c .before .before .put-byte .ensures .place in (put-then (c .before .before .before .before .put-number .ensures .0) (put-then (c .before .before .put-byte .ensures) (c .put-number2 .ensures .0)), omega arith)
+returns c =
+    let p = c .before .before .put-byte .ensures .place in
+    (put-then (c .before .before .before .before .put-number .ensures .0) (put-then (c .before .before .put-byte .ensures) (c .put-number2 .ensures .0)), omega arith)
 
 pub put-two-spec : {M : Type 1} → statement M
 put-two-spec =

@@ -16,7 +16,9 @@ put-number-requires c κs = search needs
 
 returns : tie.Need-returns
 unfolding verdictLine
-returns c = let p = c .before .before .put-bytes .ensures .place in (put-then (c .before .before .put-bytes .ensures) (c .put-number .ensures .0), omega arith)
+returns c =
+    let p = c .before .before .put-bytes .ensures .place in
+    (put-then (c .before .before .put-bytes .ensures) (c .put-number .ensures .0), omega arith)
 
 pub put-verdict-spec : {M : Type 1} → statement M
 put-verdict-spec =

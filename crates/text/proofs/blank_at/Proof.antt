@@ -19,7 +19,11 @@ shared-slice-read-if1 : tie.Need-shared-slice-read-if1 Inv-loop μ-loop
 shared-slice-read-if1 c = search needs
 
 returns : tie.Need-returns Inv-loop μ-loop
-returns c = let a = c .before .before .before .before .args .line .now in let l = c .before .before .before .loop in let h : l .i < length a = omega arith in passed-stop a (l .i) (l .inv) h (c .if1 .taken)
+returns c =
+    let a = c .before .before .before .before .args .line .now in
+    let l = c .before .before .before .loop in
+    let h : l .i < length a = omega arith in
+    passed-stop a (l .i) (l .inv) h (c .if1 .taken)
 
 add-i : tie.Need-add-i Inv-loop μ-loop
 add-i c = search needs
@@ -28,10 +32,18 @@ loop-less : tie.Need-loop-less Inv-loop μ-loop
 loop-less c = search needs
 
 loop-again : tie.Need-loop-again Inv-loop μ-loop
-loop-again c = let a = c .before .before .before .before .args .line .now in let l = c .before .before .before .loop in let h : l .i < length a = omega arith in passed-more a (l .i) (l .inv) h (c .if1 .left)
+loop-again c =
+    let a = c .before .before .before .before .args .line .now in
+    let l = c .before .before .before .loop in
+    let h : l .i < length a = omega arith in
+    passed-more a (l .i) (l .inv) h (c .if1 .left)
 
 returns-2 : tie.Need-returns-2 Inv-loop μ-loop
-returns-2 c = let a = c .before .before .args .line .now in let l = c .before .loop in let h : length a ≤ l .i = omega arith in passed-end a (l .i) (l .inv) h
+returns-2 c =
+    let a = c .before .before .args .line .now in
+    let l = c .before .loop in
+    let h : length a ≤ l .i = omega arith in
+    passed-end a (l .i) (l .inv) h
 
 pub blank-at-spec : {M : Type 1} → statement M
 blank-at-spec =

@@ -14,7 +14,10 @@ returns : tie.Need-returns
 returns c = search needs
 
 returns-2 : tie.Need-returns-2
-returns-2 c = let a = c .before .args in let h : length (a .s .now) ≤ a .n = omega arith in sym (take-all (a .n) (a .s .now) h)
+returns-2 c =
+    let a = c .before .args in
+    let h : length (a .s .now) ≤ a .n = omega arith in
+    sym (take-all (a .n) (a .s .now) h)
 
 pub first-spec : {M : Type 1} → statement M
 first-spec = tie.close (tie.spec slice-aggregate-result returns returns-2)

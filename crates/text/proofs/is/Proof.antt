@@ -27,7 +27,13 @@ shared-slice-read-if2-2 : tie.Need-shared-slice-read-if2-2 Inv-loop μ-loop
 shared-slice-read-if2-2 c = search needs
 
 returns-2 : tie.Need-returns-2 Inv-loop μ-loop
-returns-2 c = let a = c .before .before .before .before .before .before .args .word .now in let n = c .before .before .before .before .before .before .args .name .now in let l = c .before .before .before .before .loop in let h : l .i < length a = omega arith in let k : l .i < length n = omega arith in sym (same-stop a n (l .i) h k (c .if2 .taken)) ∙ l .inv .2
+returns-2 c =
+    let a = c .before .before .before .before .before .before .args .word .now in
+    let n = c .before .before .before .before .before .before .args .name .now in
+    let l = c .before .before .before .before .loop in
+    let h : l .i < length a = omega arith in
+    let k : l .i < length n = omega arith in
+    sym (same-stop a n (l .i) h k (c .if2 .taken)) ∙ l .inv .2
 
 add-i : tie.Need-add-i Inv-loop μ-loop
 add-i c = search needs
@@ -36,10 +42,21 @@ loop-less : tie.Need-loop-less Inv-loop μ-loop
 loop-less c = search needs
 
 loop-again : tie.Need-loop-again Inv-loop μ-loop
-loop-again c = let a = c .before .before .before .before .before .before .args .word .now in let n = c .before .before .before .before .before .before .args .name .now in let l = c .before .before .before .before .loop in let h : l .i < length a = omega arith in let k : l .i < length n = omega arith in (omega arith, l .inv .1, same-next a n (l .i) h k (c .if2 .left) ∙ l .inv .2)
+loop-again c =
+    let a = c .before .before .before .before .before .before .args .word .now in
+    let n = c .before .before .before .before .before .before .args .name .now in
+    let l = c .before .before .before .before .loop in
+    let h : l .i < length a = omega arith in
+    let k : l .i < length n = omega arith in
+    (omega arith, l .inv .1, same-next a n (l .i) h k (c .if2 .left) ∙ l .inv .2)
 
 returns-3 : tie.Need-returns-3 Inv-loop μ-loop
-returns-3 c = let a = c .before .before .before .args .word .now in let n = c .before .before .before .args .name .now in let l = c .before .loop in let h : length a ≤ l .i = omega arith in sym (same-end a n (l .i) h (l .inv .1)) ∙ l .inv .2
+returns-3 c =
+    let a = c .before .before .before .args .word .now in
+    let n = c .before .before .before .args .name .now in
+    let l = c .before .loop in
+    let h : length a ≤ l .i = omega arith in
+    sym (same-end a n (l .i) h (l .inv .1)) ∙ l .inv .2
 
 pub is-spec : {M : Type 1} → statement M
 is-spec =

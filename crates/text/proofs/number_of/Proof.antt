@@ -33,7 +33,11 @@ enum-told : tie.Need-enum-told Inv-loop μ-loop
 enum-told c = search needs
 
 returns-2 : tie.Need-returns-2 Inv-loop μ-loop
-returns-2 c = let w = c .before .before .before .before .before .before .before .before .args .w .now in let l = c .before .before .before .before .before .loop in let h : l .i < length w = omega arith in sym (number-stop w (l .i) (l .n) h (sym (c .before .before .add-digit .ensures) ∙ c .enum-told .given .1)) ∙ l .inv .1 ∙ number-some w (c .before .before .before .before .before .before .if1 .left)
+returns-2 c =
+    let w = c .before .before .before .before .before .before .before .before .args .w .now in
+    let l = c .before .before .before .before .before .loop in
+    let h : l .i < length w = omega arith in
+    sym (number-stop w (l .i) (l .n) h (sym (c .before .before .add-digit .ensures) ∙ c .enum-told .given .1)) ∙ l .inv .1 ∙ number-some w (c .before .before .before .before .before .before .if1 .left)
 
 add-i : tie.Need-add-i Inv-loop μ-loop
 add-i c = search needs
@@ -42,10 +46,18 @@ loop-less : tie.Need-loop-less Inv-loop μ-loop
 loop-less c = search needs
 
 loop-again : tie.Need-loop-again Inv-loop μ-loop
-loop-again c = let w = c .before .before .before .before .before .before .before .before .before .args .w .now in let l = c .before .before .before .before .before .before .loop in let h : l .i < length w = omega arith in (omega arith, number-next w (l .i) (l .n) _ h (sym (c .before .before .before .add-digit .ensures) ∙ c .before .more .given .1) ∙ l .inv .1)
+loop-again c =
+    let w = c .before .before .before .before .before .before .before .before .before .args .w .now in
+    let l = c .before .before .before .before .before .before .loop in
+    let h : l .i < length w = omega arith in
+    (omega arith, number-next w (l .i) (l .n) _ h (sym (c .before .before .before .add-digit .ensures) ∙ c .before .more .given .1) ∙ l .inv .1)
 
 returns-3 : tie.Need-returns-3 Inv-loop μ-loop
-returns-3 c = let w = c .before .before .before .before .args .w .now in let l = c .before .loop in let h : length w ≤ l .i = omega arith in sym (number-done w (l .i) (l .n) h) ∙ l .inv .1 ∙ number-some w (c .before .before .if1 .left)
+returns-3 c =
+    let w = c .before .before .before .before .args .w .now in
+    let l = c .before .loop in
+    let h : length w ≤ l .i = omega arith in
+    sym (number-done w (l .i) (l .n) h) ∙ l .inv .1 ∙ number-some w (c .before .before .if1 .left)
 
 pub number-of-spec : {M : Type 1} → statement M
 number-of-spec =

@@ -37,7 +37,11 @@ octet-requires : tie.Need-octet-requires Inv-loop μ-loop
 octet-requires c κs = search needs
 
 returns : tie.Need-returns Inv-loop μ-loop
-returns c = let a = c .before .before .before .before .before .before .before .args .w .now in let l = c .before .before .before .before .before .loop in let b : 2 * l .i + 1 < length a = omega arith in octets-stop _ _ _ (sym (l .inv .2) ∙ hex-stop a (l .i) b (rw (c .before .octet .ensures .0) at (c .if1 .taken)))
+returns c =
+    let a = c .before .before .before .before .before .before .before .args .w .now in
+    let l = c .before .before .before .before .before .loop in
+    let b : 2 * l .i + 1 < length a = omega arith in
+    octets-stop _ _ _ (sym (l .inv .2) ∙ hex-stop a (l .i) b (rw (c .before .octet .ensures .0) at (c .if1 .taken)))
 
 cast-bytes : tie.Need-cast-bytes Inv-loop μ-loop
 cast-bytes c = search needs
@@ -52,7 +56,12 @@ loop-less : tie.Need-loop-less Inv-loop μ-loop
 loop-less c = search needs
 
 loop-again : tie.Need-loop-again Inv-loop μ-loop
-loop-again c = let a = c .before .before .before .before .before .before .before .args .w .now in let l = c .before .before .before .before .before .loop in let e = c .before .octet .ensures .0 in let b : 2 * l .i + 1 < length a = omega arith in (omega arith, rw e (unhex-next a (l .i) b (l .bytes) ∙ l .inv .1), hex-next a (l .i) b (rw e at (c .if1 .left)) ∙ l .inv .2)
+loop-again c =
+    let a = c .before .before .before .before .before .before .before .args .w .now in
+    let l = c .before .before .before .before .before .loop in
+    let e = c .before .octet .ensures .0 in
+    let b : 2 * l .i + 1 < length a = omega arith in
+    (omega arith, rw e (unhex-next a (l .i) b (l .bytes) ∙ l .inv .1), hex-next a (l .i) b (rw e at (c .if1 .left)) ∙ l .inv .2)
 
 returns-2 : tie.Need-returns-2 Inv-loop μ-loop
 returns-2 c = octets-done _ _ _ _ (omega arith) (omega arith) (c .before .before .before .pre .1) (c .before .loop .inv .1) (c .before .loop .inv .2)

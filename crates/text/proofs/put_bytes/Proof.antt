@@ -35,13 +35,18 @@ loop-less : tie.Need-loop-less Inv-loop μ-loop
 loop-less c = search needs
 
 loop-again : tie.Need-loop-again Inv-loop μ-loop
-loop-again c = let a = c .before .before .before .args in let i = c .before .before .loop .i in (omega arith, rw (c .before .before .loop .inv .1) (over-more (a .out .now) (a .s .now) (a .at) i (omega arith)))
+loop-again c =
+    let a = c .before .before .before .args in
+    let i = c .before .before .loop .i in
+    (omega arith, rw (c .before .before .loop .inv .1) (over-more (a .out .now) (a .s .now) (a .at) i (omega arith)))
 
 add-result : tie.Need-add-result Inv-loop μ-loop
 add-result c = search needs
 
 returns : tie.Need-returns Inv-loop μ-loop
-returns c = let s = c .before .before .args .s .now in record { bytes = rw (take-all (c .before .loop .i) s (omega arith)) at (c .before .loop .inv .1); place = omega arith }
+returns c =
+    let s = c .before .before .args .s .now in
+    record { bytes = rw (take-all (c .before .loop .i) s (omega arith)) at (c .before .loop .inv .1); place = omega arith }
 
 pub put-bytes-spec : {M : Type 1} → statement M
 put-bytes-spec =

@@ -26,7 +26,9 @@ slice-aggregate-result : tie.Need-slice-aggregate-result
 slice-aggregate-result c = search needs
 
 returns-2 : tie.Need-returns-2
-returns-2 c = let h = c .before .before .blank-at .ensures in (rest-none _ _ h (c .before .if1 .left), omega arith)
+returns-2 c =
+    let h = c .before .before .blank-at .ensures in
+    (rest-none _ _ h (c .before .if1 .left), omega arith)
 
 pub rest-of-spec : {M : Type 1} → statement M
 rest-of-spec =

@@ -1,0 +1,7 @@
+pub mod Lists
+pub mod Puts
+pub mod Verdicts
+pub mod Writes
+pub mod Plain
+pub mod RoundTrip
+pub mod Samples

@@ -1,0 +1,32 @@
+use mathlib.Core.Path.{refl, ap, _∙_}
+use Rattle.encode.specs.Encode.{parsIn}
+use Rattle.put.specs.Bytes.{overlay, headBytes, parsBytes}
+use Rattle.encode.proofs.Writes.{encode-sized, size-of-sized}
+use Rattle.put.proofs.Sets.{over-two}
+use borrow.Author.Needs.{needs}
+use Rattle.encode.proofs.put_message.Statement.{statement}
+use Rattle.encode.proofs.put_message.Tie as tie
+
+cast-put-header : tie.Need-cast-put-header
+cast-put-header c = search needs
+
+put-header-requires : tie.Need-put-header-requires
+put-header-requires c κs = search needs
+
+put-pars-requires : tie.Need-put-pars-requires
+put-pars-requires c κs = search needs
+
+same-length : tie.Need-same-length
+same-length c = search needs
+
+returns : tie.Need-returns
+returns c = let st = c .before .before .before .before .before .before .before .before .before .before .before .before in
+    let a = st .args in
+    let ps = parsIn (a .tags .now) (a .lens .now) (a .values .now) in
+    over-two _ (headBytes (a .class) (a .kind) (a .size)) (parsBytes ps) _ _ 0 8 (c .before .before .before .before .before .before .put-header .ensures) refl
+    (c .before .before .put-pars .ensures)
+    ∙ ap (overlay (a .out .now) 0) (encode-sized (a .class) (a .kind) ps (a .size) (size-of-sized (st .pre .sized)))
+
+pub put-message-spec : {M : Type 1} → statement M
+put-message-spec =
+    tie.close (tie.spec cast-put-header put-header-requires put-pars-requires same-length returns)

@@ -1,0 +1,47 @@
+use Rattle.encode.specs.Encode.{parsIn}
+use Rattle.parameter.specs.Table.{table, rowIn}
+use Rattle.parameter.specs.Slot.{infoOf}
+use Rattle.encode.specs.Write.{rowCode}
+use mathlib.Core.Path.{_≡_, ap, sym, _∙_}
+use Prim.Native.Nat.{ℕ, _<_}
+use borrow.Author.Needs.{needs}
+use native.Mathlib.Omega.{arith}
+use Rattle.encode.proofs.Lists.{size-some}
+use Rattle.encode.specs.Write.{listVerdict}
+use Rattle.laws.specs.Choice.{choices}
+use Rattle.encode.proofs.verdict_of.Statement.{statement}
+use Rattle.encode.proofs.verdict_of.Tie as tie
+
+returns : tie.Need-returns
+unfolding listVerdict
+returns c = search choices depth 9
+
+returns-2 : tie.Need-returns-2
+unfolding listVerdict
+returns-2 c = search choices depth 9
+
+returns-3 : tie.Need-returns-3
+unfolding listVerdict
+returns-3 c = search choices depth 9
+
+row-info-requires : tie.Need-row-info-requires
+row-info-requires c κs = search needs
+
+list-code-requires : tie.Need-list-code-requires
+list-code-requires c κs =
+    let st = c .before .before .before .before .before .before .before in
+    let ne = c .before .if3 .left in
+    let h : rowIn table (st .args .class) (st .args .kind) < 17 = omega (arith, ne, st .pre .0, st .pre .1) in
+    (h, c .row-info .ensures ∙ ap infoOf (st .pre .1), size-some _ _ _ _ (st .pre .2) (c .before .before .before .if1 .left) .lent)
+
+returns-4 : tie.Need-returns-4
+unfolding listVerdict
+returns-4 c =
+    let st = c .before .before .before .before .before .before .before .before in
+    let ps = parsIn (st .args .tags .now) (st .args .lens .now) (st .args .values .now) in
+    let e : c .list-code .result ≡ rowCode (st .args .row) (st .args .class) (st .args .kind) ps =
+    c .list-code .ensures ∙ ap (λ (i : ℕ). rowCode i (st .args .class) (st .args .kind) ps) (sym (st .pre .1)) in
+    search choices depth 9
+
+pub verdict-of-spec : {M : Type 1} → statement M
+verdict-of-spec = tie.close (tie.spec returns returns-2 returns-3 row-info-requires list-code-requires returns-4)

@@ -1,0 +1,41 @@
+-- Writing one run of bytes after another is writing both.
+-- Assumes nothing.
+use mathlib.Core.Path.{_≡_, refl, sym, ap, _∙_}
+use mathlib.Core.List.{List, [], _∷_, _++_}
+use Prim.Native.Nat.{ℕ, zero, suc, _+_, _<_, _≤_}
+use native.Mathlib.Nat.{add-zero}
+use native.Mathlib.Omega.{arith}
+use native.Mathlib.Numerals.{add-one}
+use lib.ListN.{length, getD, take, drop, set, length-append}
+use lib.Seq.{sets, take-suc, length-take-le, length-sets, sets-eq, take-at}
+use Rattle.put.specs.Bytes.{overlay}
+
+pub over-append : (l xs ys : List ℕ) (i : ℕ) → overlay (overlay l i xs) (i + length xs) ys ≡ overlay l i (xs ++ ys)
+unfolding overlay
+over-append l [] ys i = rw (add-zero i)
+over-append l (x ∷ xs) ys i = let e : i + suc (length xs) ≡ suc i + length xs = omega arith in rw e (over-append (set l i x) xs ys (suc i))
+
+-- one byte more
+pub over-more : (l v : List ℕ) (i k : ℕ) → k < length v → set (overlay l i (take k v)) (i + k) (getD v k 0) ≡ overlay l i (take (k + 1) v)
+unfolding overlay
+over-more l v i k h =
+    let e : length (take k v) ≡ k = length-take-le k v (omega arith) in
+    sym (rw (add-one, take-suc v k 0, ← over-append l (take k v) (getD v k 0 ∷ []) i, e))
+
+-- two runs, the second where the first ends
+pub over-two : (l xs ys l₁ l₂ : List ℕ) (i j : ℕ) → l₁ ≡ overlay l i xs → j ≡ i + length xs → l₂ ≡ overlay l₁ j ys → l₂ ≡ overlay l i (xs ++ ys)
+over-two l xs ys l₁ l₂ i j e₁ ej e₂ = rw (e₂, e₁, ej) (over-append l xs ys i)
+
+pub length-over : (l : List ℕ) (i : ℕ) (vs : List ℕ) → length (overlay l i vs) ≡ length l
+unfolding overlay
+length-over l i vs = length-sets l i vs
+
+-- what was written at the start stands there
+pub take-over : (l vs : List ℕ) → length vs ≤ length l → take (length vs) (overlay l 0 vs) ≡ vs
+unfolding overlay
+take-over l vs h = rw (sets-eq vs l 0 (omega arith)) (take-at vs (drop (0 + length vs) l) (length vs) refl)
+
+-- four bytes at the start, and what follows them
+pub over-four : (l ys l₂ : List ℕ) (a b c d : ℕ) → l₂ ≡ overlay (set (set (set (set l 0 a) 1 b) 2 c) 3 d) 4 ys → l₂ ≡ overlay l 0 (a ∷ b ∷ c ∷ d ∷ ys)
+unfolding overlay
+over-four l ys l₂ a b c d e = e

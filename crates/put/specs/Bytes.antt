@@ -1,0 +1,50 @@
+-- Numbers, parameters and the message header as bytes. "All numbers are big-endian."
+-- Assumes nothing.
+use mathlib.Core.Path.{_≡_}
+use Prim.Native.Nat.{ℕ, _+_, _-_, _/_, _%_, _≤_}
+use mathlib.Core.List.{List, [], _∷_, _++_}
+use lib.ListN.{length, replicate}
+use lib.Seq.{sets}
+use Rattle.wire.specs.Walk.{Par, padded}
+
+-- the bytes vs written over a list from a position on; all others stay
+unfoldable pub overlay : List ℕ → ℕ → List ℕ → List ℕ
+overlay l at vs = sets l at vs
+
+-- a number of 16 bits
+abbrev pub two : ℕ → List ℕ
+two n = n / 256 ∷ n % 256 ∷ []
+
+-- a number of 32 bits
+abbrev pub four : ℕ → List ℕ
+four n = two (n / 65536) ++ two (n % 65536)
+
+abbrev pub par : ℕ → List ℕ → Par
+par t v = record { tag = t; body = v }
+
+-- how many bytes a parameter takes whose value has n
+abbrev pub room : ℕ → ℕ
+room n = padded (4 + n)
+
+-- "16-bit tag, 16-bit length that counts these 4 bytes and the value but no padding, then 0 to 3 padding bytes .. to a multiple of 4";
+-- "writes spare and padding as zero"
+unfoldable pub parBytes : Par → List ℕ
+parBytes p =
+    two (p .tag)
+    ++ (two (4 + length (p .body))
+    ++ (p .body
+    ++ replicate (room (length (p .body)) - (4 + length (p .body))) 0))
+
+-- parameters one after the other: "the writer keeps their order"
+unfoldable pub parsBytes : List Par → List ℕ
+parsBytes [] = []
+parsBytes (p ∷ ps) = parBytes p ++ parsBytes ps
+
+-- "Header: version 1, a spare byte, class, type, 32-bit length"; "writes spare .. as zero"
+abbrev pub headBytes : ℕ → ℕ → ℕ → List ℕ
+headBytes c t n = 1 ∷ 0 ∷ c ∷ t ∷ four n
+
+-- a parameter of the tag t and the value v is written over out at a position: the position after it, and the whole buffer
+pub record PutAt (out : List ℕ) (at t : ℕ) (v : List ℕ) (r : ℕ) (out′ : List ℕ) : Type 0 where
+  pub next : r ≡ at + room (length v)
+  pub bytes : out′ ≡ overlay out at (parBytes (par t v))

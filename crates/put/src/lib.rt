@@ -1,0 +1,97 @@
+// Writes numbers, one parameter and the message header into a buffer. Each promise is an equation on the whole buffer.
+ghost use mathlib.Core.Path.{_≡_};
+ghost use mathlib.Core.List.{_++_};
+ghost use Prim.Native.Nat.{_+_, _≤_, _<_};
+ghost use lib.ListN.{length, replicate};
+ghost use Rattle.put.specs.Bytes.{overlay, two, four, room, headBytes, PutAt};
+
+// A 16-bit number, written at a position.
+pub fn put16(out: &mut [u8], at: usize, n: u16)
+    requires { ⌜ at + 2 ≤ length (now out) ⌝ }
+    ensures { λ _. ⌜ now (out .exit) ≡ overlay (now (out .entry)) at (two n) ⌝ }
+{
+    out[at] = (n / 256) as u8;
+    out[at + 1] = (n % 256) as u8;
+}
+
+// A 32-bit number, written at a position.
+pub fn put32(out: &mut [u8], at: usize, n: u32)
+    requires { ⌜ at + 4 ≤ length (now out) ⌝ }
+    ensures { λ _. ⌜ now (out .exit) ≡ overlay (now (out .entry)) at (four n) ⌝ }
+{
+    put16(out, at, (n / 65536) as u16);
+    put16(out, at + 2, (n % 65536) as u16);
+}
+
+// Bytes, written from a position on.
+pub fn put_bytes(out: &mut [u8], at: usize, v: &[u8])
+    requires { ⌜ at + length (now v) ≤ length (now out) ⌝ }
+    ensures { λ _. ⌜ now (out .exit) ≡ overlay (now (out .entry)) at (now (v .entry)) ⌝ }
+{
+    let mut i: usize = 0;
+    while i < v.len() {
+        out[at + i] = v[i];
+        i += 1;
+    }
+}
+
+// At most three zeros, written from a position on.
+fn put_zeros(out: &mut [u8], at: usize, n: usize)
+    requires { ⌜ (n < 4) × (at + n ≤ length (now out)) ⌝ }
+    ensures { λ _. ⌜ now (out .exit) ≡ overlay (now (out .entry)) at (replicate n 0) ⌝ }
+{
+    if n == 0 {
+        return;
+    }
+    out[at] = 0;
+    if n == 1 {
+        return;
+    }
+    out[at + 1] = 0;
+    if n == 2 {
+        return;
+    }
+    out[at + 2] = 0;
+}
+
+// A parameter's tag and length.
+fn put_head(out: &mut [u8], at: usize, tag: u16, n: u16)
+    requires { ⌜ at + 4 ≤ length (now out) ⌝ }
+    ensures { λ _. ⌜ now (out .exit) ≡ overlay (now (out .entry)) at (two tag ++ two n) ⌝ }
+{
+    put16(out, at, tag);
+    put16(out, at + 2, n);
+}
+
+// A parameter's value and its padding.
+fn put_value(out: &mut [u8], at: usize, v: &[u8], pad: usize)
+    requires { ⌜ (pad < 4) × (at + length (now v) + pad ≤ length (now out)) ⌝ }
+    ensures { λ _. ⌜ now (out .exit) ≡ overlay (now (out .entry)) at (now (v .entry) ++ replicate pad 0) ⌝ }
+{
+    put_bytes(out, at, v);
+    put_zeros(out, at + v.len(), pad);
+}
+
+// A parameter, written at a position; the position after it. Its value may be a part of a received message.
+pub fn put_param(out: &mut [u8], at: usize, tag: u16, v: &[u8]) -> usize
+    requires { ⌜ (length (now v) ≤ 65531) × (at + room (length (now v)) ≤ length (now out)) ⌝ }
+    ensures { λ r. ⌜ PutAt (now (out .entry)) at tag (now (v .entry)) r (now (out .exit)) ⌝ }
+{
+    let n = 4 + v.len();
+    let size = (n + 3) / 4 * 4;
+    put_head(out, at, tag, n as u16);
+    put_value(out, at + 4, v, size - n);
+    at + size
+}
+
+// The header of a message of n bytes, written at the buffer's start.
+pub fn put_header(out: &mut [u8], class: u8, kind: u8, n: u32)
+    requires { ⌜ 8 ≤ length (now out) ⌝ }
+    ensures { λ _. ⌜ now (out .exit) ≡ overlay (now (out .entry)) 0 (headBytes class kind n) ⌝ }
+{
+    out[0] = 1;
+    out[1] = 0;
+    out[2] = class;
+    out[3] = kind;
+    put32(out, 4, n);
+}
