@@ -5,7 +5,7 @@ use mathlib.Core.Bool.{Bool, _&&_, cond}
 use mathlib.Core.List.{List, [], _∷_}
 use lib.Dec.{eqb, leb, ltb}
 use lib.ListN.{length, replicate}
-use Rattle.laws.specs.Below.{allBelow, one}
+use Rattle.laws.specs.Below.{allBelow}
 use Rattle.laws.specs.Tab.{col, tab}
 use Rattle.wire.specs.Number.{be}
 use Rattle.gateway.specs.Sound.{zeros, differs, ascends, allUnder}

@@ -1,12 +1,9 @@
 // The configuration file (document 01's plan file): a fresh state of the gateway, or a refusal.
 ghost use mathlib.Core.Path.{_≡_};
 ghost use mathlib.Core.Bool.{true, _&&_};
-ghost use Prim.Native.Nat.{ℕ, _+_, _*_, _<_, _≤_};
-ghost use lib.Dec.{ltb, leb, eqb};
+ghost use Prim.Native.Nat.{_+_, _*_, _<_, _≤_};
+ghost use lib.Dec.{leb, eqb};
 ghost use lib.ListN.{length};
-ghost use Rattle.laws.specs.Below.{allBelow};
-ghost use Rattle.laws.specs.Tab.{col};
-ghost use Rattle.wire.specs.Number.{be};
 ghost use Rattle.gateway.specs.Sound.{allUnder};
 ghost use Rattle.config.specs.Plan.{offset, count, laidOut, aspWords, aspHalves, asWords, linkWords, modesOk, masksOk, sparesOk, rowsOk, bit, members, fresh, accepted, built, loadOf};
 ghost use Rattle.config.specs.Layout.{Inside, placesOf};
