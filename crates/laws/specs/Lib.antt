@@ -1,5 +1,6 @@
 pub mod Below
 pub mod Choice
+pub mod Count
 pub mod Every
 pub mod Rank
 pub mod Tab

@@ -1,0 +1,58 @@
+-- `action::to_all`: the actions to the ASPs passed. Assumes nothing.
+use Prim.Native.Nat.{_≤_, _-_}
+use native.Mathlib.Omega.{arith}
+use borrow.Author.Needs.{needs}
+use Rattle.action.specs.Words.{Emitted, emit-bound, emit-end, emit-more, emit-none, toAll, toEach, toEach-short, written-length}
+use Rattle.action.proofs.to_all.Statement.{statement}
+use Rattle.action.proofs.to_all.Tie as tie
+
+abbrev Inv-loop : tie.InvT-loop
+Inv-loop kind subject value words₀ n who m₀ q₀ words m q = Emitted (toEach who kind subject value) words₀ n q words m × (q ≤ 16)
+
+abbrev μ-loop : tie.MeasureT-loop
+μ-loop kind subject value words₀ n who m₀ q₀ words m q = 16 - q
+
+loop-holds : tie.Need-loop-holds Inv-loop μ-loop
+loop-holds c = (emit-none _ _ _, omega arith)
+
+array-read-put-if : tie.Need-array-read-put-if Inv-loop μ-loop
+array-read-put-if c = search needs
+
+cast-t15 : tie.Need-cast-t15 Inv-loop μ-loop
+cast-t15 c = search needs
+
+put-if-requires : tie.Need-put-if-requires Inv-loop μ-loop
+put-if-requires c κs = let h = c .before .before .loop .inv .0 in omega (arith, written-length (h .wrote), emit-bound 1 (toEach-short _ _ _ _) h)
+
+add-q : tie.Need-add-q Inv-loop μ-loop
+add-q c = search needs
+
+loop-less : tie.Need-loop-less Inv-loop μ-loop
+loop-less c = search needs
+
+loop-again : tie.Need-loop-again Inv-loop μ-loop
+unfolding toEach
+loop-again c = (emit-more (c .before .before .before .before .before .loop .inv .0) (c .before .before .put-if .ensures), search needs)
+
+same-length : tie.Need-same-length Inv-loop μ-loop
+same-length c = written-length (c .before .loop .inv .0 .wrote)
+
+returns : tie.Need-returns Inv-loop μ-loop
+unfolding toAll
+returns c = emit-end (c .before .loop .inv .0) (c .loop-test .left) (c .before .loop .inv .1)
+
+pub to-all-spec : {M : Type 1} → statement M
+to-all-spec =
+    tie.close
+    (tie.spec
+    Inv-loop
+    μ-loop
+    loop-holds
+    array-read-put-if
+    cast-t15
+    put-if-requires
+    add-q
+    loop-less
+    loop-again
+    same-length
+    returns)

@@ -1,0 +1,143 @@
+-- Actions as words. A function that emits leaves the list `place ws n os`: by stores, so that one list of actions after the other needs no
+-- bounds; `place-first` is the same as the whole list, the actions' words and after them the words that were there.
+-- Assumes nothing.
+use Prim.Native.Nat.{ℕ, suc, _+_, _*_, _≤_}
+use mathlib.Core.Path.{_≡_, refl, ap, _∙_, sym}
+use mathlib.Core.Bool.{Bool, true, false}
+use mathlib.Core.List.{List, [], _∷_, _++_}
+use native.Mathlib.Omega.{arith}
+use native.Mathlib.Nat.{add-zero, add-suc, suc-add, suc-mul}
+use lib.ListN.{length, set, drop, length-set, length-append}
+use lib.Seq.{sets, sets-eq}
+use Rattle.laws.specs.Below.{when, when-short, concatBelow, concat-none, concat-more, concat-short}
+use Rattle.laws.specs.Tab.{at}
+use Rattle.action.specs.declared.Action.{Action}
+
+-- "a lent list of 32-bit words, four to an order: addressee (ASP number; 255 the link side), class times 256 plus type, subject, value"
+unfoldable pub wordsOf : List Action → List ℕ
+wordsOf [] = []
+wordsOf (o ∷ os) = o .to ∷ o .kind ∷ o .subject ∷ o .value ∷ wordsOf os
+
+-- the addressee that is the link side
+abbrev pub linkSide : ℕ
+linkSide = 255
+
+abbrev pub action : ℕ → ℕ → ℕ → ℕ → Action
+action to kind subject value = record { to = to; kind = kind; subject = subject; value = value }
+
+-- what goes to ASP q where its flag is set
+unfoldable pub toEach : List Bool → ℕ → ℕ → ℕ → ℕ → List Action
+toEach who kind subject value q = when (at who q) (action q kind subject value)
+
+-- the same action to each ASP whose flag is set, ascending
+unfoldable pub toAll : List Bool → ℕ → ℕ → ℕ → List Action
+toAll who kind subject value = concatBelow (toEach who kind subject value) 16
+
+-- the list with action o at place n
+unfoldable pub putAt : List ℕ → ℕ → Action → List ℕ
+putAt ws n o =
+    set (set (set (set ws (n * 4) (o .to)) (n * 4 + 1) (o .kind)) (n * 4 + 2) (o .subject)) (n * 4 + 3) (o .value)
+
+-- the list with the actions os from place n on
+unfoldable pub place : List ℕ → ℕ → List Action → List ℕ
+place ws n [] = ws
+place ws n (o ∷ os) = place (putAt ws n o) (suc n) os
+
+-- what a function that writes the actions os from place n on leaves, and the place that it returns
+pub record Written (ws : List ℕ) (n : ℕ) (os : List Action) (ws′ : List ℕ) (r : ℕ) : Type 0 where
+  pub words : ws′ ≡ place ws n os
+  pub next : r ≡ n + length os
+
+-- ---- the whole list
+
+pub length-wordsOf : (os : List Action) → length (wordsOf os) ≡ length os * 4
+unfolding wordsOf
+length-wordsOf [] = refl
+length-wordsOf (o ∷ os) = rw (suc-mul, length-wordsOf os) (omega arith)
+
+place-sets : (os : List Action) (ws : List ℕ) (n : ℕ) → place ws n os ≡ sets ws (n * 4) (wordsOf os)
+unfolding place putAt wordsOf
+place-sets [] ws n = refl
+place-sets (o ∷ os) ws n =
+    place-sets os (putAt ws n o) (suc n)
+    ∙ (let e₁ : n * 4 + 1 ≡ suc (n * 4) = omega arith in
+    let e₂ : n * 4 + 2 ≡ suc (suc (n * 4)) = omega arith in
+    let e₃ : n * 4 + 3 ≡ suc (suc (suc (n * 4))) = omega arith in
+    let e₄ : suc n * 4 ≡ suc (suc (suc (suc (n * 4)))) = omega arith in
+    rw (e₁, e₂, e₃, e₄))
+
+-- "words after the orders stay"
+pub place-first : (ws : List ℕ) (os : List Action) → length os * 4 ≤ length ws → place ws 0 os ≡ wordsOf os ++ drop (length os * 4) ws
+place-first ws os h =
+    let e : 0 + length (wordsOf os) ≡ length os * 4 = omega (arith, length-wordsOf os) in
+    place-sets os ws 0 ∙ sets-eq (wordsOf os) ws 0 (omega arith) ∙ ap (λ (k : ℕ). wordsOf os ++ drop k ws) e
+
+-- ---- one list of actions after the other
+
+length-putAt : (ws : List ℕ) (n : ℕ) (o : Action) → length (putAt ws n o) ≡ length ws
+unfolding putAt
+length-putAt ws n o = simp length-set
+
+length-place : (ws : List ℕ) (n : ℕ) (os : List Action) → length (place ws n os) ≡ length ws
+unfolding place
+length-place ws n [] = refl
+length-place ws n (o ∷ os) = length-place (putAt ws n o) (suc n) os ∙ length-putAt ws n o
+
+pub place-append : (ws : List ℕ) (n : ℕ) (os ps : List Action) → place ws n (os ++ ps) ≡ place (place ws n os) (n + length os) ps
+unfolding place
+place-append ws n [] ps = rw add-zero
+place-append ws n (o ∷ os) ps = rw (add-suc n (length os), ← suc-add n (length os)) (place-append (putAt ws n o) (suc n) os ps)
+
+pub written-none : (ws : List ℕ) (n : ℕ) → Written ws n [] ws n
+unfolding place
+written-none ws n = record { words = refl; next = omega arith }
+
+pub written-one : {ws ws′ : List ℕ} {n : ℕ} (o : Action) → ws′ ≡ putAt ws n o → Written ws n (o ∷ []) ws′ (n + 1)
+unfolding place
+written-one {ws} {ws′} {n} o h = record { words = h; next = omega arith }
+
+pub written-append : {ws ws′ ws″ : List ℕ} {n r s : ℕ} {os ps : List Action} → Written ws n os ws′ r → Written ws′ r ps ws″ s → Written ws n (os ++ ps) ws″ s
+written-append {ws} {ws′} {ws″} {n} {r} {s} {os} {ps} h k =
+    record {
+      words = k .words ∙ rw (h .words, h .next) (sym (place-append ws n os ps));
+      next = rw length-append (omega (arith, h .next, k .next));
+    }
+
+-- an action that a flag decides
+pub written-taken : (o : Action) {b : Bool} {ws ws′ : List ℕ} {n : ℕ} → b ≡ true → ws′ ≡ putAt ws n o → Written ws n (when b o) ws′ (n + 1)
+written-taken o t h = rw t (written-one o h)
+
+pub written-left : (o : Action) {b : Bool} {ws : List ℕ} {n : ℕ} → b ≡ false → Written ws n (when b o) ws n
+written-left o {b} {ws} {n} t = rw t (written-none ws n)
+
+pub written-length : {ws ws′ : List ℕ} {n r : ℕ} {os : List Action} → Written ws n os ws′ r → length ws′ ≡ length ws
+written-length {ws} {ws′} {n} {r} {os} h = ap length (h .words) ∙ length-place ws n os
+
+-- ---- a loop that writes the actions of each number in turn: those of the numbers below k are written
+
+pub record Emitted (f : ℕ → List Action) (ws : List ℕ) (n k : ℕ) (ws′ : List ℕ) (r : ℕ) : Type 0 where
+  pub wrote : Written ws n (concatBelow f k) ws′ r
+
+pub emit-none : (f : ℕ → List Action) (ws : List ℕ) (n : ℕ) → Emitted f ws n 0 ws n
+emit-none f ws n = record { wrote = rw concat-none (written-none ws n) }
+
+pub emit-more : {f : ℕ → List Action} {ws ws′ ws″ : List ℕ} {n r s k : ℕ} → Emitted f ws n k ws′ r → Written ws′ r (f k) ws″ s → Emitted f ws n (k + 1) ws″ s
+emit-more h g = record { wrote = rw concat-more (written-append (h .wrote) g) }
+
+-- where each number has at most w actions
+pub emit-bound : {f : ℕ → List Action} (w : ℕ) → ((i : ℕ) → length (f i) ≤ w) → {ws ws′ : List ℕ} {n r k : ℕ} → Emitted f ws n k ws′ r → r ≤ n + k * w
+emit-bound {f} w short {k = k} h = omega (arith, h .wrote .next, concat-short f w short k)
+
+pub emit-end : {f : ℕ → List Action} {ws ws′ : List ℕ} {n r k m : ℕ} → Emitted f ws n k ws′ r → m ≤ k → k ≤ m → Written ws n (concatBelow f m) ws′ r
+emit-end {k = k} {m = m} h p q = let e : k ≡ m = omega arith in rw e at (h .wrote)
+
+-- ---- at most one action to each ASP
+
+pub toEach-short : (who : List Bool) (kind subject value q : ℕ) → length (toEach who kind subject value q) ≤ 1
+unfolding toEach
+toEach-short who kind subject value q = when-short (at who q) (action q kind subject value)
+
+pub toAll-short : (who : List Bool) (kind subject value : ℕ) → length (toAll who kind subject value) ≤ 16
+unfolding toAll
+toAll-short who kind subject value =
+    concat-short (toEach who kind subject value) 1 (toEach-short who kind subject value) 16

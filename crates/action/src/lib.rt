@@ -1,0 +1,67 @@
+// Actions (document 01's orders) and how they are written, four words to an action.
+ghost use mathlib.Core.Path.{_≡_};
+ghost use Prim.Native.Nat.{_+_, _*_, _≤_};
+ghost use lib.ListN.{length};
+ghost use Rattle.laws.specs.Below.{when};
+ghost use Rattle.action.specs.Words.{putAt, Written, toAll};
+
+// "four to an order: addressee (ASP number; 255 the link side), class times 256 plus type, subject, value"
+pub struct Action {
+    pub to: u32,
+    pub kind: u32,
+    pub subject: u32,
+    pub value: u32,
+}
+
+// The action at place n of the list.
+pub fn put(words: &mut [u32], n: usize, o: Action)
+    requires { ⌜ n * 4 + 4 ≤ length (now words) ⌝ }
+    ensures { λ r. ⌜ now (words .exit) ≡ putAt (now (words .entry)) n o ⌝ }
+{
+    let at = n * 4;
+    words[at] = o.to;
+    words[at + 1] = o.kind;
+    words[at + 2] = o.subject;
+    words[at + 3] = o.value;
+}
+
+// The action at place n where yes holds, else nothing; and the next place.
+pub fn put_if(words: &mut [u32], n: usize, yes: bool, o: Action) -> usize
+    requires { ⌜ n * 4 + 4 ≤ length (now words) ⌝ }
+    ensures { λ r. ⌜ Written (now (words .entry)) n (when yes o) (now (words .exit)) r ⌝ }
+{
+    if yes {
+        put(words, n, o);
+        return n + 1;
+    }
+    n
+}
+
+// The same action to each ASP whose flag is set, ascending, from place n on; and the next place.
+pub fn to_all(
+    who: [bool; 16],
+    kind: u32,
+    subject: u32,
+    value: u32,
+    words: &mut [u32],
+    n: usize,
+) -> usize
+    requires { ⌜ n * 4 + 64 ≤ length (now words) ⌝ }
+    ensures { λ r. ⌜ Written (now (words .entry)) n (toAll who kind subject value) (now (words .exit)) r ⌝ }
+{
+    let mut m = n;
+    for q in 0..16usize {
+        m = put_if(
+            words,
+            m,
+            who[q],
+            Action {
+                to: q as u32,
+                kind: kind,
+                subject: subject,
+                value: value,
+            },
+        );
+    }
+    m
+}

@@ -1,0 +1,67 @@
+-- Laws of Boolean tests, of choices, and of a place that is stored. Nothing here knows of the gateway.
+-- Assumes nothing.
+use mathlib.Core.Path.{_≡_, refl, sym, ap, _∙_}
+use mathlib.Core.Bool.{Bool, true, false, _&&_, _||_, not, cond, false≢true}
+use mathlib.Core.List.{List, [], _∷_}
+use Prim.Native.Nat.{ℕ, zero, suc, _+_, _-_, _<_, _≤_}
+use native.Mathlib.Omega.{arith}
+use native.Mathlib.Decide.{decLt, ℕ-discrete}
+use lib.ListN.{length, getD, set, drop}
+use lib.Seq.{ext-getD, getD-set-same, getD-set-other, set-out, getD-drop}
+use Rattle.laws.specs.Tab.{col}
+
+pub clash : {A : Type 0} (t : Bool) → t ≡ false → t ≡ true → A
+clash t f h = absurd (false≢true (sym f ∙ h))
+
+pub or-left : {s : Bool} (t : Bool) → s ≡ true → (s || t) ≡ true
+or-left t p = ap (λ (x : Bool). x || t) p
+
+pub or-right : (s : Bool) {t : Bool} → t ≡ true → (s || t) ≡ true
+or-right true p = refl
+or-right false p = p
+
+pub or-case : {A : Type 0} (s t : Bool) → (s || t) ≡ true → (s ≡ true → A) → (t ≡ true → A) → A
+or-case true t h f g = f refl
+or-case false t h f g = g h
+
+pub and-cong : (s : Bool) {t u : Bool} → (s ≡ true → t ≡ u) → (s && t) ≡ (s && u)
+and-cong true h = h refl
+and-cong false h = refl
+
+-- a fact of both sides of a choice, and two choices by one test
+pub by-cond : {A : Type 0} (t : Bool) (F : A → Type 0) {x y : A} → (t ≡ true → F x) → (t ≡ false → F y) → F (cond t x y)
+by-cond true F hx hy = hx refl
+by-cond false F hx hy = hy refl
+
+pub cond-same : {A : Type 0} (t : Bool) {x y x′ y′ : A} → (t ≡ true → x ≡ x′) → (t ≡ false → y ≡ y′) → cond t x y ≡ cond t x′ y′
+cond-same true hx hy = hx refl
+cond-same false hx hy = hy refl
+
+pub cond-yes : {A : Type 0} {t : Bool} (x y : A) → t ≡ true → cond t x y ≡ x
+cond-yes x y p = ap (λ (t : Bool). cond t x y) p
+
+pub cond-no : {A : Type 0} {t : Bool} (x y : A) → t ≡ false → cond t x y ≡ y
+cond-no x y p = ap (λ (t : Bool). cond t x y) p
+
+-- the same stored into lists of one length, alike at a place, leaves them alike there
+pub set-same : (l m : List ℕ) (i k v : ℕ) → length l ≡ length m → col l k ≡ col m k → col (set l i v) k ≡ col (set m i v) k
+set-same l m i k v e h = go (ℕ-discrete k i) (decLt i (length l))
+  where
+    go : Dec (k ≡ i) → Dec (i < length l) → col (set l i v) k ≡ col (set m i v) k
+    go (yes p) (yes b) = rw p (getD-set-same l i v 0 b ∙ sym (getD-set-same m i v 0 (omega arith)))
+    go (yes p) (no b) = rw (set-out l i v (omega arith), set-out m i v (omega arith)) h
+    go (no p) d = getD-set-other l i k v 0 p ∙ h ∙ sym (getD-set-other m i k v 0 p)
+
+-- lists that are alike in their first n places, and have one length and the same after those
+pub ext-front : (n : ℕ) (l m : List ℕ) → ((i : ℕ) → i < n → col l i ≡ col m i) → length l ≡ length m → drop n l ≡ drop n m → l ≡ m
+ext-front n l m f e d = ext-getD 0 l m e (λ i b. go i (decLt i n))
+  where
+    go : (i : ℕ) → Dec (i < n) → col l i ≡ col m i
+    go i (yes b) = f i b
+    go i (no b) =
+        let z : n + (i - n) ≡ i = omega arith in
+        let w : col l (n + (i - n)) ≡ col m (n + (i - n)) = sym (getD-drop n l (i - n) 0) ∙ ap (λ (x : List ℕ). col x (i - n)) d ∙ getD-drop n m (i - n) 0 in
+        rw z at w
+
+pub cond-both : {A : Type 0} (t : Bool) {t′ : Bool} {x y x′ y′ : A} → t′ ≡ t → (t ≡ true → x′ ≡ x) → (t ≡ false → y′ ≡ y) → cond t′ x′ y′ ≡ cond t x y
+cond-both t {x′ = x′} {y′ = y′} e hx hy = ap (λ (b : Bool). cond b x′ y′) e ∙ cond-same t hx hy

@@ -1,0 +1,609 @@
+-- Every event is local: it reads the plan, its own controller's up flag, and the records and link states of the ASes that it reaches, and writes only
+-- those. So two events that are free to trade places commute.
+-- Assumes nothing.
+use mathlib.Core.Path.{_≡_, refl, sym, ap, _∙_, subst}
+use mathlib.Core.Bool.{Bool, true, false, _&&_, _||_, not, cond}
+use mathlib.Core.List.{List, [], _∷_, _++_}
+use mathlib.Core.Logic.{_≢_}
+use Prim.Native.Nat.{ℕ, zero, suc, _+_, _*_, _/_, _%_, _<_, _≤_}
+use native.Mathlib.Omega.{arith}
+use lib.Dec.{eqb, ltb, leb}
+use lib.ListN.{length, getD, set, drop, length-set, drop-of-length-le}
+use lib.Seq.{ext-getD, getD-set-other}
+use borrow.Author.Tests.{lt-ltb, ltb-true, eqb-true, eq-eqb, ne-eqb, eqb-false}
+use Rattle.laws.specs.Below.{anyBelow, any-at, any-in, one}
+use Rattle.laws.specs.Every.{and-left, and-right, and-both}
+use Rattle.laws.specs.Choice.{_orElse_, _if_}
+use Rattle.laws.specs.Tab.{at, on, col}
+use Rattle.gateway.specs.Sound.{pair, consistent}
+use Rattle.gateway.specs.Laws.{counts-within}
+use Rattle.gateway.specs.declared.Gateway.{Gateway}
+use Rattle.action.specs.declared.Action.{Action}
+use Rattle.action.specs.Words.{wordsOf}
+use Rattle.server.specs.declared.Change.{Change}
+use Rattle.server.specs.declared.Change.the-variants.{Rise, Fall, Off, On, Recover}
+use Rattle.server.specs.Record.{recordOf}
+use Rattle.server.specs.Change.{after}
+use Rattle.servers.specs.Moved.{upAfter, moved}
+use Rattle.servers.specs.Records.{moves, active-new, active-kept, waiting-new, waiting-kept, up-kept}
+use Rattle.rules.specs.Event.{Kind, Event}
+use Rattle.rules.specs.Identifiers.{ownerAt, isMember}
+use Rattle.rules.specs.Deed.{Deed, say, turn, change, actionsOf, stateAfter}
+use Rattle.rules.specs.Rules.{deedOf, inPlan, refusalOf, refusal}
+use Rattle.rules.specs.Reach.{kindReach, reach, fromController}
+use Rattle.rules.specs.Entry.{actions, next}
+use Rattle.history.specs.Trade.{Commute}
+use Rattle.history.specs.Local.{false-of, Local, Agree, Apart, commutes}
+use Rattle.history.specs.History.{Given, ruled, Free}
+use Rattle.history.proofs.Bits.{clash, or-left, or-right, or-case, set-same, ext-front, cond-yes, cond-no}
+use Rattle.history.proofs.Servers.{dyn, same-actions, same-up, remakesUp, up-length, up-drop, moved-up, moved-state, active-length, active-drop, waiting-length, waiting-drop}
+use Rattle.history.proofs.Within.{In, Within, Reaches, within}
+use Rattle.history.proofs.Alike.{Alike, in-plan, reach-plan, record-alike, deed-alike}
+
+-- ---- the keys of a state
+
+-- what no event changes
+pub record Plan : Type 0 where
+  pub asps : ℕ
+  pub ases : ℕ
+  pub links : ℕ
+  pub aspid : List ℕ
+  pub member : List ℕ
+  pub mode : List ℕ
+  pub iid : List ℕ
+  pub owner : List ℕ
+
+abbrev pub planOf : Gateway → Plan
+planOf g =
+    record {
+      asps = g .asps;
+      ases = g .ases;
+      links = g .links;
+      aspid = g .aspid;
+      member = g .member;
+      mode = g .mode;
+      iid = g .iid;
+      owner = g .owner;
+    }
+
+pub data Key : Type 0 where
+  plan sizes sound : Key
+  line : ℕ → Key
+  up : (q : ℕ) → q < 16 → Key
+  act : (a q : ℕ) → a < 16 → q < 16 → Key
+  wait : (a : ℕ) → a < 16 → Key
+
+abbrev pub Val : Key → Type 0
+Val plan = Plan
+Val sizes = ℕ
+Val sound = Bool
+Val (line l) = ℕ
+Val (up q b) = ℕ
+Val (act a q b c) = ℕ
+Val (wait a b) = ℕ
+
+abbrev pub get : Gateway → (k : Key) → Val k
+get g plan = planOf g
+get g sizes = length (g .state)
+get g sound = consistent g
+get g (line l) = col (g .state) l
+get g (up q b) = col (g .up) q
+get g (act a q b c) = col (g .active) (pair a q)
+get g (wait a b) = col (g .waiting) a
+
+-- the tables of up flags, of activity and of waiting marks may come with other lengths than 16, 256 and 16: a change brings them to these
+pub record Shape : Type 0 where
+  pub ups : ℕ
+  pub afterUps : List ℕ
+  pub rows : ℕ
+  pub afterRows : List ℕ
+  pub marks : ℕ
+  pub afterMarks : List ℕ
+
+abbrev pub shape : Gateway → Shape
+shape g =
+    record {
+      ups = length (g .up);
+      afterUps = drop 16 (g .up);
+      rows = length (g .active);
+      afterRows = drop 256 (g .active);
+      marks = length (g .waiting);
+      afterMarks = drop 16 (g .waiting);
+    }
+
+-- u: the table of up flags is made anew, v: the two others are
+pub record Remade : Type 0 where
+  pub u : Bool
+  pub v : Bool
+
+abbrev pub reshape : Remade → Shape → Shape
+reshape m s =
+    record {
+      ups = cond (m .u) 16 (s .ups);
+      afterUps = cond (m .u) [] (s .afterUps);
+      rows = cond (m .v) 256 (s .rows);
+      afterRows = cond (m .v) [] (s .afterRows);
+      marks = cond (m .v) 16 (s .marks);
+      afterMarks = cond (m .v) [] (s .afterMarks);
+    }
+
+-- accepted
+abbrev pub live : Gateway → Event → Bool
+live g e = eqb (refusal g e) 0
+
+-- whom an event sets up or down, and what it makes anew
+abbrev pub movesIn : Deed → ℕ → Bool
+movesIn (say os) q = false
+movesIn (turn l v os) q = false
+movesIn (change os k named) q = moves k q
+
+abbrev pub remakes : Deed → Remade
+remakes (say os) = record { u = false; v = false }
+remakes (turn l v os) = record { u = false; v = false }
+remakes (change os k named) = record { u = remakesUp k; v = true }
+
+abbrev pub shapes : Gateway → Event → Remade
+shapes g e = cond (live g e) (remakes (deedOf g (e .kind))) (record { u = false; v = false })
+
+abbrev pub reads : Gateway → Event → Key → Bool
+reads g e plan = true
+reads g e sizes = true
+reads g e sound = true
+reads g e (line l) = reach g e (ownerAt g l)
+reads g e (up q b) = fromController (e .kind) q || anyBelow (λ a. reach g e a && isMember g a q) 16
+reads g e (act a q b c) = reach g e a
+reads g e (wait a b) = reach g e a
+
+abbrev pub writes : Gateway → Event → Key → Bool
+writes g e plan = false
+writes g e sizes = false
+writes g e sound = false
+writes g e (line l) = reach g e (ownerAt g l)
+writes g e (up q b) = live g e && movesIn (deedOf g (e .kind)) q
+writes g e (act a q b c) = reach g e a
+writes g e (wait a b) = reach g e a
+
+-- ---- a state is what it holds at its keys, with its shape
+
+ext : (g h : Gateway) → ((k : Key) → get g k ≡ get h k) → shape g ≡ shape h → g ≡ h
+ext g h e s = λ j. record {
+  asps = e plan j .asps;
+  ases = e plan j .ases;
+  links = e plan j .links;
+  aspid = e plan j .aspid;
+  up = ups j;
+  member = e plan j .member;
+  active = acts j;
+  mode = e plan j .mode;
+  waiting = waits j;
+  iid = e plan j .iid;
+  owner = e plan j .owner;
+  state = lines j;
+}
+  where
+    ups : g .up ≡ h .up
+    ups = ext-front 16 (g .up) (h .up) (λ i b. e (up i b)) (λ j. s j .ups) (λ j. s j .afterUps)
+
+    lines : g .state ≡ h .state
+    lines = ext-getD 0 (g .state) (h .state) (e sizes) (λ i b. e (line i))
+
+    acts : g .active ≡ h .active
+    acts =
+        ext-front 256 (g .active) (h .active)
+        (λ i b. let z : i / 16 * 16 + i % 16 ≡ i = omega arith in rw z at (e (act (i / 16) (i % 16) (omega arith) (omega arith))))
+        (λ j. s j .rows) (λ j. s j .afterRows)
+
+    waits : g .waiting ≡ h .waiting
+    waits = ext-front 16 (g .waiting) (h .waiting) (λ i b. e (wait i b)) (λ j. s j .marks) (λ j. s j .afterMarks)
+
+-- ---- accepted events
+
+pub accepted : (s k : Bool) (n : ℕ) → eqb (refusalOf s k n) 0 ≡ true → (s ≡ true) × (k ≡ true)
+unfolding refusalOf
+accepted true true n h = (refl, refl)
+accepted true false n h = clash false refl h
+accepted false k n h = clash false refl h
+
+module _ (g : Gateway) (e : Event) where
+  pub live-sound : live g e ≡ true → consistent g ≡ true
+  live-sound l = accepted (consistent g) (inPlan g (e .kind)) (e .room) l .0
+
+  pub live-plan : live g e ≡ true → inPlan g (e .kind) ≡ true
+  live-plan l = accepted (consistent g) (inPlan g (e .kind)) (e .room) l .1
+
+  pub next-live : live g e ≡ true → next g e ≡ stateAfter g (deedOf g (e .kind))
+  unfolding next
+  next-live l = cond-yes _ _ l
+
+  pub next-dead : live g e ≡ false → next g e ≡ g
+  unfolding next
+  next-dead l = cond-no _ _ l
+
+  -- a fact of the state that the rules give and of the one given, and so of the next
+  pub by-live : (F : Gateway → Type 0) → (live g e ≡ true → F (stateAfter g (deedOf g (e .kind)))) → (live g e ≡ false → F g) → F (next g e)
+  by-live F m d = go (live g e) refl
+    where
+      go : (t : Bool) → live g e ≡ t → F (next g e)
+      go true l = subst F (sym (next-live l)) (m l)
+      go false l = subst F (sym (next-dead l)) (d l)
+
+  reach-is : (a : ℕ) → reach g e a ≡ (live g e && Reaches g (e .kind) a)
+  unfolding reach
+  reach-is a = refl
+
+  pub reach-of : (a : ℕ) → live g e ≡ true → Reaches g (e .kind) a ≡ true → reach g e a ≡ true
+  reach-of a l r = reach-is a ∙ and-both (live g e) (Reaches g (e .kind) a) l r
+
+  pub reach-live : (a : ℕ) → reach g e a ≡ true → live g e ≡ true
+  reach-live a r = and-left (live g e) (Reaches g (e .kind) a) (sym (reach-is a) ∙ r)
+
+  pub reach-in : (a : ℕ) → reach g e a ≡ true → Reaches g (e .kind) a ≡ true
+  reach-in a r = and-right (live g e) (Reaches g (e .kind) a) (sym (reach-is a) ∙ r)
+
+  pub reach-16 : (a : ℕ) → reach g e a ≡ true → a < 16
+  reach-16 a r =
+      omega (arith, counts-within g (live-sound (reach-live a r)) .ases, ltb-true a (g .ases) (and-left (ltb a (g .ases)) (kindReach g (e .kind) a) (reach-in a r)))
+
+writes-live : (b : Gateway) (e : Event) (k : Key) → writes b e k ≡ true → live b e ≡ true
+writes-live b e plan v = clash false refl v
+writes-live b e sizes v = clash false refl v
+writes-live b e sound v = clash false refl v
+writes-live b e (line i) v = reach-live b e (ownerAt b i) v
+writes-live b e (up q c) v = and-left (live b e) _ v
+writes-live b e (act a q c d) v = reach-live b e a v
+writes-live b e (wait a c) v = reach-live b e a v
+
+-- whom a deed sets up or down: its own controller, all of whose ASes it reaches
+moves-own : (g : Gateway) (R own : ℕ → Bool) (d : Deed) → Within g R own d → (q : ℕ) → movesIn d q ≡ true → own q ≡ true
+moves-own g R own (say os) w q m = clash false refl m
+moves-own g R own (turn l v os) w q m = clash false refl m
+moves-own g R own (change os k named) w q m = w .mine q m
+
+moves-whole : (g : Gateway) (R own : ℕ → Bool) (d : Deed) → Within g R own d → (q a : ℕ) → a < 16 → movesIn d q ≡ true → isMember g a q ≡ true → R a ≡ true
+moves-whole g R own (say os) w q a b m i = clash false refl m
+moves-whole g R own (turn l v os) w q a b m i = clash false refl m
+moves-whole g R own (change os k named) w q a b m i = w .reached a b (w .whole q a m b ∙ i)
+
+-- ---- what a deed leaves
+
+module _ (g : Gateway) where
+  state-plan : (d : Deed) → planOf (stateAfter g d) ≡ planOf g
+  unfolding moved
+  state-plan (say os) = refl
+  state-plan (turn l v os) = refl
+  state-plan (change os k named) = refl
+
+  state-sizes : (d : Deed) → length (stateAfter g d .state) ≡ length (g .state)
+  state-sizes (say os) = refl
+  state-sizes (turn l v os) = length-set (g .state) l v
+  state-sizes (change os k named) = ap length (moved-state g k named)
+
+  state-shape : (d : Deed) → shape (stateAfter g d) ≡ reshape (remakes d) (shape g)
+  state-shape (say os) = refl
+  state-shape (turn l v os) = refl
+  state-shape (change os k named) = λ j. record {
+    ups = (ap length (moved-up g k named) ∙ up-length k (g .up)) j;
+    afterUps = (ap (drop 16) (moved-up g k named) ∙ up-drop k (g .up)) j;
+    rows = active-length g k named j;
+    afterRows = active-drop g k named j;
+    marks = waiting-length g k named j;
+    afterMarks = waiting-drop g k named j;
+  }
+
+  kept-up : (d : Deed) (q : ℕ) → q < 16 → movesIn d q ≡ false → col (stateAfter g d .up) q ≡ col (g .up) q
+  kept-up (say os) q b n = refl
+  kept-up (turn l v os) q b n = refl
+  kept-up (change os k named) q b n = ap (λ (c : List ℕ). col c q) (moved-up g k named) ∙ up-kept k (g .up) q b n
+
+module _ (g : Gateway) (R own : ℕ → Bool) where
+  -- an AS out of reach is not named
+  unnamed : {k : Change} {named : List Bool} → In g R own k named → (a : ℕ) → a < 16 → R a ≡ false → at named a ≡ false
+  unnamed {k} {named} w a b r = false-of (at named a) (λ e. clash (R a) r (w .reached a b e))
+
+  kept-act : (d : Deed) → Within g R own d → (a q : ℕ) → a < 16 → q < 16 → R a ≡ false → col (stateAfter g d .active) (pair a q) ≡ col (g .active) (pair a q)
+  kept-act (say os) w a q b c r = refl
+  kept-act (turn l v os) w a q b c r = refl
+  kept-act (change os k named) w a q b c r = active-kept g k named a q b c (unnamed w a b r)
+
+  kept-wait : (d : Deed) → Within g R own d → (a : ℕ) → a < 16 → R a ≡ false → col (stateAfter g d .waiting) a ≡ col (g .waiting) a
+  kept-wait (say os) w a b r = refl
+  kept-wait (turn l v os) w a b r = refl
+  kept-wait (change os k named) w a b r = waiting-kept g k named a b (unnamed w a b r)
+
+  kept-line : (d : Deed) → Within g R own d → (l : ℕ) → R (ownerAt g l) ≡ false → col (stateAfter g d .state) l ≡ col (g .state) l
+  kept-line (say os) w l r = refl
+  kept-line (turn m v os) w l r = getD-set-other (g .state) m l v 0 (λ z. clash (R (ownerAt g l)) r (rw z (w .2)))
+  kept-line (change os k named) w l r = ap (λ (c : List ℕ). col c l) (moved-state g k named)
+
+-- ---- the same deed in states that are alike
+
+module _ (g : Gateway) (R own : ℕ → Bool) (u c w s : List ℕ) (k : Alike g R own u c w s) where
+  said : (d : Deed) → Within g R own d → actionsOf (dyn g u c w s) d ≡ actionsOf g d
+  said (say os) v = refl
+  said (turn l n os) v = refl
+  said (change os h named) v =
+      ap (λ (x : List Action). os ++ x)
+      (same-actions (dyn g u c w s) g h named (λ a b e. record-alike g R own u c w s k a b (v .reached a b e)))
+
+  alike-up : (d : Deed) (q : ℕ) → q < 16 → col u q ≡ col (g .up) q → col (stateAfter (dyn g u c w s) d .up) q ≡ col (stateAfter g d .up) q
+  alike-up (say os) q b z = z
+  alike-up (turn l n os) q b z = z
+  alike-up (change os h named) q b z =
+      ap (λ (x : List ℕ). col x q) (moved-up (dyn g u c w s) h named) ∙ same-up h u (g .up) q b z ∙ sym (ap (λ (x : List ℕ). col x q) (moved-up g h named))
+
+  alike-act : (d : Deed) (a q : ℕ) → a < 16 → q < 16 → R a ≡ true → col (stateAfter (dyn g u c w s) d .active) (pair a q) ≡ col (stateAfter g d .active) (pair a q)
+  alike-act (say os) a q b d r = k .acts a q b d r
+  alike-act (turn l n os) a q b d r = k .acts a q b d r
+  alike-act (change os h named) a q b d r = go (at named a) refl
+    where
+      go : (t : Bool) → at named a ≡ t → col (moved (dyn g u c w s) h named .active) (pair a q) ≡ col (moved g h named .active) (pair a q)
+      go true e =
+          active-new (dyn g u c w s) h named a q b d e ∙ (λ j. one (at (after h (record-alike g R own u c w s k a b r j) .acts) q))
+          ∙ sym (active-new g h named a q b d e)
+      go false e = active-kept (dyn g u c w s) h named a q b d e ∙ k .acts a q b d r ∙ sym (active-kept g h named a q b d e)
+
+  alike-wait : (d : Deed) (a : ℕ) → a < 16 → R a ≡ true → col (stateAfter (dyn g u c w s) d .waiting) a ≡ col (stateAfter g d .waiting) a
+  alike-wait (say os) a b r = k .waits a b r
+  alike-wait (turn l n os) a b r = k .waits a b r
+  alike-wait (change os h named) a b r = go (at named a) refl
+    where
+      go : (t : Bool) → at named a ≡ t → col (moved (dyn g u c w s) h named .waiting) a ≡ col (moved g h named .waiting) a
+      go true e =
+          waiting-new (dyn g u c w s) h named a b e ∙ (λ j. one (after h (record-alike g R own u c w s k a b r j) .waiting))
+          ∙ sym (waiting-new g h named a b e)
+      go false e = waiting-kept (dyn g u c w s) h named a b e ∙ k .waits a b r ∙ sym (waiting-kept g h named a b e)
+
+  alike-line : length s ≡ length (g .state) → (d : Deed) (l : ℕ) → R (ownerAt g l) ≡ true → col (stateAfter (dyn g u c w s) d .state) l ≡ col (stateAfter g d .state) l
+  alike-line e (say os) l r = k .lines l r
+  alike-line e (turn m n os) l r = set-same s (g .state) m l n e (k .lines l r)
+  alike-line e (change os h named) l r =
+      ap (λ (x : List ℕ). col x l) (moved-state (dyn g u c w s) h named) ∙ k .lines l r ∙ sym (ap (λ (x : List ℕ). col x l) (moved-state g h named))
+
+-- ---- two states that agree on what e reads
+
+module _ (b b′ : Gateway) (e : Event) (h : Agree get reads writes b b′ e) where
+  P : planOf b′ ≡ planOf b
+  P = h plan refl
+
+  -- b′ is b with other contents
+  D : Gateway
+  D = dyn b (b′ .up) (b′ .active) (b′ .waiting) (b′ .state)
+
+  to : b′ ≡ dyn b (b′ .up) (b′ .active) (b′ .waiting) (b′ .state)
+  to = λ j. record {
+    asps = P j .asps;
+    ases = P j .ases;
+    links = P j .links;
+    aspid = P j .aspid;
+    up = b′ .up;
+    member = P j .member;
+    active = b′ .active;
+    mode = P j .mode;
+    waiting = b′ .waiting;
+    iid = P j .iid;
+    owner = P j .owner;
+    state = b′ .state;
+  }
+
+  same-in : inPlan b′ (e .kind) ≡ inPlan b (e .kind)
+  same-in = ap (λ (x : Gateway). inPlan x (e .kind)) to ∙ in-plan b (b′ .up) (b′ .active) (b′ .waiting) (b′ .state) (e .kind)
+
+  same-refusal : refusal b′ e ≡ refusal b e
+  same-refusal = λ j. refusalOf (h sound refl j) (same-in j) (e .room)
+
+  same-live : live b′ e ≡ live b e
+  same-live = λ j. eqb (same-refusal j) 0
+
+  same-reaches : (a : ℕ) → Reaches b′ (e .kind) a ≡ Reaches b (e .kind) a
+  same-reaches a =
+      ap (λ (x : Gateway). Reaches x (e .kind) a) to ∙ ap (λ (t : Bool). ltb a (b .ases) && t) (reach-plan b (b′ .up) (b′ .active) (b′ .waiting) (b′ .state) (e .kind) a)
+
+  same-reach : (a : ℕ) → reach b′ e a ≡ reach b e a
+  unfolding reach
+  same-reach a = λ j. same-live j && same-reaches a j
+
+  module _ (l : live b e ≡ true) where
+    alike : Alike b (Reaches b (e .kind)) (fromController (e .kind)) (b′ .up) (b′ .active) (b′ .waiting) (b′ .state)
+    alike =
+        record {
+          mine = λ q d f. h (up q d) (or-left _ f);
+          ups = λ a q d f r m.
+              h (up q f) (or-right (fromController (e .kind) q) (any-in (λ a. reach b e a && isMember b a q) 16 a d (and-both (reach b e a) (isMember b a q) (reach-of b e a l r) m)));
+          acts = λ a q d f r. h (act a q d f) (reach-of b e a l r);
+          waits = λ a d r. h (wait a d) (reach-of b e a l r);
+          lines = λ k r. h (line k) (reach-of b e (ownerAt b k) l r);
+        }
+
+    ok : consistent b ≡ true
+    ok = live-sound b e l
+
+    ok′ : consistent (dyn b (b′ .up) (b′ .active) (b′ .waiting) (b′ .state)) ≡ true
+    ok′ = sym (ap (λ (x : Gateway). consistent x) to) ∙ h sound refl ∙ ok
+
+    same-deed : deedOf b′ (e .kind) ≡ deedOf b (e .kind)
+    same-deed =
+        ap (λ (x : Gateway). deedOf x (e .kind)) to
+        ∙ deed-alike b (b′ .up) (b′ .active) (b′ .waiting) (b′ .state) ok ok′ (e .kind) (live-plan b e l) alike
+
+    in-reach : Within b (Reaches b (e .kind)) (fromController (e .kind)) (deedOf b (e .kind))
+    in-reach = within b ok (e .kind) (live-plan b e l)
+
+    same-said : actionsOf b′ (deedOf b′ (e .kind)) ≡ actionsOf b (deedOf b (e .kind))
+    same-said =
+        (λ j. actionsOf (to j) (same-deed j))
+        ∙ said b (Reaches b (e .kind)) (fromController (e .kind)) (b′ .up) (b′ .active) (b′ .waiting) (b′ .state) alike (deedOf b (e .kind)) in-reach
+
+    same-state : (k : Key) → writes b e k ≡ true → get (stateAfter b′ (deedOf b′ (e .kind))) k ≡ get (stateAfter b (deedOf b (e .kind))) k
+    same-state k v = (λ j. get (stateAfter (to j) (same-deed j)) k) ∙ go k v
+      where
+        R : ℕ → Bool
+        R = Reaches b (e .kind)
+
+        own : ℕ → Bool
+        own = fromController (e .kind)
+
+        d : Deed
+        d = deedOf b (e .kind)
+
+        go : (k : Key) → writes b e k ≡ true → get (stateAfter (dyn b (b′ .up) (b′ .active) (b′ .waiting) (b′ .state)) (deedOf b (e .kind))) k ≡ get (stateAfter b (deedOf b (e .kind))) k
+        go plan v = clash false refl v
+        go sizes v = clash false refl v
+        go sound v = clash false refl v
+        go (line i) v = alike-line b R own (b′ .up) (b′ .active) (b′ .waiting) (b′ .state) alike (h sizes refl) d i (reach-in b e (ownerAt b i) v)
+        go (up q c) v =
+            alike-up b R own (b′ .up) (b′ .active) (b′ .waiting) (b′ .state) alike d q c
+            (alike .mine q c (moves-own b R own d in-reach q (and-right (live b e) (movesIn d q) v)))
+        go (act a q c f) v = alike-act b R own (b′ .up) (b′ .active) (b′ .waiting) (b′ .state) alike d a q c f (reach-in b e a v)
+        go (wait a c) v = alike-wait b R own (b′ .up) (b′ .active) (b′ .waiting) (b′ .state) alike d a c (reach-in b e a v)
+
+  by-test : {A : Type 0} {x y : A} → (live b e ≡ true → x ≡ y) → (live b e ≡ false → x ≡ y) → x ≡ y
+  by-test {x = x} {y} f g = go (live b e) refl
+    where
+      go : (t : Bool) → live b e ≡ t → x ≡ y
+      go true l = f l
+      go false l = g l
+
+  same-actions-all : actions b′ e ≡ actions b e
+  unfolding actions
+  same-actions-all =
+      by-test (λ l. cond-yes _ _ (same-live ∙ l) ∙ same-said l ∙ sym (cond-yes _ _ l)) (λ l. cond-no _ _ (same-live ∙ l) ∙ sym (cond-no _ _ l))
+
+  same-out : ruled b′ e ≡ ruled b e
+  same-out = λ j. record { refusal = same-refusal j; count = length (same-actions-all j); words = wordsOf (same-actions-all j) }
+
+  same-writes : (k : Key) → writes b′ e k ≡ writes b e k
+  same-writes plan = refl
+  same-writes sizes = refl
+  same-writes sound = refl
+  same-writes (up q c) =
+      by-test (λ l j. same-live j && movesIn (same-deed l j) q)
+      (λ l. ap (λ (t : Bool). t && movesIn (deedOf b′ (e .kind)) q) (same-live ∙ l) ∙ sym (ap (λ (t : Bool). t && movesIn (deedOf b (e .kind)) q) l))
+  same-writes (line i) = ap (λ (p : Plan). reach b′ e (col (p .owner) i)) P ∙ same-reach (ownerAt b i)
+  same-writes (act a q c d) = same-reach a
+  same-writes (wait a c) = same-reach a
+
+  same-shapes : shapes b′ e ≡ shapes b e
+  same-shapes =
+      by-test (λ l j. cond (same-live j) (remakes (same-deed l j)) (record { u = false; v = false }))
+      (λ l. cond-no _ _ (same-live ∙ l) ∙ sym (cond-no _ _ l))
+
+  same-next : (k : Key) → writes b e k ≡ true → get (next b′ e) k ≡ get (next b e) k
+  same-next k v =
+      let l = writes-live b e k v in
+      ap (λ (x : Gateway). get x k) (next-live b′ e (same-live ∙ l)) ∙ same-state l k v ∙ sym (ap (λ (x : Gateway). get x k) (next-live b e l))
+
+-- ---- all of it: every event is local, once it is known that it keeps a consistent state so
+
+writes-mine : (b : Gateway) (e : Event) (q : ℕ) → (live b e && movesIn (deedOf b (e .kind)) q) ≡ true → fromController (e .kind) q ≡ true
+writes-mine b e q v =
+    let l = and-left (live b e) (movesIn (deedOf b (e .kind)) q) v in
+    moves-own b (Reaches b (e .kind)) (fromController (e .kind)) (deedOf b (e .kind)) (within b (live-sound b e l) (e .kind) (live-plan b e l)) q (and-right (live b e) (movesIn (deedOf b (e .kind)) q) v)
+
+covers : (b : Gateway) (e : Event) (k : Key) → writes b e k ≡ true → reads b e k ≡ true
+covers b e plan v = refl
+covers b e sizes v = refl
+covers b e sound v = refl
+covers b e (up q c) v = or-left _ (writes-mine b e q v)
+covers b e (line i) v = v
+covers b e (act a q c d) v = v
+covers b e (wait a c) v = v
+
+-- an up flag of another ASP
+pub not-mine : (b : Gateway) (e : Event) (q : ℕ) (c : q < 16) → fromController (e .kind) q ≡ false → writes b e (up q c) ≡ false
+not-mine b e q c n = false-of (writes b e (up q c)) (λ v. clash (fromController (e .kind) q) n (writes-mine b e q v))
+
+reshaped : (b : Gateway) (e : Event) → shape (next b e) ≡ reshape (shapes b e) (shape b)
+reshaped b e =
+    by-live b e (λ (x : Gateway). shape x ≡ reshape (shapes b e) (shape b))
+    (λ l. state-shape b (deedOf b (e .kind)) ∙ ap (λ (m : Remade). reshape m (shape b)) (sym (cond-yes _ _ l)))
+    (λ l. ap (λ (m : Remade). reshape m (shape b)) (sym (cond-no _ _ l)))
+
+cond-trade : {A : Type 0} (u v : Bool) (x y : A) → cond u x (cond v x y) ≡ cond v x (cond u x y)
+cond-trade true true x y = refl
+cond-trade true false x y = refl
+cond-trade false true x y = refl
+cond-trade false false x y = refl
+
+reshape-trade : (m n : Remade) (s : Shape) → reshape m (reshape n s) ≡ reshape n (reshape m s)
+reshape-trade m n s = λ j. record {
+  ups = cond-trade (m .u) (n .u) 16 (s .ups) j;
+  afterUps = cond-trade (m .u) (n .u) [] (s .afterUps) j;
+  rows = cond-trade (m .v) (n .v) 256 (s .rows) j;
+  afterRows = cond-trade (m .v) (n .v) [] (s .afterRows) j;
+  marks = cond-trade (m .v) (n .v) 16 (s .marks) j;
+  afterMarks = cond-trade (m .v) (n .v) [] (s .afterMarks) j;
+}
+
+module _ (keeps : (b : Gateway) (e : Event) → consistent b ≡ true → consistent (next b e) ≡ true) where
+  pub untouched : (b : Gateway) (e : Event) (k : Key) → writes b e k ≡ false → get (next b e) k ≡ get b k
+  untouched b e plan v = by-live b e (λ (x : Gateway). planOf x ≡ planOf b) (λ l. state-plan b (deedOf b (e .kind))) (λ l. refl)
+  untouched b e sizes v = by-live b e (λ (x : Gateway). get x sizes ≡ get b sizes) (λ l. state-sizes b (deedOf b (e .kind))) (λ l. refl)
+  untouched b e sound v = go (consistent b) refl
+    where
+      go : (t : Bool) → consistent b ≡ t → consistent (next b e) ≡ consistent b
+      go true s = keeps b e s ∙ sym s
+      go false s = ap (λ (x : Gateway). consistent x) (next-dead b e (false-of (live b e) (λ l. clash (consistent b) s (live-sound b e l))))
+  untouched b e (up q c) v =
+      by-live b e (λ (x : Gateway). col (x .up) q ≡ col (b .up) q)
+      (λ l. kept-up b (deedOf b (e .kind)) q c (ap (λ (t : Bool). t && movesIn (deedOf b (e .kind)) q) (sym l) ∙ v)) (λ l. refl)
+  untouched b e (line i) v =
+      by-live b e (λ (x : Gateway). col (x .state) i ≡ col (b .state) i)
+      (λ l. kept-line b (Reaches b (e .kind)) (fromController (e .kind)) (deedOf b (e .kind)) (within b (live-sound b e l) (e .kind) (live-plan b e l)) i
+      (false-of (Reaches b (e .kind) (ownerAt b i)) (λ r. clash (reach b e (ownerAt b i)) v (reach-of b e (ownerAt b i) l r)))) (λ l. refl)
+  untouched b e (act a q c d) v =
+      by-live b e (λ (x : Gateway). col (x .active) (pair a q) ≡ col (b .active) (pair a q))
+      (λ l. kept-act b (Reaches b (e .kind)) (fromController (e .kind)) (deedOf b (e .kind)) (within b (live-sound b e l) (e .kind) (live-plan b e l)) a q c d
+      (false-of (Reaches b (e .kind) a) (λ r. clash (reach b e a) v (reach-of b e a l r)))) (λ l. refl)
+  untouched b e (wait a c) v =
+      by-live b e (λ (x : Gateway). col (x .waiting) a ≡ col (b .waiting) a)
+      (λ l. kept-wait b (Reaches b (e .kind)) (fromController (e .kind)) (deedOf b (e .kind)) (within b (live-sound b e l) (e .kind) (live-plan b e l)) a c
+      (false-of (Reaches b (e .kind) a) (λ r. clash (reach b e a) v (reach-of b e a l r)))) (λ l. refl)
+
+  pub local : Local get shape reads writes shapes reshape ruled next
+  local =
+      record {
+        ext = ext;
+        covers = covers;
+        untouched = untouched;
+        same-out = same-out;
+        same-writes = same-writes;
+        same-next = same-next;
+        same-shapes = same-shapes;
+        reshaped = reshaped;
+        reshape-trade = reshape-trade;
+      }
+
+-- ---- the customer's condition
+
+apart : (b : Gateway) (e f : Event) → Free b e f → Apart get reads writes b e f
+apart b e f d plan v r = clash false refl v
+apart b e f d sizes v r = clash false refl v
+apart b e f d sound v r = clash false refl v
+apart b e f d (up q c) v r =
+    or-case (fromController (f .kind) q) _ r (λ o. d .controllers q (moves-own b (Reaches b (e .kind)) (fromController (e .kind)) (deedOf b (e .kind)) w q m) o) (λ s. go (any-at (λ a. reach b f a && isMember b a q) 16 s))
+  where
+    l : live b e ≡ true
+    l = and-left (live b e) (movesIn (deedOf b (e .kind)) q) v
+
+    m : movesIn (deedOf b (e .kind)) q ≡ true
+    m = and-right (live b e) (movesIn (deedOf b (e .kind)) q) v
+
+    w : Within b (Reaches b (e .kind)) (fromController (e .kind)) (deedOf b (e .kind))
+    w = within b (live-sound b e l) (e .kind) (live-plan b e l)
+
+    -- who sets q up or down reaches all ASes of q
+    go : (a : ℕ) × (a < 16) × ((reach b f a && isMember b a q) ≡ true) → ⊥
+    go t =
+        d .servers (t .0)
+        (reach-of b e (t .0) l (moves-whole b (Reaches b (e .kind)) (fromController (e .kind)) (deedOf b (e .kind)) w q (t .0) (t .1) m (and-right (reach b f (t .0)) (isMember b (t .0) q) (t .2))))
+        (and-left (reach b f (t .0)) (isMember b (t .0) q) (t .2))
+apart b e f d (line i) v r = d .servers (ownerAt b i) v r
+apart b e f d (act a q c i) v r = d .servers a v r
+apart b e f d (wait a c) v r = d .servers a v r
+
+flip : (b : Gateway) (e f : Event) → Free b e f → Free b f e
+flip b e f d = record { controllers = λ q p r. d .controllers q r p; servers = λ a p r. d .servers a r p }
+
+pub free-commute : ((b : Gateway) (e : Event) → consistent b ≡ true → consistent (next b e) ≡ true) → (b : Gateway) (e f : Event) → Free b e f → Commute ruled next b e f
+free-commute keeps b e f d =
+    commutes get shape reads writes shapes reshape ruled next (local keeps) b e f (apart b e f d) (apart b f e (flip b e f d))

@@ -1,0 +1,140 @@
+-- Demand 3, proved.
+-- Assumes nothing.
+use mathlib.Core.Path.{_≡_, refl, sym, ap, _∙_, subst}
+use mathlib.Core.Bool.{Bool, true, false, _&&_, _||_, not, cond}
+use mathlib.Core.List.{List, [], _∷_, _++_, map}
+use Prim.Native.Nat.{ℕ, _*_, _<_}
+use native.Mathlib.Omega.{arith}
+use lib.Dec.{eqb, ltb}
+use lib.ListN.{length, take, drop, replicate, length-replicate}
+use lib.Seq.{take-at}
+use borrow.Author.Tests.{not-true, eq-eqb}
+use Rattle.laws.specs.Every.{and-left, and-right}
+use Rattle.action.specs.declared.Action.{Action}
+use Rattle.action.specs.Words.{wordsOf, length-wordsOf}
+use Rattle.message.specs.Verdict.{verdict}
+use Rattle.message.specs.Meaning.{readingOf}
+use Rattle.gateway.specs.declared.Gateway.{Gateway}
+use Rattle.rules.specs.Event.{Event, message}
+use Rattle.rules.specs.Identifiers.{isMember}
+use Rattle.rules.specs.Rules.{isError, typeOf, refusal}
+use Rattle.rules.specs.Reach.{reach, messageReach, readReach}
+use Rattle.rules.specs.Entry.{actions, next, Handed}
+use Rattle.history.specs.Trade.{swaps, outs, last, Commute, traded-outs, traded-last}
+use Rattle.history.specs.History.{Call, events, Calls, none, call, Given, given, ruled, reaches, Free, Untouched, Outside, Demand3, Statement, isUp, ReachOfUp, Rooms, Made}
+use Rattle.history.proofs.Frame.{Plan, planOf, plan, wait, act, line, up, untouched, not-mine, free-commute}
+use Rattle.history.proofs.Keeps.{keeps}
+
+ruled-commute : (g : Gateway) (e f : Event) → Free g e f → Commute ruled next g e f
+ruled-commute = free-commute keeps
+
+-- ---- what the calls hand back is what the rules give
+
+one-given : (g : Gateway) (d : Call) → Handed g (d .event) (d .lent) (d .left) (d .outcome) → given d ≡ ruled g (d .event)
+one-given g d h = λ j. record { refusal = h .refused j; count = h .count j; words = words j }
+  where
+    os : List Action
+    os = actions g (d .event)
+
+    long : length (wordsOf os) ≡ 4 * length os
+    long = let z = length-wordsOf os in omega arith
+
+    words : take (4 * d .outcome .count) (d .left) ≡ wordsOf os
+    words = (λ j. take (4 * h .count j) (h .words j)) ∙ take-at (wordsOf os) (drop (4 * length os) (d .lent)) (4 * length os) long
+
+by-rules : {g c : Gateway} {cs : List Call} → Calls g cs c → map given cs ≡ outs ruled next g (events cs)
+by-rules none = refl
+by-rules (call {g} {d = d} {ds} h t) =
+    λ j. one-given g d h j ∷ (by-rules t ∙ ap (λ (s : Gateway). outs ruled next s (events ds)) (h .state)) j
+
+state-by-rules : {g c : Gateway} {cs : List Call} → Calls g cs c → c ≡ last ruled next g (events cs)
+state-by-rules none = refl
+state-by-rules (call {g} {d = d} {ds} h t) = state-by-rules t ∙ ap (λ (s : Gateway). last ruled next s (events ds)) (h .state)
+
+-- ---- what lies outside the reach is as before
+
+one-outside : (g : Gateway) (e : Event) → Untouched g e (next g e)
+one-outside g e =
+    record {
+      asps = ap (λ (x : Plan). x .asps) same;
+      ases = ap (λ (x : Plan). x .ases) same;
+      links = ap (λ (x : Plan). x .links) same;
+      aspid = ap (λ (x : Plan). x .aspid) same;
+      member = ap (λ (x : Plan). x .member) same;
+      mode = ap (λ (x : Plan). x .mode) same;
+      iid = ap (λ (x : Plan). x .iid) same;
+      owner = ap (λ (x : Plan). x .owner) same;
+      waiting = λ a b r. untouched keeps g e (wait a b) r;
+      active = λ a q b c r. untouched keeps g e (act a q b c) r;
+      state = λ l r. untouched keeps g e (line l) r;
+      up = λ q b n. untouched keeps g e (up q b) (not-mine g e q b n);
+    }
+  where
+    same : planOf (next g e) ≡ planOf g
+    same = untouched keeps g e plan refl
+
+outside : {g c : Gateway} {cs : List Call} → Calls g cs c → Outside g cs
+outside none = tt
+outside (call {g} {d = d} h t) = (subst (Untouched g (d .event)) (sym (h .state)) (one-outside g (d .event)), outside t)
+
+-- ---- the theorem
+
+pub demand-3 : Statement
+demand-3 g c c′ cs ds ts C D t e =
+    record {
+      by-rules = by-rules C;
+      state-by-rules = state-by-rules C;
+      same-given = by-rules D ∙ ap (outs ruled next g) e ∙ traded-outs ruled next Free ruled-commute g (events cs) ts t ∙ ap (swaps ts) (sym (by-rules C));
+      same-state = state-by-rules D ∙ ap (last ruled next g) e ∙ traded-last ruled next Free ruled-commute g (events cs) ts t ∙ sym (state-by-rules C);
+      outside = outside C;
+    }
+
+-- ---- and it is about something
+
+abbrev made : Gateway → Event → List ℕ → Call
+made g e l =
+    record {
+      event = e;
+      lent = l;
+      left = wordsOf (actions g e) ++ drop (4 * length (actions g e)) l;
+      outcome = record { refusal = refusal g e; count = length (actions g e); gateway = next g e };
+    }
+
+made-handed : (g : Gateway) (e : Event) (l : List ℕ) → length l ≡ e .room → Handed g e l (made g e l .left) (made g e l .outcome)
+made-handed g e l r = record { room = r; refused = refl; count = refl; state = refl; words = refl }
+
+pub some-calls : (g : Gateway) (h : List Event) (ls : List (List ℕ)) → Rooms h ls → Made g h ls
+some-calls g [] [] r = record { list = []; end = g; are = none; of = refl; lend = refl }
+some-calls g [] (l ∷ ls) r = absurd r
+some-calls g (e ∷ h) [] r = absurd r
+some-calls g (e ∷ h) (l ∷ ls) r =
+    let m = some-calls (next g e) h ls (r .1) in
+    record {
+      list = made g e l ∷ m .list;
+      end = m .end;
+      are = call {d = made g e l} (made-handed g e l (r .0)) (m .are);
+      of = ap (λ (x : List Event). e ∷ x) (m .of);
+      lend = ap (λ (x : List (List ℕ)). l ∷ x) (m .lend);
+    }
+
+-- there are such lists
+abbrev blanks : List Event → List (List ℕ)
+blanks h = map (λ (e : Event). replicate (e .room) 0) h
+
+pub some-rooms : (h : List Event) → Rooms h (blanks h)
+some-rooms [] = tt
+some-rooms (e ∷ h) = (length-replicate (e .room) 0, some-rooms h)
+
+-- ---- the reach of Up
+
+pub up-reach : ReachOfUp
+unfolding isUp reach messageReach readReach
+up-reach g p s n a r u = λ j. eq-eqb (refusal g (record { kind = message p s; room = n })) 0 r j && (ltb a (g .ases) && inside j)
+  where
+    inside : messageReach g p s a ≡ isMember g a p
+    inside =
+        let x = not-true (isError s) (and-left (not (isError s)) _ u) in
+        let y = and-right (not (isError s)) (eqb (verdict s) 0 && eqb (typeOf (readingOf s)) 769) u in
+        let v = and-left (eqb (verdict s) 0) (eqb (typeOf (readingOf s)) 769) y in
+        let t = and-right (eqb (verdict s) 0) (eqb (typeOf (readingOf s)) 769) y in
+        rw (x, v, t)

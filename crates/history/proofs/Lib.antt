@@ -1,0 +1,7 @@
+pub mod Bits
+pub mod Servers
+pub mod Within
+pub mod Alike
+pub mod Frame
+pub mod Keeps
+pub mod History

@@ -1,0 +1,129 @@
+-- Demand 3: what is said of entire histories. "Demand 3 is one statement on entire histories, not one per event."
+-- Assumes nothing.
+use mathlib.Core.Path.{_≡_}
+use mathlib.Core.Bool.{Bool, true, false, _&&_, not}
+use mathlib.Core.List.{List, [], _∷_, _++_, map}
+use Prim.Native.Nat.{ℕ, _*_, _<_}
+use lib.Dec.{eqb, ltb}
+use lib.ListN.{length, take}
+use Rattle.laws.specs.Tab.{col}
+use Rattle.action.specs.Words.{wordsOf}
+use Rattle.gateway.specs.Sound.{pair}
+use Rattle.gateway.specs.declared.Gateway.{Gateway}
+use Rattle.rules.specs.declared.Outcome.{Outcome}
+use Rattle.message.specs.Verdict.{verdict}
+use Rattle.message.specs.Meaning.{readingOf}
+use Rattle.rules.specs.Event.{Event, message}
+use Rattle.rules.specs.Identifiers.{isMember}
+use Rattle.rules.specs.Rules.{refusal, isError, typeOf}
+use Rattle.rules.specs.Reach.{reach, fromController}
+use Rattle.rules.specs.Entry.{actions, next, Handed}
+use Rattle.history.specs.Trade.{swaps, Trades, outs, last}
+
+-- One call of an entry: its event ("An event keeps its message and its list's length"), the lent list of words as it comes and as it is
+-- handed back, and what is returned.
+pub record Call : Type 0 where
+  pub event : Event
+  pub lent : List ℕ
+  pub left : List ℕ
+  pub outcome : Outcome
+
+abbrev pub events : List Call → List Event
+events cs = map (λ (d : Call). d .event) cs
+
+-- A history of calls: "each event takes the board by value and hands the next board back". Each call keeps what the entries promise
+-- (`Handed`), and the next one gets the state that it hands back.
+pub data Calls : Gateway → List Call → Gateway → Type 0 where
+  none : {g : Gateway} → Calls g [] g
+  call : {g c : Gateway} {d : Call} {ds : List Call} → Handed g (d .event) (d .lent) (d .left) (d .outcome) → Calls (d .outcome .gateway) ds c → Calls g (d ∷ ds) c
+
+-- What a call gives: the refusal, or 0, "the order count", and the orders word for word, "four to an order".
+pub record Given : Type 0 where
+  pub refusal : ℕ
+  pub count : ℕ
+  pub words : List ℕ
+
+abbrev pub given : Call → Given
+given d =
+    record {
+      refusal = d .outcome .refusal;
+      count = d .outcome .count;
+      words = take (4 * d .outcome .count) (d .left);
+    }
+
+-- What the rules give for an event on a state.
+abbrev pub ruled : Gateway → Event → Given
+ruled g e = record { refusal = refusal g e; count = length (actions g e); words = wordsOf (actions g e) }
+
+-- "Reach": AS a is reached by the event e on the state g; and "A link is reached with its owner."
+abbrev pub reaches : Gateway → Event → ℕ → Bool
+reaches g e a = reach g e a
+
+abbrev pub reachesLink : Gateway → Event → ℕ → Bool
+reachesLink g e l = reaches g e (col (g .owner) l)
+
+-- "Controllers are ASPs, servers ASes": two neighbours may trade places if they are not both of one controller, and no server is reached by both.
+pub record Free (g : Gateway) (e f : Event) : Type 0 where
+  pub controllers : (q : ℕ) → fromController (e .kind) q ≡ true → fromController (f .kind) q ≡ true → ⊥
+  pub servers : (a : ℕ) → reaches g e a ≡ true → reaches g f a ≡ true → ⊥
+
+-- What an event leaves as it was, number by number. The plan: no event changes it. "Its record, or an AS's, is all the board keeps of it,
+-- activity in that AS too": the waiting mark and the activity of an AS out of reach, the state of a link out of reach.
+pub record Untouched (g : Gateway) (e : Event) (c : Gateway) : Type 0 where
+  pub asps : c .asps ≡ g .asps
+  pub ases : c .ases ≡ g .ases
+  pub links : c .links ≡ g .links
+  pub aspid : c .aspid ≡ g .aspid
+  pub member : c .member ≡ g .member
+  pub mode : c .mode ≡ g .mode
+  pub iid : c .iid ≡ g .iid
+  pub owner : c .owner ≡ g .owner
+  pub waiting : (a : ℕ) → a < 16 → reaches g e a ≡ false → col (c .waiting) a ≡ col (g .waiting) a
+  pub active : (a q : ℕ) → a < 16 → q < 16 → reaches g e a ≡ false → col (c .active) (pair a q) ≡ col (g .active) (pair a q)
+  pub state : (l : ℕ) → reachesLink g e l ≡ false → col (c .state) l ≡ col (g .state) l
+  -- an ASP comes up or goes down by its own events alone
+  pub up : (q : ℕ) → q < 16 → fromController (e .kind) q ≡ false → col (c .up) q ≡ col (g .up) q
+
+-- at every call of a history
+abbrev pub Outside : Gateway → List Call → Type 0
+Outside g [] = Unit {0}
+Outside g (d ∷ ds) = Untouched g (d .event) (d .outcome .gateway) × Outside (d .outcome .gateway) ds
+
+-- The statement: a history cs from g to c, and the same events after the trades at the places ts, ds from g to c′.
+pub record Demand3 (g : Gateway) (cs ds : List Call) (c c′ : Gateway) (ts : List ℕ) : Type 0 where
+  -- what the calls hand back is what the rules give, run from the first state on the events alone
+  pub by-rules : map given cs ≡ outs ruled next g (events cs)
+  pub state-by-rules : c ≡ last ruled next g (events cs)
+  -- after the trades every event hands back the same refusal or count and the same orders, word for word
+  pub same-given : map given ds ≡ swaps ts (map given cs)
+  -- and the last state is the same in every field
+  pub same-state : c′ ≡ c
+  pub outside : Outside g cs
+
+-- For every first state, sound or not, all calls, and any number of allowed trades one after the other.
+abbrev pub Statement : Type 0
+Statement = (g c c′ : Gateway) (cs ds : List Call) (ts : List ℕ) → Calls g cs c → Calls g ds c′
+    → Trades next Free g (events cs) ts → events ds ≡ swaps ts (events cs) → Demand3 g cs ds c c′ ts
+
+-- "Reach: Up ..: all ASes of p": stated beside it, of a readable Up that is not refused.
+unfoldable pub isUp : List ℕ → Bool
+isUp s = not (isError s) && (eqb (verdict s) 0 && eqb (typeOf (readingOf s)) 769)
+
+abbrev pub ReachOfUp : Type 0
+ReachOfUp = (g : Gateway) (p : ℕ) (s : List ℕ) (room a : ℕ) → refusal g (record { kind = message p s; room = room }) ≡ 0 → isUp s ≡ true
+    → reaches g (record { kind = message p s; room = room }) a ≡ (ltb a (g .ases) && isMember g a p)
+
+-- lent lists of the lengths that the events have
+abbrev pub Rooms : List Event → List (List ℕ) → Type 0
+Rooms [] [] = Unit {0}
+Rooms [] (l ∷ ls) = ⊥
+Rooms (e ∷ h) [] = ⊥
+Rooms (e ∷ h) (l ∷ ls) = (length l ≡ e .room) × Rooms h ls
+
+-- Such calls exist for every first state, every list of events and all lent lists of their lengths: the statement is about something.
+pub record Made (g : Gateway) (h : List Event) (ls : List (List ℕ)) : Type 0 where
+  pub list : List Call
+  pub end : Gateway
+  pub are : Calls g list end
+  pub of : events list ≡ h
+  pub lend : map (λ (d : Call). d .lent) list ≡ ls

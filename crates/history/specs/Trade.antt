@@ -1,0 +1,69 @@
+-- Histories, and what it means that neighbours trade places. Nothing here knows of the gateway: B is a state, E an event, O what an event hands back.
+use mathlib.Core.Path.{_≡_, refl, sym, ap, _∙_}
+use mathlib.Core.List.{List, [], _∷_}
+use Prim.Native.Nat.{ℕ, zero, suc}
+
+module _ {A : Type 0} where
+  -- the elements at places i and i + 1 trade places; a list that has no such places stays
+  abbrev pub swapAt : ℕ → List A → List A
+  swapAt i [] = []
+  swapAt i (x ∷ []) = x ∷ []
+  swapAt zero (x ∷ y ∷ l) = y ∷ x ∷ l
+  swapAt (suc i) (x ∷ y ∷ l) = x ∷ swapAt i (y ∷ l)
+
+  -- any number of trades, one after the other
+  abbrev pub swaps : List ℕ → List A → List A
+  swaps [] l = l
+  swaps (i ∷ is) l = swaps is (swapAt i l)
+
+module _ {B E O : Type 0} (out : B → E → O) (next : B → E → B) where
+  -- what each event of a history hands back, in turn, and the last state
+  abbrev pub outs : B → List E → List O
+  outs b [] = []
+  outs b (e ∷ h) = out b e ∷ outs (next b e) h
+
+  abbrev pub last : B → List E → B
+  last b [] = b
+  last b (e ∷ h) = last (next b e) h
+
+module _ {B E : Type 0} (next : B → E → B) (Free : B → E → E → Type 0) where
+  -- the events at places i and i + 1 of a history from b are there, and are free to trade where they stand
+  abbrev pub MayTrade : B → List E → ℕ → Type 0
+  MayTrade b [] i = ⊥
+  MayTrade b (e ∷ []) i = ⊥
+  MayTrade b (e ∷ f ∷ h) zero = Free b e f
+  MayTrade b (e ∷ f ∷ h) (suc i) = MayTrade (next b e) (f ∷ h) i
+
+  abbrev pub Trades : B → List E → List ℕ → Type 0
+  Trades b h [] = Unit {0}
+  Trades b h (i ∷ is) = MayTrade b h i × Trades b (swapAt i h) is
+
+-- e and f commute at b: each hands back the same after the other, and both orders lead to one state
+pub record Commute {B E O : Type 0} (out : B → E → O) (next : B → E → B) (b : B) (e f : E) : Type 0 where
+  pub first : out (next b f) e ≡ out b e
+  pub second : out (next b e) f ≡ out b f
+  pub both : next (next b e) f ≡ next (next b f) e
+
+module _ {B E O : Type 0} (out : B → E → O) (next : B → E → B) (Free : B → E → E → Type 0)
+    (commute : (b : B) (e f : E) → Free b e f → Commute out next b e f) where
+  one-outs : (b : B) (h : List E) (i : ℕ) → MayTrade next Free b h i → outs out next b (swapAt i h) ≡ swapAt i (outs out next b h)
+  one-outs b [] i m = absurd m
+  one-outs b (e ∷ []) i m = absurd m
+  one-outs b (e ∷ f ∷ h) zero m =
+      let c = commute b e f m in
+      λ j. sym (c .second) j ∷ c .first j ∷ outs out next (sym (c .both) j) h
+  one-outs b (e ∷ f ∷ h) (suc i) m = ap (λ (l : List O). out b e ∷ l) (one-outs (next b e) (f ∷ h) i m)
+
+  one-last : (b : B) (h : List E) (i : ℕ) → MayTrade next Free b h i → last out next b (swapAt i h) ≡ last out next b h
+  one-last b [] i m = absurd m
+  one-last b (e ∷ []) i m = absurd m
+  one-last b (e ∷ f ∷ h) zero m = ap (λ (s : B). last out next s h) (sym (commute b e f m .both))
+  one-last b (e ∷ f ∷ h) (suc i) m = one-last (next b e) (f ∷ h) i m
+
+  pub traded-outs : (b : B) (h : List E) (is : List ℕ) → Trades next Free b h is → outs out next b (swaps is h) ≡ swaps is (outs out next b h)
+  traded-outs b h [] t = refl
+  traded-outs b h (i ∷ is) t = traded-outs b (swapAt i h) is (t .1) ∙ ap (swaps is) (one-outs b h i (t .0))
+
+  pub traded-last : (b : B) (h : List E) (is : List ℕ) → Trades next Free b h is → last out next b (swaps is h) ≡ last out next b h
+  traded-last b h [] t = refl
+  traded-last b h (i ∷ is) t = traded-last b (swapAt i h) is (t .1) ∙ one-last b h i (t .0)

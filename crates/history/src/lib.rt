@@ -1,0 +1,1 @@
+// Demand 3: one statement on entire histories of events, and its proof (specs/ and proofs/ alone).

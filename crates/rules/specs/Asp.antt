@@ -1,0 +1,57 @@
+-- Document 01: the messages by which an ASP comes up, goes down, and takes traffic.
+-- Assumes nothing.
+use Prim.Native.Nat.{ℕ, _+_, _*_}
+use mathlib.Core.Bool.{Bool, true, false, cond, not, _&&_, _||_}
+use mathlib.Core.List.{List, [], _∷_, _++_}
+use lib.Dec.{eqb}
+use Rattle.laws.specs.Below.{anyBelow, when}
+use Rattle.laws.specs.Tab.{at, col, on, tab}
+use Rattle.wire.specs.Walk.{Par}
+use Rattle.message.specs.declared.Reading.{Reading}
+use Rattle.ranges.specs.declared.Refused.{Refused}
+use Rattle.gateway.specs.declared.Gateway.{Gateway}
+use Rattle.server.specs.declared.Change.the-variants.{Rise, Fall, Off, On, Recover}
+use Rattle.server.specs.Record.{some}
+use Rattle.servers.specs.Moved.{columnOf}
+use Rattle.rules.specs.Identifiers.{firstRefused, ownersNamed}
+use Rattle.rules.specs.Deed.{Deed, say, change, sent, error, error2}
+
+-- the ASes of p, and those in which it is active
+abbrev pub asesOf : Gateway → ℕ → List Bool
+asesOf g p = columnOf (g .member) p
+
+abbrev pub activeIn : Gateway → ℕ → List Bool
+activeIn g p = columnOf (g .active) p
+
+-- "Up: an identifier given and not the plan's: Error 15. Else Ack. If p was active anywhere: also Error 6, and p is inactive everywhere. p is up."
+unfoldable pub upDeed : Gateway → ℕ → Reading → Deed
+upDeed g p r =
+    cond (eqb (r .identified) 1 && not (eqb (r .aspid) (col (g .aspid) p))) (say (error p 15))
+    (change (sent p 772 0 0 ++ cond (some (activeIn g p)) (error p 6) []) (Rise p) (asesOf g p))
+
+-- "Down: Ack; p down, inactive everywhere. Lost: the same without Ack."
+unfoldable pub downDeed : Gateway → ℕ → Deed
+downDeed g p = change (sent p 773 0 0) (Fall p) (asesOf g p)
+
+unfoldable pub lostDeed : Gateway → ℕ → Deed
+lostDeed g p = change [] (Fall p) (asesOf g p)
+
+-- "In Active, a mode given that differs from a named AS's": mode 0 stands for none given
+unfoldable pub otherMode : Gateway → ℕ → List Bool → Bool
+otherMode g mode named = not (eqb mode 0) && anyBelow (λ a. at named a && not (eqb (col (g .mode) a) mode)) 16
+
+-- "Active, Inactive: .. Else Ack, and p becomes active or inactive in each owner AS."
+unfoldable pub activeDeed : Gateway → ℕ → ℕ → List Bool → Deed
+activeDeed g p mode named = cond (otherMode g mode named) (say (error p 5)) (change (sent p 1027 0 0) (On p) named)
+
+unfoldable pub inactiveDeed : ℕ → List Bool → Deed
+inactiveDeed p named = change (sent p 1028 0 0) (Off p) named
+
+-- "p down: Error 6. A named identifier not in the plan or owned by an AS without p: Error 2. No identifiers name all of p's ASes; if none,
+-- Error 6." What is done with the ASes named is given.
+unfoldable pub trafficDeed : Gateway → ℕ → Reading → List Par → (List Bool → Deed) → Deed
+trafficDeed g p r ps act =
+    cond (not (on (g .up) p)) (say (error p 6))
+    (cond (eqb (r .ids) 1)
+    (cond (firstRefused g p ps .found) (say (error2 p (firstRefused g p ps .id))) (act (ownersNamed g ps)))
+    (cond (some (asesOf g p)) (act (asesOf g p)) (say (error p 6))))

@@ -1,0 +1,59 @@
+-- What an accepted event does: its actions (document 01's orders), and the next state.
+-- Assumes nothing.
+use Prim.Native.Nat.{ℕ}
+use mathlib.Core.Bool.{Bool}
+use mathlib.Core.List.{List, [], _∷_, _++_}
+use lib.ListN.{set}
+use Rattle.action.specs.declared.Action.{Action}
+use Rattle.action.specs.Words.{action}
+use Rattle.gateway.specs.declared.Gateway.{Gateway}
+use Rattle.server.specs.declared.Change.{Change}
+use Rattle.servers.specs.Moved.{moved, allActions}
+
+pub data Deed : Type 0 where
+  -- actions alone
+  say : List Action → Deed
+  -- the link at an index comes to a state
+  turn : ℕ → ℕ → List Action → Deed
+  -- replies, then a change in each of the flagged ASes, ascending, with its Notifies
+  change : List Action → Change → List Bool → Deed
+
+-- "Replies to p come first .., then ASes ascending, in each the addressees ascending."
+abbrev pub actionsOf : Gateway → Deed → List Action
+actionsOf g (say os) = os
+actionsOf g (turn l v os) = os
+actionsOf g (change os k named) = os ++ allActions g k named
+
+-- the gateway with the link at an index in a state
+abbrev pub withState : Gateway → ℕ → ℕ → Gateway
+withState g l v =
+    record {
+      asps = g .asps;
+      ases = g .ases;
+      links = g .links;
+      aspid = g .aspid;
+      up = g .up;
+      member = g .member;
+      active = g .active;
+      mode = g .mode;
+      waiting = g .waiting;
+      iid = g .iid;
+      owner = g .owner;
+      state = set (g .state) l v;
+    }
+
+abbrev pub stateAfter : Gateway → Deed → Gateway
+stateAfter g (say os) = g
+stateAfter g (turn l v os) = withState g l v
+stateAfter g (change os k named) = moved g k named
+
+-- one action
+abbrev pub sent : ℕ → ℕ → ℕ → ℕ → List Action
+sent q k s v = action q k s v ∷ []
+
+-- "An Error order has value its code, and subject the first refused identifier for code 2, else 0."
+abbrev pub error : ℕ → ℕ → List Action
+error p n = sent p 0 0 n
+
+abbrev pub error2 : ℕ → ℕ → List Action
+error2 p x = sent p 0 x 2

@@ -1,0 +1,54 @@
+-- The identifiers that a message names, parameter by parameter in received order.
+-- Assumes nothing.
+use Prim.Native.Nat.{ℕ}
+use mathlib.Core.Bool.{Bool, true, false, cond, not, _&&_, _||_}
+use mathlib.Core.List.{List, [], _∷_}
+use lib.Dec.{eqb}
+use Rattle.laws.specs.Tab.{col, on, tab}
+use Rattle.wire.specs.Walk.{Par}
+use Rattle.gateway.specs.Sound.{pair}
+use Rattle.gateway.specs.declared.Gateway.{Gateway}
+use Rattle.lookup.specs.Links.{indexOf, known}
+use Rattle.ranges.specs.Named.{isRefused, isOf, nothing, refusedIn, someOf}
+use Rattle.ranges.specs.declared.Refused.{Refused}
+
+-- "ids are tags 0x1 .. and 0x8"
+abbrev pub isIds : ℕ → Bool
+isIds t = eqb t 0x1 || eqb t 0x8
+
+-- "the first refused identifier": parameters in received order, entries in order, ranges ascending
+unfoldable pub firstRefused : Gateway → ℕ → List Par → Refused
+firstRefused g p [] = nothing
+firstRefused g p (x ∷ ps) =
+    let r : Refused = refusedIn (isRefused (g .iid) (g .owner) (g .member) (g .links) p) (eqb (x .tag) 0x8) (x .body) in
+    cond (isIds (x .tag)) (cond (r .found) r (firstRefused g p ps)) (firstRefused g p ps)
+
+-- whether AS a owns a known identifier that the message names
+unfoldable pub ownsNamed : Gateway → List Par → ℕ → Bool
+ownsNamed g [] a = false
+ownsNamed g (x ∷ ps) a =
+    (isIds (x .tag) && someOf (isOf (g .iid) (g .owner) (g .links) a) (eqb (x .tag) 0x8) (x .body)) || ownsNamed g ps a
+
+-- "the owners of those known"
+unfoldable pub ownersNamed : Gateway → List Par → List Bool
+ownersNamed g ps = tab 16 (ownsNamed g ps)
+
+-- ---- one identifier, as in class 6
+
+unfoldable pub isKnown : Gateway → ℕ → Bool
+isKnown g x = known (g .iid) (g .links) x
+
+-- the index of its link
+unfoldable pub linkOf : Gateway → ℕ → ℕ
+linkOf g x = indexOf (g .iid) (g .links) x
+
+-- the AS that owns the link at an index
+abbrev pub ownerAt : Gateway → ℕ → ℕ
+ownerAt g l = col (g .owner) l
+
+-- p has part in AS a, and is active there
+abbrev pub isMember : Gateway → ℕ → ℕ → Bool
+isMember g a p = on (g .member) (pair a p)
+
+abbrev pub isActive : Gateway → ℕ → ℕ → Bool
+isActive g a p = on (g .active) (pair a p)

@@ -1,0 +1,10 @@
+pub mod Event
+pub mod Identifiers
+pub mod Deed
+pub mod Work
+pub mod Asp
+pub mod Link
+pub mod Rules
+pub mod Reach
+pub mod Entry
+pub mod Samples

@@ -1,0 +1,40 @@
+-- `server::has_some`: the flags passed. Assumes nothing.
+use Prim.Native.Nat.{_≤_, _-_}
+use mathlib.Core.Path.{_≡_, sym}
+use native.Mathlib.Omega.{arith}
+use borrow.Author.Needs.{needs}
+use Rattle.laws.specs.Below.{any-more, any-none, anyBelow, at-end}
+use Rattle.laws.specs.Tab.{at}
+use Rattle.server.specs.Record.{some}
+use Rattle.server.proofs.has_some.Statement.{statement}
+use Rattle.server.proofs.has_some.Tie as tie
+
+abbrev Inv-loop : tie.InvT-loop
+Inv-loop x found₀ q₀ found q = (found ≡ anyBelow (at x) q) × (q ≤ 16)
+
+abbrev μ-loop : tie.MeasureT-loop
+μ-loop x found₀ q₀ found q = 16 - q
+
+loop-holds : tie.Need-loop-holds Inv-loop μ-loop
+loop-holds c = (sym (any-none _), omega arith)
+
+array-read-found : tie.Need-array-read-found Inv-loop μ-loop
+array-read-found c = search needs
+
+add-q : tie.Need-add-q Inv-loop μ-loop
+add-q c = search needs
+
+loop-less : tie.Need-loop-less Inv-loop μ-loop
+loop-less c = search needs
+
+loop-again : tie.Need-loop-again Inv-loop μ-loop
+loop-again c = (rw any-more (rw (c .before .loop .inv .0)), search needs)
+
+returns : tie.Need-returns Inv-loop μ-loop
+unfolding some
+returns c = at-end (anyBelow _) (c .before .loop .inv .0) (c .loop-test .left) (c .before .loop .inv .1)
+
+pub has-some-spec : {M : Type 1} → statement M
+has-some-spec =
+    tie.close
+    (tie.spec Inv-loop μ-loop loop-holds array-read-found add-q loop-less loop-again returns)

@@ -1,0 +1,105 @@
+-- What an event does to the record of an AS that it names. p is the ASP of the event.
+-- Assumes nothing.
+use Prim.Native.Nat.{ℕ, _<_}
+use mathlib.Core.Path.{_≡_, refl, _∙_, sym}
+use mathlib.Core.Bool.{Bool, true, false, _||_, _&&_, not}
+use mathlib.Core.List.{List}
+use lib.Dec.{eqb, ltb}
+use borrow.Author.Tests.{eq-eqb}
+use Rattle.laws.specs.Below.{anyBelow, any-in, any-at}
+use Rattle.laws.specs.Tab.{at, tab, getD-tab}
+use Rattle.server.specs.Record.{some}
+use Rattle.server.specs.declared.AsRecord.{AsRecord}
+use Rattle.server.specs.declared.Change.{Change}
+use Rattle.server.specs.declared.Change.the-variants.{Rise, Fall, Off, On, Recover}
+
+-- x without p, and with p
+unfoldable pub without : List Bool → ℕ → List Bool
+without x p = tab 16 (λ q. at x q && not (eqb q p))
+
+unfoldable pub joined : List Bool → ℕ → List Bool
+joined x p = tab 16 (λ q. at x q || eqb q p)
+
+-- "p becomes active .. in each owner AS. In override another active member becomes inactive": mode 1 is override
+unfoldable pub turned : List Bool → ℕ → ℕ → List Bool
+turned x mode p = tab 16 (λ q. (at x q && not (eqb mode 1)) || eqb q p)
+
+-- those others: "and gets Notify (2, 2)"
+unfoldable pub overtaken : List Bool → ℕ → ℕ → List Bool
+overtaken x mode p = tab 16 (λ q. (at x q && eqb mode 1) && not (eqb q p))
+
+unfoldable pub nobody : List Bool
+nobody = tab 16 (λ q. false)
+
+-- "An AS losing its last active member waits; gaining one ends waiting."
+unfoldable pub settle : AsRecord → List Bool → List Bool → AsRecord
+settle s ups acts =
+    record {
+      ups = ups;
+      acts = acts;
+      waiting = not (some acts) && (some (s .acts) || s .waiting);
+      mode = s .mode;
+    }
+
+-- Up: "p is inactive everywhere. p is up." Down: "p down, inactive everywhere. Lost: the same". Active, Inactive: "p becomes active or inactive
+-- in each owner AS". "Recovery over: waiting ends."
+abbrev pub after : Change → AsRecord → AsRecord
+after (Rise p) s = settle s (joined (s .ups) p) (without (s .acts) p)
+after (Fall p) s = settle s (without (s .ups) p) (without (s .acts) p)
+after (Off p) s = settle s (s .ups) (without (s .acts) p)
+after (On p) s = settle s (s .ups) (turned (s .acts) (s .mode) p)
+after Recover s = record { ups = s .ups; acts = s .acts; waiting = false; mode = s .mode }
+
+-- the members that the change overtakes
+abbrev pub overtakenIn : Change → AsRecord → List Bool
+overtakenIn (Rise p) s = nobody
+overtakenIn (Fall p) s = nobody
+overtakenIn (Off p) s = nobody
+overtakenIn (On p) s = overtaken (s .acts) (s .mode) p
+overtakenIn Recover s = nobody
+
+-- who becomes active is an ASP
+abbrev pub fits : Change → Bool
+fits (Rise p) = true
+fits (Fall p) = true
+fits (Off p) = true
+fits (On p) = ltb p 16
+fits Recover = true
+
+-- ---- laws
+
+pub nobody-none : some nobody ≡ false
+unfolding nobody some anyBelow tab
+nobody-none = refl
+
+pub some-at : (x : List Bool) (q : ℕ) → q < 16 → at x q ≡ true → some x ≡ true
+unfolding some
+some-at x q b h = any-in (at x) 16 q b h
+
+pub some-some : (x : List Bool) → some x ≡ true → (q : ℕ) × (q < 16) × (at x q ≡ true)
+unfolding some
+some-some x h = any-at (at x) 16 h
+
+first-of : (u v w : Bool) → ((u && v) && w) ≡ true → u ≡ true
+first-of true v w e = refl
+first-of false v w e = e
+
+or-true : (u : Bool) → (u || true) ≡ true
+or-true true = refl
+or-true false = refl
+
+-- those overtaken were active
+pub overtaken-was : (x : List Bool) (mode p q : ℕ) → q < 16 → at (overtaken x mode p) q ≡ true → at x q ≡ true
+unfolding overtaken
+overtaken-was x mode p q b e =
+    first-of _ _ _ (sym (getD-tab 16 (λ q. (at x q && eqb mode 1) && not (eqb q p)) q false b) ∙ e)
+
+-- p is active after it
+turned-on : (x : List Bool) (mode p : ℕ) → p < 16 → at (turned x mode p) p ≡ true
+unfolding turned
+turned-on x mode p b =
+    getD-tab 16 (λ q. (at x q && not (eqb mode 1)) || eqb q p) p false b
+    ∙ rw (eq-eqb p p refl) (or-true (at x p && not (eqb mode 1)))
+
+pub some-turned : (x : List Bool) (mode p : ℕ) → p < 16 → some (turned x mode p) ≡ true
+some-turned x mode p b = some-at (turned x mode p) p b (turned-on x mode p b)

@@ -1,0 +1,251 @@
+// What one AS keeps, cut out of the gateway's columns: what an event does to it, and the Notifies that follow.
+ghost use mathlib.Core.Path.{_≡_};
+ghost use Prim.Native.Nat.{_+_, _*_, _<_, _≤_};
+ghost use lib.ListN.{length};
+ghost use Rattle.laws.specs.Below.{one};
+ghost use Rattle.action.specs.Words.{Written};
+ghost use Rattle.server.specs.Record.{row, membersUp, recordFrom, some, stateIn, laid};
+ghost use Rattle.server.specs.Change.{without, joined, turned, overtaken, settle, after, overtakenIn};
+ghost use Rattle.server.specs.Notify.{announced, spoken};
+
+// Its members that are up, those active in it, whether it waits, its traffic mode.
+pub struct AsRecord {
+    pub ups: [bool; 16],
+    pub acts: [bool; 16],
+    pub waiting: bool,
+    pub mode: u8,
+}
+
+// What an event does in the ASes that it names. Rise(p): ASP p is up, and active nowhere. Fall(p): it is down. Off(p): it becomes inactive.
+// On(p): it becomes active, in override alone. Recover: the recovery time is over.
+pub enum Change {
+    Rise(usize),
+    Fall(usize),
+    Off(usize),
+    On(usize),
+    Recover,
+}
+
+// A flag as a column keeps it.
+pub fn bit(t: bool) -> u8
+    ensures { λ r. ⌜ (r ≡ one t) × (r ≤ 1) ⌝ }
+{
+    if t { 1 } else { 0 }
+}
+
+// Whether some flag is set.
+pub fn has_some(x: [bool; 16]) -> bool
+    ensures { λ r. ⌜ r ≡ some x ⌝ }
+{
+    let mut found = false;
+    for q in 0..16usize {
+        found = found | x[q];
+    }
+    found
+}
+
+// ---- cut out and put back
+
+// The row of AS a.
+fn row_of(column: &[u8; 256], a: usize) -> [bool; 16]
+    requires { ⌜ a < 16 ⌝ }
+    ensures { λ r. ⌜ r ≡ row (now (column .entry)) a ⌝ }
+{
+    let mut r = [false; 16];
+    for q in 0..16usize {
+        r[q] = column[a * 16 + q] == 1;
+    }
+    r
+}
+
+// The members of AS a that are up.
+fn members_up(up: &[u8; 16], member: &[u8; 256], a: usize) -> [bool; 16]
+    requires { ⌜ a < 16 ⌝ }
+    ensures { λ r. ⌜ r ≡ membersUp (now (up .entry)) (now (member .entry)) a ⌝ }
+{
+    let mut r = [false; 16];
+    for q in 0..16usize {
+        r[q] = (member[a * 16 + q] == 1) & (up[q] == 1);
+    }
+    r
+}
+
+// The record of AS a.
+pub fn record_of(
+    up: &[u8; 16],
+    member: &[u8; 256],
+    active: &[u8; 256],
+    waiting: &[u8; 16],
+    mode: &[u8; 16],
+    a: usize,
+) -> AsRecord
+    requires { ⌜ a < 16 ⌝ }
+    ensures { λ r. ⌜ r ≡ recordFrom (now (up .entry)) (now (member .entry)) (now (active .entry)) (now (waiting .entry)) (now (mode .entry)) a ⌝ }
+{
+    let ups = members_up(up, member, a);
+    let acts = row_of(active, a);
+    AsRecord {
+        ups: ups,
+        acts: acts,
+        waiting: waiting[a] == 1,
+        mode: mode[a],
+    }
+}
+
+pub fn put_row(column: &mut [u8; 256], a: usize, x: [bool; 16])
+    requires { ⌜ (a < 16) × (length (now column) ≡ 256) ⌝ }
+    ensures { λ r. ⌜ now (column .exit) ≡ laid (now (column .entry)) a x ⌝ }
+{
+    for q in 0..16usize {
+        column[a * 16 + q] = bit(x[q]);
+    }
+}
+
+// ---- the changes
+
+// x without p
+fn minus(x: [bool; 16], p: usize) -> [bool; 16]
+    ensures { λ r. ⌜ r ≡ without x p ⌝ }
+{
+    let mut r = [false; 16];
+    for q in 0..16usize {
+        r[q] = x[q] & (q != p);
+    }
+    r
+}
+
+// x with p
+fn plus(x: [bool; 16], p: usize) -> [bool; 16]
+    ensures { λ r. ⌜ r ≡ joined x p ⌝ }
+{
+    let mut r = [false; 16];
+    for q in 0..16usize {
+        r[q] = x[q] | (q == p);
+    }
+    r
+}
+
+// The active members once p is, in override it alone.
+fn turn_on(x: [bool; 16], mode: u8, p: usize) -> [bool; 16]
+    ensures { λ r. ⌜ r ≡ turned x mode p ⌝ }
+{
+    let mut r = [false; 16];
+    for q in 0..16usize {
+        r[q] = (x[q] & (mode != 1)) | (q == p);
+    }
+    r
+}
+
+// Those whom p overtakes in override.
+fn overtake(x: [bool; 16], mode: u8, p: usize) -> [bool; 16]
+    ensures { λ r. ⌜ r ≡ overtaken x mode p ⌝ }
+{
+    let mut r = [false; 16];
+    for q in 0..16usize {
+        r[q] = (x[q] & (mode == 1)) & (q != p);
+    }
+    r
+}
+
+// The record with other members up and active: it waits if it lost its last active member.
+fn settled(s: AsRecord, ups: [bool; 16], acts: [bool; 16]) -> AsRecord
+    ensures { λ r. ⌜ r ≡ settle s ups acts ⌝ }
+{
+    let before = s.acts;
+    let was = has_some(before);
+    let now = has_some(acts);
+    AsRecord {
+        ups: ups,
+        acts: acts,
+        waiting: !now & (was | s.waiting),
+        mode: s.mode,
+    }
+}
+
+pub fn changed(s: AsRecord, k: Change) -> AsRecord
+    ensures { λ r. ⌜ r ≡ after k s ⌝ }
+{
+    let ups = s.ups;
+    let acts = s.acts;
+    match k {
+        Change::Rise(p) => settled(s, plus(ups, p), minus(acts, p)),
+        Change::Fall(p) => settled(s, minus(ups, p), minus(acts, p)),
+        Change::Off(p) => settled(s, ups, minus(acts, p)),
+        Change::On(p) => settled(s, ups, turn_on(acts, s.mode, p)),
+        Change::Recover => AsRecord {
+            ups: ups,
+            acts: acts,
+            waiting: false,
+            mode: s.mode,
+        },
+    }
+}
+
+// Those whom the change overtakes.
+pub fn overtaken_in(s: AsRecord, k: Change) -> [bool; 16]
+    ensures { λ r. ⌜ r ≡ overtakenIn k s ⌝ }
+{
+    let acts = s.acts;
+    match k {
+        Change::On(p) => overtake(acts, s.mode, p),
+        Change::Rise(_) => [false; 16],
+        Change::Fall(_) => [false; 16],
+        Change::Off(_) => [false; 16],
+        Change::Recover => [false; 16],
+    }
+}
+
+// ---- the Notifies
+
+// The state of the AS: 0 down, 2 inactive, 3 active, 4 pending.
+pub fn state_in(s: AsRecord) -> u32
+    ensures { λ r. ⌜ r ≡ stateIn s ⌝ }
+{
+    let acts = s.acts;
+    if has_some(acts) {
+        return 3;
+    }
+    if s.waiting {
+        return 4;
+    }
+    let ups = s.ups;
+    if has_some(ups) {
+        return 2;
+    }
+    0
+}
+
+// The new state to every member that is up, if it is another and not down.
+fn announce(s: AsRecord, t: AsRecord, a: usize, words: &mut [u32], n: usize) -> usize
+    requires { ⌜ (a < 16) × (n * 4 + 64 ≤ length (now words)) ⌝ }
+    ensures { λ r. ⌜ Written (now (words .entry)) n (announced s t a) (now (words .exit)) r ⌝ }
+{
+    let x = state_in(s);
+    let y = state_in(t);
+    if y == 0 {
+        return n;
+    }
+    if x == y {
+        return n;
+    }
+    let ups = t.ups;
+    action::to_all(ups, 1, a as u32, 65536 + y, words, n)
+}
+
+// Notify (2, 2) to those overtaken, or else the new state.
+pub fn speak(
+    lost: [bool; 16],
+    s: AsRecord,
+    t: AsRecord,
+    a: usize,
+    words: &mut [u32],
+    n: usize,
+) -> usize
+    requires { ⌜ (a < 16) × (n * 4 + 64 ≤ length (now words)) ⌝ }
+    ensures { λ r. ⌜ Written (now (words .entry)) n (spoken lost s t a) (now (words .exit)) r ⌝ }
+{
+    if has_some(lost) {
+        return action::to_all(lost, 1, a as u32, 131074, words, n);
+    }
+    announce(s, t, a, words, n)
+}

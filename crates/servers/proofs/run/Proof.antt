@@ -1,0 +1,56 @@
+-- `servers::run`: the ASes passed. Assumes nothing.
+use Prim.Native.Nat.{_≤_, _-_}
+use native.Mathlib.Omega.{arith}
+use borrow.Author.Needs.{needs}
+use Rattle.action.specs.Words.{emit-bound, written-length}
+use Rattle.server.specs.Record.{recordFrom}
+use Rattle.servers.proofs.Turn.{run-end, run-none, run-turn}
+use Rattle.servers.specs.Moved.{actionsAt-short}
+use Rattle.servers.specs.Run.{Running}
+use Rattle.servers.proofs.run.Statement.{statement}
+use Rattle.servers.proofs.run.Tie as tie
+
+abbrev Inv-loop : tie.InvT-loop
+Inv-loop up member mode active₀ waiting₀ k words₀ n named m₀ a₀ active waiting words m a = Running k named (recordFrom up member active₀ waiting₀ mode) active₀ waiting₀ words₀ n a active waiting words m × (a ≤ 16)
+
+abbrev μ-loop : tie.MeasureT-loop
+μ-loop up member mode active₀ waiting₀ k words₀ n named m₀ a₀ active waiting words m a = 16 - a
+
+loop-holds : tie.Need-loop-holds Inv-loop μ-loop
+loop-holds c = (run-none _ _ _ _ _ _ _ _ _ (c .before .pre .1) (c .before .pre .2), omega arith)
+
+array-read-step : tie.Need-array-read-step Inv-loop μ-loop
+array-read-step c = search needs
+
+step-requires : tie.Need-step-requires Inv-loop μ-loop
+step-requires c κs = let h = c .before .before .before .before .loop .inv .0 in (omega arith, omega (arith, written-length (h .wrote .wrote), emit-bound 16 (actionsAt-short _ _ _ (c .before .before .before .before .before .before .pre .3)) (h .wrote)), h .acts .long, c .before .before .before .before .before .before .pre .3)
+
+add-a : tie.Need-add-a Inv-loop μ-loop
+add-a c = search needs
+
+loop-less : tie.Need-loop-less Inv-loop μ-loop
+loop-less c = search needs
+
+loop-again : tie.Need-loop-again Inv-loop μ-loop
+loop-again c = (run-turn _ _ _ _ _ _ _ (omega arith) (c .before .before .before .before .before .before .before .loop .inv .0) (c .before .before .step .ensures), search needs)
+
+same-length : tie.Need-same-length Inv-loop μ-loop
+same-length c = written-length (c .before .loop .inv .0 .wrote .wrote)
+
+returns : tie.Need-returns Inv-loop μ-loop
+returns c = run-end _ _ _ _ _ _ _ (c .loop-test .left) (c .before .loop .inv .1) (c .before .loop .inv .0)
+
+pub run-spec : {M : Type 1} → statement M
+run-spec =
+    tie.close
+    (tie.spec
+    Inv-loop
+    μ-loop
+    loop-holds
+    array-read-step
+    step-requires
+    add-a
+    loop-less
+    loop-again
+    same-length
+    returns)

@@ -1,0 +1,110 @@
+-- The gateway after an event that names some ASes, and the event's actions there, from the state before it.
+-- Assumes nothing.
+use Prim.Native.Nat.{ℕ, _/_, _%_, _≤_, _<_}
+use mathlib.Core.Path.{_≡_, _∙_}
+use mathlib.Core.Bool.{Bool, true, cond}
+use mathlib.Core.List.{List}
+use lib.Dec.{eqb}
+use lib.ListN.{length, set, length-set}
+use lib.Seq.{getD-set-same, getD-set-other}
+use native.Mathlib.Omega.{arith}
+use native.Mathlib.Decide.{ℕ-discrete}
+use borrow.Author.Tests.{eq-eqb, ne-eqb}
+use Rattle.laws.specs.Below.{one, concatBelow, concat-short}
+use Rattle.laws.specs.Tab.{at, on, col, tab, is-tab}
+use Rattle.gateway.specs.Sound.{pair}
+use Rattle.gateway.specs.declared.Gateway.{Gateway}
+use Rattle.action.specs.declared.Action.{Action}
+use Rattle.server.specs.declared.AsRecord.{AsRecord}
+use Rattle.server.specs.declared.Change.{Change}
+use Rattle.server.specs.declared.Change.the-variants.{Rise, Fall, Off, On, Recover}
+use Rattle.server.specs.Record.{recordOf}
+use Rattle.server.specs.Change.{after, fits}
+use Rattle.server.specs.Notify.{actionsIn, actionsIn-short}
+
+-- the ASes of ASP p, or those in which it is active
+unfoldable pub columnOf : List ℕ → ℕ → List Bool
+columnOf c p = tab 16 (λ a. on c (pair a p))
+
+-- the column with x at place p
+unfoldable pub flagAt : List ℕ → ℕ → ℕ → List ℕ
+flagAt c p x = tab 16 (λ q. cond (eqb q p) x (col c q))
+
+-- Up: "p is up." Down, lost: "p down". Nothing else changes it.
+abbrev pub upAfter : Change → List ℕ → List ℕ
+upAfter (Rise p) up = flagAt up p 1
+upAfter (Fall p) up = flagAt up p 0
+upAfter (Off p) up = up
+upAfter (On p) up = up
+upAfter Recover up = up
+
+-- place by place: the new record's where its AS is named, else as it was. `records` and the column are those before the event.
+unfoldable pub newActive : Change → List Bool → (ℕ → AsRecord) → List ℕ → ℕ → ℕ
+newActive k named records c i =
+    cond (at named (i / 16)) (one (at (after k (records (i / 16)) .acts) (i % 16))) (col c i)
+
+unfoldable pub newWaiting : Change → List Bool → (ℕ → AsRecord) → List ℕ → ℕ → ℕ
+newWaiting k named records c a = cond (at named a) (one (after k (records a) .waiting)) (col c a)
+
+unfoldable pub moved : Gateway → Change → List Bool → Gateway
+moved g k named =
+    record {
+      asps = g .asps;
+      ases = g .ases;
+      links = g .links;
+      aspid = g .aspid;
+      up = upAfter k (g .up);
+      member = g .member;
+      active = tab 256 (newActive k named (recordOf g) (g .active));
+      mode = g .mode;
+      waiting = tab 16 (newWaiting k named (recordOf g) (g .waiting));
+      iid = g .iid;
+      owner = g .owner;
+      state = g .state;
+    }
+
+-- the gateway with link l in state v
+unfoldable pub linked : Gateway → ℕ → ℕ → Gateway
+linked g l v =
+    record {
+      asps = g .asps;
+      ases = g .ases;
+      links = g .links;
+      aspid = g .aspid;
+      up = g .up;
+      member = g .member;
+      active = g .active;
+      mode = g .mode;
+      waiting = g .waiting;
+      iid = g .iid;
+      owner = g .owner;
+      state = set (g .state) l v;
+    }
+
+unfoldable pub actionsAt : Change → List Bool → (ℕ → AsRecord) → ℕ → List Action
+actionsAt k named records a = actionsIn (at named a) k a (records a)
+
+-- "then ASes ascending, in each the addressees ascending"
+unfoldable pub allActions : Gateway → Change → List Bool → List Action
+allActions g k named = concatBelow (actionsAt k named (recordOf g)) 16
+
+-- ---- laws
+
+-- one place of an array set
+pub flagAt-set : (c : List ℕ) (p x : ℕ) → length c ≡ 16 → set c p x ≡ flagAt c p x
+unfolding flagAt
+flagAt-set c p x e = is-tab 0 (set c p x) 16 (λ q. cond (eqb q p) x (col c q)) (length-set c p x ∙ e) (λ q b. go q b (ℕ-discrete q p))
+  where
+    go : (q : ℕ) → q < 16 → Dec (q ≡ p) → col (set c p x) q ≡ cond (eqb q p) x (col c q)
+    go q b (yes z) = rw (eq-eqb q p z, z) (getD-set-same c p x 0 (omega arith))
+    go q b (no z) = rw (ne-eqb q p z) (getD-set-other c p q x 0 z)
+
+-- at most 16 actions in an AS, 256 in all
+
+pub actionsAt-short : (k : Change) (named : List Bool) (records : ℕ → AsRecord) → fits k ≡ true → (a : ℕ) → length (actionsAt k named records a) ≤ 16
+unfolding actionsAt
+actionsAt-short k named records h a = actionsIn-short (at named a) k a (records a) h
+
+pub allActions-short : (g : Gateway) (k : Change) (named : List Bool) → fits k ≡ true → length (allActions g k named) ≤ 256
+unfolding allActions
+allActions-short g k named h = concat-short (actionsAt k named (recordOf g)) 16 (actionsAt-short k named (recordOf g) h) 16

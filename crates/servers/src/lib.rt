@@ -1,0 +1,95 @@
+// An event in the ASes that it names: one loop that cuts each record out, changes it, writes the Notifies and puts it back.
+ghost use mathlib.Core.Path.{_≡_};
+ghost use mathlib.Core.Bool.{true};
+ghost use Prim.Native.Nat.{_+_, _*_, _<_, _≤_};
+ghost use lib.ListN.{length};
+ghost use Rattle.server.specs.Record.{recordFrom};
+ghost use Rattle.server.specs.Change.{fits};
+ghost use Rattle.servers.specs.Moved.{flagAt, upAfter, columnOf};
+ghost use Rattle.servers.specs.Run.{Stepped, Ran};
+
+// The ASes of ASP p, or those in which it is active.
+pub fn column_of(column: &[u8; 256], p: usize) -> [bool; 16]
+    requires { ⌜ p < 16 ⌝ }
+    ensures { λ r. ⌜ r ≡ columnOf (now (column .entry)) p ⌝ }
+{
+    let mut r = [false; 16];
+    for a in 0..16usize {
+        r[a] = column[a * 16 + p] == 1;
+    }
+    r
+}
+
+// The column with x at place p.
+fn put_flag(column: [u8; 16], p: usize, x: u8) -> [u8; 16]
+    ensures { λ r. ⌜ r ≡ flagAt column p x ⌝ }
+{
+    let mut r = column;
+    if p < 16 {
+        r[p] = x;
+    }
+    r
+}
+
+// Who is up after the change.
+pub fn up_after(up: [u8; 16], k: server::Change) -> [u8; 16]
+    ensures { λ r. ⌜ r ≡ upAfter k up ⌝ }
+{
+    match k {
+        server::Change::Rise(p) => put_flag(up, p, 1),
+        server::Change::Fall(p) => put_flag(up, p, 0),
+        server::Change::Off(_) => up,
+        server::Change::On(_) => up,
+        server::Change::Recover => up,
+    }
+}
+
+// What the event does in AS a.
+fn step(
+    up: &[u8; 16],
+    member: &[u8; 256],
+    mode: &[u8; 16],
+    active: &mut [u8; 256],
+    waiting: &mut [u8; 16],
+    k: server::Change,
+    named: bool,
+    a: usize,
+    words: &mut [u32],
+    n: usize,
+) -> usize
+    requires { ⌜ (a < 16) × (n * 4 + 64 ≤ length (now words)) × (length (now active) ≡ 256) × (fits k ≡ true) ⌝ }
+    ensures { λ r. ⌜ Stepped k named a (recordFrom (now (up .entry)) (now (member .entry)) (now (active .entry)) (now (waiting .entry)) (now (mode .entry)) a) (now (active .entry)) (now (waiting .entry)) (now (words .entry)) n (now (active .exit)) (now (waiting .exit)) (now (words .exit)) r ⌝ }
+{
+    if !named {
+        return n;
+    }
+    let s = server::record_of(up, member, active, waiting, mode, a);
+    let t = server::changed(s, k);
+    let lost = server::overtaken_in(s, k);
+    let acts = t.acts;
+    server::put_row(active, a, acts);
+    waiting[a] = server::bit(t.waiting);
+    server::speak(lost, s, t, a, words, n)
+}
+
+// The same in every AS that the event names, from place n of the list on; and the next place.
+pub fn run<'a>(
+    up: &'a [u8; 16],
+    member: &'a [u8; 256],
+    mode: &'a [u8; 16],
+    active: &mut [u8; 256],
+    waiting: &mut [u8; 16],
+    k: server::Change,
+    named: [bool; 16],
+    words: &mut [u32],
+    n: usize,
+) -> usize
+    requires { ⌜ (n * 4 + 1024 ≤ length (now words)) × (length (now active) ≡ 256) × (length (now waiting) ≡ 16) × (fits k ≡ true) ⌝ }
+    ensures { λ r. ⌜ Ran k named (recordFrom (now (up .entry)) (now (member .entry)) (now (active .entry)) (now (waiting .entry)) (now (mode .entry))) (now (active .entry)) (now (waiting .entry)) (now (words .entry)) n (now (active .exit)) (now (waiting .exit)) (now (words .exit)) r ⌝ }
+{
+    let mut m = n;
+    for a in 0..16usize {
+        m = step(up, member, mode, active, waiting, k, named[a], a, words, m);
+    }
+    m
+}
