@@ -1,17 +1,20 @@
 -- A table that a loop fills from rows, zeros beyond them.
 -- Assumes nothing.
 use Prim.Native.Nat.{ℕ, _+_, _*_, _/_, _%_, _<_, _≤_}
-use mathlib.Core.Path.{_≡_, refl, sym, _∙_}
-use mathlib.Core.Bool.{cond}
+use mathlib.Core.Path.{_≡_, sym, ap, _∙_}
+use mathlib.Core.Bool.{Bool, cond}
 use mathlib.Core.List.{List}
 use lib.Dec.{ltb}
 use native.Mathlib.Omega.{arith}
 use native.Mathlib.Nat.{not-suc-le-zero}
 use native.Mathlib.Decide.{decLt}
-use lib.ListN.{length, getD, replicate, length-replicate, getD-replicate}
+use lib.ListN.{getD, replicate, length-replicate, getD-replicate}
 use borrow.Author.Tests.{lt-ltb, le-ltb}
-use Rattle.laws.specs.Tab.{col, HalfCol, half-end, is-tab}
+use Rattle.laws.specs.Tab.{col, HalfCol, is-tab}
+use Rattle.laws.specs.Below.{allBelow}
+use Rattle.laws.specs.Every.{all-ext}
 use Rattle.config.specs.Plan.{bit, column}
+use Rattle.config.specs.Laws.{column-at}
 
 pub column-none : (places : ℕ) (f : ℕ → ℕ) → HalfCol f (λ i. 0) places 0 (replicate places 0)
 column-none places f =
@@ -36,6 +39,6 @@ bit-at mask a q h =
     let m : (a * 16 + q) % 16 ≡ q = omega arith in
     rw (d, m)
 
--- a table of its own entries is the table
-pub same-column : (c l : List ℕ) (n k : ℕ) → HalfCol (col c) (λ i. 0) n k l → n ≤ k → length c ≡ n → l ≡ c
-same-column c l n k h p e = half-end h p ∙ sym (is-tab 0 c n (col c) e (λ i b. refl))
+-- a test of what was read is one of the table
+pub table-test : (t : ℕ → Bool) (places n : ℕ) (f : ℕ → ℕ) → n ≤ places → allBelow (λ i. t (f i)) n ≡ allBelow (λ i. t (col (column places n f) i)) n
+table-test t places n f c = all-ext _ _ n (λ i b. ap t (sym (column-at places n f i b c)))

@@ -2,21 +2,21 @@
 -- Assumes nothing.
 use Prim.Native.Nat.{ℕ, _+_, _*_, _-_, _/_, _%_, _^_, _<_, _≤_}
 use mathlib.Core.Path.{_≡_, refl, ap, _∙_, sym}
-use mathlib.Core.Bool.{Bool, true, false, _||_, _&&_, cond, not, false≢true}
+use mathlib.Core.Bool.{Bool, true, false, _||_, _&&_, cond, not}
 use mathlib.Core.List.{List}
 use native.Mathlib.Omega.{arith}
 use native.Mathlib.Decide.{decLt, ℕ-discrete}
 use lib.Dec.{eqb, leb, ltb}
-use lib.ListN.{getD, replicate, getD-replicate}
+use lib.ListN.{replicate, getD-replicate}
 use lib.Pow.{shr-shr, shr-le}
-use borrow.Author.Tests.{ltb-true, leb-true, eqb-true, le-leb, eq-eqb, lt-ltb, le-ltb}
-use Rattle.laws.specs.Below.{allBelow, all-at, all-of, countBelow}
-use Rattle.laws.specs.Tab.{col, on, getD-tab}
-use Rattle.laws.specs.Every.{and-left, and-right, and-both, count-not}
-use Rattle.gateway.specs.Sound.{pair, countsIn, blankFrom, flagIf, differs, upAt, soundAsps, memberAt, activeAt, soundRow, activeIn, modeAt, waitingAt, overrideAt, soundAs, ascends, allUnder, soundLinks, consistent, zeros}
+use borrow.Author.Tests.{eqb-true, le-leb, lt-ltb, le-ltb}
+use Rattle.laws.specs.Below.{all-at, all-of}
+use Rattle.laws.specs.Tab.{col, getD-tab}
+use Rattle.laws.specs.Every.{count-not}
+use Rattle.gateway.specs.Sound.{pair, countsIn, blankFrom, flagIf, upAt, soundAsps, memberAt, activeAt, soundRow, activeIn, modeAt, waitingAt, overrideAt, soundAs, allUnder, soundLinks, consistent}
 use Rattle.gateway.specs.Laws.{whole}
 use Rattle.gateway.specs.declared.Gateway.{Gateway}
-use Rattle.config.specs.Plan.{offset, count, laidOut, column, bit, bitsFrom, modesOk, masksOk, rowsOk, members, fresh, refused, accepted, built, loadOf, aspIds, masks, spares, modes, linkIds, owners}
+use Rattle.config.specs.Plan.{count, laidOut, bit, bitsFrom, modesOk, masksOk, rowsOk, members, fresh, refused, accepted, built, loadOf, aspIds, masks, spares, modes, linkIds, owners}
 use Rattle.config.specs.Laws.{Layout, layout, Rows, rows, column-blank}
 
 -- a place beyond the count holds zero

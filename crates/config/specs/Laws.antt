@@ -1,19 +1,18 @@
 -- What a file that is laid out well gives, and that a loaded plan gives a consistent state.
 -- Assumes nothing.
-use Prim.Native.Nat.{ℕ, zero, suc, _+_, _*_, _-_, _/_, _%_, _^_, _<_, _≤_}
-use mathlib.Core.Path.{_≡_, refl, ap, _∙_, sym}
-use mathlib.Core.Bool.{Bool, true, false, _||_, _&&_, cond, not}
-use mathlib.Core.List.{List, [], _∷_}
+use Prim.Native.Nat.{ℕ, zero, _+_, _*_, _<_, _≤_}
+use mathlib.Core.Path.{_≡_, refl, _∙_}
+use mathlib.Core.Bool.{Bool, true, false, _||_, _&&_, cond}
+use mathlib.Core.List.{List}
 use native.Mathlib.Omega.{arith}
-use native.Mathlib.Decide.{decLt}
 use lib.Dec.{eqb, leb, ltb}
-use lib.ListN.{length, getD, replicate, getD-replicate}
-use borrow.Author.Tests.{ltb-true, leb-true, eqb-true, le-leb, lt-leb, eq-eqb, ne-eqb, lt-ltb, le-ltb}
+use lib.ListN.{length}
+use borrow.Author.Tests.{ltb-true, leb-true, eqb-true, lt-ltb}
 use Rattle.laws.specs.Below.{allBelow, all-at, all-of}
-use Rattle.laws.specs.Tab.{col, tab, getD-tab}
+use Rattle.laws.specs.Tab.{col, getD-tab}
 use Rattle.laws.specs.Every.{and-left, and-right}
 use Rattle.gateway.specs.Sound.{blankFrom, allUnder, differs, ascends}
-use Rattle.config.specs.Plan.{aspBody, asBody, linkBody, bodies, offset, count, follow, laidOut, column, modesOk, masksOk, sparesOk, rowsOk}
+use Rattle.config.specs.Plan.{offset, count, follow, laidOut, column, modesOk, masksOk, sparesOk, rowsOk}
 
 -- the counts are within their limits, and each body starts where the one before it ends
 pub record Layout (s : List ℕ) : Type 0 where
@@ -85,23 +84,6 @@ column-blank places n f = all-of _ places (λ i b. rw (getD-tab places (λ i. co
     go i true = refl
     go i false = refl
 
--- a table whose rows are bytes, zero beyond them, has bytes only
-pub bytes : (c : List ℕ) (n places : ℕ) → ((i : ℕ) → i < n → col c i < 256) → blankFrom c n places ≡ true → allBelow (λ i. ltb (col c i) 256) places ≡ true
-unfolding blankFrom
-bytes c n places g h = all-of _ places (λ i b. lt-ltb (col c i) 256 (go i (decLt i n) (all-at _ places h i b)))
-  where
-    go : (i : ℕ) → Dec (i < n) → (ltb i n || eqb (col c i) 0) ≡ true → col c i < 256
-    go i (yes z) e = g i z
-    go i (no z) e = let y : eqb (col c i) 0 ≡ true = rw (le-ltb i n (omega arith)) at e in omega (arith, eqb-true (col c i) 0 y)
-
-pub mode-bytes : (mode : List ℕ) (n : ℕ) → modesOk mode n ≡ true → blankFrom mode n 16 ≡ true → allBelow (λ i. ltb (col mode i) 256) 16 ≡ true
-unfolding modesOk
-mode-bytes mode n h = bytes mode n 16 (λ i b. omega (arith, leb-true (col mode i) 3 (and-right (leb 1 (col mode i)) (leb (col mode i) 3) (all-at (λ i. leb 1 (col mode i) && leb (col mode i) 3) n h i b))))
-
-pub owner-bytes : (owner : List ℕ) (ases n : ℕ) → ases ≤ 16 → allUnder owner ases n ≡ true → blankFrom owner n 128 ≡ true → allBelow (λ i. ltb (col owner i) 256) 128 ≡ true
-unfolding allUnder
-owner-bytes owner ases n k h = bytes owner n 128 (λ i b. omega (arith, ltb-true (col owner i) ases (all-at (λ i. ltb (col owner i) ases) n h i b)))
-
 -- the rows, condition by condition
 pub record Rows (asps ases links : ℕ) (aspid mask spare mode iid owner : List ℕ) : Type 0 where
   pub traffic : modesOk mode ases ≡ true
@@ -130,3 +112,19 @@ rows asps ases links aspid mask spare mode iid owner h =
       order = and-left e f r;
       owned = and-right e f r;
     }
+
+-- a row of a table is what was read
+pub column-at : (places n : ℕ) (f : ℕ → ℕ) (i : ℕ) → i < n → n ≤ places → col (column places n f) i ≡ f i
+unfolding column
+column-at places n f i b c = getD-tab places (λ i. cond (ltb i n) (f i) 0) i 0 (omega arith) ∙ rw (lt-ltb i n b)
+
+-- the modes and owners of good rows are bytes
+pub mode-small : (mode : List ℕ) (n : ℕ) → modesOk mode n ≡ true → (i : ℕ) → i < n → col mode i ≤ 3
+unfolding modesOk
+mode-small mode n h i b =
+    leb-true (col mode i) 3
+    (and-right (leb 1 (col mode i)) (leb (col mode i) 3) (all-at (λ i. leb 1 (col mode i) && leb (col mode i) 3) n h i b))
+
+pub owner-small : (owner : List ℕ) (ases n : ℕ) → allUnder owner ases n ≡ true → (i : ℕ) → i < n → col owner i < ases
+unfolding allUnder
+owner-small owner ases n h i b = ltb-true (col owner i) ases (all-at (λ i. ltb (col owner i) ases) n h i b)

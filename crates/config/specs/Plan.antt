@@ -5,7 +5,7 @@ use mathlib.Core.Bool.{Bool, _&&_, cond}
 use mathlib.Core.List.{List, [], _∷_}
 use lib.Dec.{eqb, leb, ltb}
 use lib.ListN.{length, replicate}
-use Rattle.laws.specs.Below.{allBelow, one}
+use Rattle.laws.specs.Below.{allBelow}
 use Rattle.laws.specs.Tab.{col, tab}
 use Rattle.wire.specs.Number.{be}
 use Rattle.gateway.specs.Sound.{zeros, differs, ascends, allUnder}
@@ -58,24 +58,39 @@ laidOut s = leb contents (length s) && follow bodies s 0 contents
 unfoldable pub column : ℕ → ℕ → (ℕ → ℕ) → List ℕ
 column places n f = tab places (λ i. cond (ltb i n) (f i) 0)
 
--- the rows' words: ASP identifiers, masks and spares, modes, link identifiers and owners
+-- the n rows of a body, a field of which stands at a position in the first row: words and halves of ASP rows, words of AS and link rows
+abbrev pub aspWords : List ℕ → ℕ → ℕ → List ℕ
+aspWords s at n = column 16 n (λ p. be 4 s (at + aspBody .row * p))
+
+abbrev pub aspHalves : List ℕ → ℕ → ℕ → List ℕ
+aspHalves s at n = column 16 n (λ p. be 2 s (at + aspBody .row * p))
+
+abbrev pub asWords : List ℕ → ℕ → ℕ → List ℕ
+asWords s at n = column 16 n (λ a. be 4 s (at + asBody .row * a))
+
+abbrev pub linkWords : List ℕ → ℕ → ℕ → List ℕ
+linkWords s at n = column 128 n (λ l. be 4 s (at + linkBody .row * l))
+
+-- "ASP 8 bytes (identifier, 16-bit membership mask with bit a for AS a, two zero bytes)"
 unfoldable pub aspIds : List ℕ → List ℕ
-aspIds s = column 16 (count s 0) (λ p. be 4 s (offset s 0 + aspBody .row * p))
+aspIds s = aspWords s (offset s 0) (count s 0)
 
 unfoldable pub masks : List ℕ → List ℕ
-masks s = column 16 (count s 0) (λ p. be 2 s (offset s 0 + 4 + aspBody .row * p))
+masks s = aspHalves s (offset s 0 + 4) (count s 0)
 
 unfoldable pub spares : List ℕ → List ℕ
-spares s = column 16 (count s 0) (λ p. be 2 s (offset s 0 + 6 + aspBody .row * p))
+spares s = aspHalves s (offset s 0 + 6) (count s 0)
 
+-- "AS 4 bytes (mode)"
 unfoldable pub modes : List ℕ → List ℕ
-modes s = column 16 (count s 1) (λ a. be 4 s (offset s 1 + asBody .row * a))
+modes s = asWords s (offset s 1) (count s 1)
 
+-- "link 8 bytes (identifier, owning AS)"
 unfoldable pub linkIds : List ℕ → List ℕ
-linkIds s = column 128 (count s 2) (λ l. be 4 s (offset s 2 + linkBody .row * l))
+linkIds s = linkWords s (offset s 2) (count s 2)
 
 unfoldable pub owners : List ℕ → List ℕ
-owners s = column 128 (count s 2) (λ l. be 4 s (offset s 2 + 4 + linkBody .row * l))
+owners s = linkWords s (offset s 2 + 4) (count s 2)
 
 -- bit a of a mask, 0 or 1, and the bits from a on as one number
 abbrev pub bit : ℕ → ℕ → ℕ

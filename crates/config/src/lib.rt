@@ -1,14 +1,12 @@
 // The configuration file (document 01's plan file): a fresh state of the gateway, or a refusal.
 ghost use mathlib.Core.Path.{_≡_};
 ghost use mathlib.Core.Bool.{true, _&&_};
-ghost use Prim.Native.Nat.{ℕ, _+_, _*_, _<_, _≤_};
-ghost use lib.Dec.{ltb, leb, eqb};
+ghost use Prim.Native.Nat.{_+_, _*_, _<_, _≤_};
+ghost use lib.Dec.{leb, eqb};
 ghost use lib.ListN.{length};
-ghost use Rattle.laws.specs.Below.{allBelow};
-ghost use Rattle.laws.specs.Tab.{col};
-ghost use Rattle.wire.specs.Number.{be};
-ghost use Rattle.gateway.specs.Sound.{allUnder, blankFrom};
-ghost use Rattle.config.specs.Plan.{offset, count, laidOut, column, modesOk, masksOk, sparesOk, rowsOk, bit, members, fresh, built, loadOf};
+ghost use Rattle.gateway.specs.Sound.{allUnder};
+ghost use Rattle.config.specs.Plan.{offset, count, laidOut, aspWords, aspHalves, asWords, linkWords, modesOk, masksOk, sparesOk, rowsOk, bit, members, fresh, accepted, built, loadOf};
+ghost use Rattle.config.specs.Layout.{Inside, placesOf};
 use gateway::Gateway;
 
 const CONTENTS: usize = 24;
@@ -71,7 +69,7 @@ fn laid_out(s: &[u8]) -> bool
 
 fn asp_words(s: &[u8], at: usize, n: usize) -> [u32; 16]
     requires { ⌜ (n ≤ 16) × (at + 8 * n ≤ length (now s) + 4) ⌝ }
-    ensures { λ r. ⌜ r ≡ column 16 n (λ p. be 4 (now (s .entry)) (at + 8 * p)) ⌝ }
+    ensures { λ r. ⌜ r ≡ aspWords (now (s .entry)) at n ⌝ }
 {
     let mut r = [0u32; 16];
     for p in 0..n {
@@ -82,7 +80,7 @@ fn asp_words(s: &[u8], at: usize, n: usize) -> [u32; 16]
 
 fn asp_halves(s: &[u8], at: usize, n: usize) -> [u16; 16]
     requires { ⌜ (n ≤ 16) × (at + 8 * n ≤ length (now s) + 6) ⌝ }
-    ensures { λ r. ⌜ r ≡ column 16 n (λ p. be 2 (now (s .entry)) (at + 8 * p)) ⌝ }
+    ensures { λ r. ⌜ r ≡ aspHalves (now (s .entry)) at n ⌝ }
 {
     let mut r = [0u16; 16];
     for p in 0..n {
@@ -91,20 +89,9 @@ fn asp_halves(s: &[u8], at: usize, n: usize) -> [u16; 16]
     r
 }
 
-fn as_words(s: &[u8], at: usize, n: usize) -> [u32; 16]
-    requires { ⌜ (n ≤ 16) × (at + 4 * n ≤ length (now s)) ⌝ }
-    ensures { λ r. ⌜ r ≡ column 16 n (λ a. be 4 (now (s .entry)) (at + 4 * a)) ⌝ }
-{
-    let mut r = [0u32; 16];
-    for a in 0..n {
-        r[a] = wire::get32(s, at + AS_ROW * a);
-    }
-    r
-}
-
 fn link_words(s: &[u8], at: usize, n: usize) -> [u32; 128]
     requires { ⌜ (n ≤ 128) × (at + 8 * n ≤ length (now s) + 4) ⌝ }
-    ensures { λ r. ⌜ r ≡ column 128 n (λ l. be 4 (now (s .entry)) (at + 8 * l)) ⌝ }
+    ensures { λ r. ⌜ r ≡ linkWords (now (s .entry)) at n ⌝ }
 {
     let mut r = [0u32; 128];
     for l in 0..n {
@@ -115,13 +102,14 @@ fn link_words(s: &[u8], at: usize, n: usize) -> [u32; 128]
 
 // ---- the conditions on rows
 
-fn modes_ok(mode: &[u32; 16], ases: usize) -> bool
-    requires { ⌜ ases ≤ 16 ⌝ }
-    ensures { λ r. ⌜ r ≡ modesOk (now (mode .entry)) ases ⌝ }
+fn modes_ok(s: &[u8], at: usize, ases: usize) -> bool
+    requires { ⌜ (ases ≤ 16) × (at + 4 * ases ≤ length (now s)) ⌝ }
+    ensures { λ r. ⌜ r ≡ modesOk (asWords (now (s .entry)) at ases) ases ⌝ }
 {
     let mut ok = true;
     for a in 0..ases {
-        ok = ok & ((1 <= mode[a]) & (mode[a] <= 3));
+        let x = wire::get32(s, at + AS_ROW * a);
+        ok = ok & ((1 <= x) & (x <= 3));
     }
     ok
 }
@@ -143,49 +131,55 @@ fn masks_ok(mask: &[u16; 16], asps: usize, ases: u32) -> bool
     ok
 }
 
-fn spares_ok(spare: &[u16; 16], asps: usize) -> bool
-    requires { ⌜ asps ≤ 16 ⌝ }
-    ensures { λ r. ⌜ r ≡ sparesOk (now (spare .entry)) asps ⌝ }
+fn spares_ok(s: &[u8], at: usize, asps: usize) -> bool
+    requires { ⌜ (asps ≤ 16) × (at + 8 * asps ≤ length (now s) + 6) ⌝ }
+    ensures { λ r. ⌜ r ≡ sparesOk (aspHalves (now (s .entry)) at asps) asps ⌝ }
 {
     let mut ok = true;
     for p in 0..asps {
-        ok = ok & (spare[p] == 0);
+        ok = ok & (wire::get16(s, at + ASP_ROW * p) == 0);
     }
     ok
 }
 
-fn owners_ok(owner: &[u32; 128], ases: u32, links: usize) -> bool
-    requires { ⌜ links ≤ 128 ⌝ }
-    ensures { λ r. ⌜ r ≡ allUnder (now (owner .entry)) ases links ⌝ }
+fn owners_ok(s: &[u8], at: usize, ases: u32, links: usize) -> bool
+    requires { ⌜ (links ≤ 128) × (at + 8 * links ≤ length (now s) + 4) ⌝ }
+    ensures { λ r. ⌜ r ≡ allUnder (linkWords (now (s .entry)) at links) ases links ⌝ }
 {
     let mut ok = true;
     for l in 0..links {
-        ok = ok & (owner[l] < ases);
+        ok = ok & (wire::get32(s, at + LINK_ROW * l) < ases);
     }
     ok
 }
 
+// Where the bodies of a file start, and how many rows they have.
+pub struct Places {
+    pub asps: usize,
+    pub ases: usize,
+    pub links: usize,
+    pub x: usize,
+    pub y: usize,
+    pub z: usize,
+}
+
 fn rows_ok<'a>(
-    asps: usize,
-    ases: usize,
-    links: usize,
+    s: &[u8],
+    t: Places,
     aspid: &'a [u32; 16],
     mask: &'a [u16; 16],
-    spare: &'a [u16; 16],
-    mode: &'a [u32; 16],
     iid: &'a [u32; 128],
-    owner: &'a [u32; 128],
 ) -> bool
-    requires { ⌜ (asps ≤ 16) × (ases ≤ 16) × (links ≤ 128) ⌝ }
-    ensures { λ r. ⌜ r ≡ rowsOk asps ases links (now (aspid .entry)) (now (mask .entry)) (now (spare .entry)) (now (mode .entry)) (now (iid .entry)) (now (owner .entry)) ⌝ }
+    requires { ⌜ Inside t (length (now s)) ⌝ }
+    ensures { λ r. ⌜ r ≡ rowsOk (t .asps) (t .ases) (t .links) (now (aspid .entry)) (now (mask .entry)) (aspHalves (now (s .entry)) (t .x + 6) (t .asps)) (asWords (now (s .entry)) (t .y) (t .ases)) (now (iid .entry)) (linkWords (now (s .entry)) (t .z + 4) (t .links)) ⌝ }
 {
-    let m = ases as u32;
-    let traffic = modes_ok(mode, ases);
-    let inside = masks_ok(mask, asps, m);
-    let zero = spares_ok(spare, asps);
-    let differ = gateway::all_new(aspid, asps);
-    let order = gateway::ascending(iid, links);
-    let owned = owners_ok(owner, m, links);
+    let m = t.ases as u32;
+    let traffic = modes_ok(s, t.y, t.ases);
+    let inside = masks_ok(mask, t.asps, m);
+    let zero = spares_ok(s, t.x + 6, t.asps);
+    let differ = gateway::all_new(aspid, t.asps);
+    let order = gateway::ascending(iid, t.links);
+    let owned = owners_ok(s, t.z + 4, m, t.links);
     ((traffic & inside) & (zero & differ)) & (order & owned)
 }
 
@@ -210,102 +204,86 @@ fn members_of(mask: &[u16; 16]) -> [u8; 256]
     r
 }
 
-fn narrow_16(c: &[u32; 16]) -> [u8; 16]
-    requires { ⌜ (allBelow (λ i. ltb (col (now c) i) 256) 16 ≡ true) × (length (now c) ≡ 16) ⌝ }
-    ensures { λ r. ⌜ r ≡ now (c .entry) ⌝ }
+fn as_modes(s: &[u8], at: usize, n: usize) -> [u8; 16]
+    requires { ⌜ (n ≤ 16) × (at + 4 * n ≤ length (now s)) × (modesOk (asWords (now s) at n) n ≡ true) ⌝ }
+    ensures { λ r. ⌜ r ≡ asWords (now (s .entry)) at n ⌝ }
 {
     let mut r = [0u8; 16];
-    for i in 0..16usize {
-        r[i] = c[i] as u8;
+    for a in 0..n {
+        r[a] = wire::get32(s, at + AS_ROW * a) as u8;
     }
     r
 }
 
-fn narrow_128(c: &[u32; 128]) -> [u8; 128]
-    requires { ⌜ (allBelow (λ i. ltb (col (now c) i) 256) 128 ≡ true) × (length (now c) ≡ 128) ⌝ }
-    ensures { λ r. ⌜ r ≡ now (c .entry) ⌝ }
+fn link_owners(s: &[u8], at: usize, ases: usize, n: usize) -> [u8; 128]
+    requires { ⌜ (n ≤ 128) × (at + 8 * n ≤ length (now s) + 4) × (ases ≤ 16) × (allUnder (linkWords (now s) at n) ases n ≡ true) ⌝ }
+    ensures { λ r. ⌜ r ≡ linkWords (now (s .entry)) at n ⌝ }
 {
     let mut r = [0u8; 128];
-    for i in 0..128usize {
-        r[i] = c[i] as u8;
+    for l in 0..n {
+        r[l] = wire::get32(s, at + LINK_ROW * l) as u8;
     }
     r
 }
 
 // "all ASPs down, no pair active, no AS waiting, all links idle, places beyond the counts zero"
-fn build(
-    asps: usize,
-    ases: usize,
-    links: usize,
-    aspid: [u32; 16],
-    mask: [u16; 16],
-    mode: [u32; 16],
-    iid: [u32; 128],
-    owner: [u32; 128],
-) -> Gateway
-    requires { ⌜ (asps ≤ 16) × (ases ≤ 16) × (links ≤ 128) × (allBelow (λ i. ltb (col mode i) 256) 16 ≡ true) × (allBelow (λ i. ltb (col owner i) 256) 128 ≡ true) ⌝ }
-    ensures { λ r. ⌜ r ≡ fresh asps ases links aspid mask mode iid owner ⌝ }
+fn build<'a>(
+    s: &[u8],
+    t: Places,
+    aspid: &'a [u32; 16],
+    mask: &'a [u16; 16],
+    iid: &'a [u32; 128],
+) -> Loaded
+    requires { ⌜ Inside t (length (now s)) × (modesOk (asWords (now s) (t .y) (t .ases)) (t .ases) ≡ true) × (allUnder (linkWords (now s) (t .z + 4) (t .links)) (t .ases) (t .links) ≡ true) ⌝ }
+    ensures { λ r. ⌜ r ≡ accepted (fresh (t .asps) (t .ases) (t .links) (now (aspid .entry)) (now (mask .entry)) (asWords (now (s .entry)) (t .y) (t .ases)) (now (iid .entry)) (linkWords (now (s .entry)) (t .z + 4) (t .links))) ⌝ }
 {
-    let member = members_of(&mask);
-    let traffic = narrow_16(&mode);
-    let owned = narrow_128(&owner);
-    Gateway {
-        asps: asps as u8,
-        ases: ases as u8,
-        links: links as u8,
-        aspid: aspid,
-        up: [0; 16],
-        member: member,
-        active: [0; 256],
-        mode: traffic,
-        waiting: [0; 16],
-        iid: iid,
-        owner: owned,
-        state: [0; 128],
+    let member = members_of(mask);
+    let traffic = as_modes(s, t.y, t.ases);
+    let owned = link_owners(s, t.z + 4, t.ases, t.links);
+    let asp_ids = *aspid;
+    let link_ids = *iid;
+    Loaded {
+        code: 0,
+        gateway: Gateway {
+            asps: t.asps as u8,
+            ases: t.ases as u8,
+            links: t.links as u8,
+            aspid: asp_ids,
+            up: [0; 16],
+            member: member,
+            active: [0; 256],
+            mode: traffic,
+            waiting: [0; 16],
+            iid: link_ids,
+            owner: owned,
+            state: [0; 128],
+        },
     }
 }
 
-// The answer to a file that is laid out well, from its counts and tables.
-fn answer(
-    asps: usize,
-    ases: usize,
-    links: usize,
-    aspid: [u32; 16],
-    mask: [u16; 16],
-    spare: [u16; 16],
-    mode: [u32; 16],
-    iid: [u32; 128],
-    owner: [u32; 128],
+// The answer to a file that is laid out well.
+fn answer<'a>(
+    s: &[u8],
+    t: Places,
+    aspid: &'a [u32; 16],
+    mask: &'a [u16; 16],
+    iid: &'a [u32; 128],
 ) -> Loaded
-    requires { ⌜ (asps ≤ 16) × (ases ≤ 16) × (links ≤ 128) × (blankFrom mode ases 16 ≡ true) × (blankFrom owner links 128 ≡ true) ⌝ }
-    ensures { λ r. ⌜ r ≡ built asps ases links aspid mask spare mode iid owner ⌝ }
+    requires { ⌜ Inside t (length (now s)) ⌝ }
+    ensures { λ r. ⌜ r ≡ built (t .asps) (t .ases) (t .links) (now (aspid .entry)) (now (mask .entry)) (aspHalves (now (s .entry)) (t .x + 6) (t .asps)) (asWords (now (s .entry)) (t .y) (t .ases)) (now (iid .entry)) (linkWords (now (s .entry)) (t .z + 4) (t .links)) ⌝ }
 {
-    if !rows_ok(
-        asps,
-        ases,
-        links,
-        &aspid,
-        &mask,
-        &spare,
-        &mode,
-        &iid,
-        &owner,
-    ) {
+    if !rows_ok(s, t, aspid, mask, iid) {
         return Loaded {
             code: 202,
             gateway: Gateway::zeros(),
         };
     }
-    let g = build(asps, ases, links, aspid, mask, mode, iid, owner);
-    Loaded {
-        code: 0,
-        gateway: g,
-    }
+    build(s, t, aspid, mask, iid)
 }
 
-fn rows(s: &[u8]) -> Loaded
+fn places_of(s: &[u8]) -> Places
     requires { ⌜ laidOut (now s) ≡ true ⌝ }
-    ensures { λ r. ⌜ r ≡ loadOf (now (s .entry)) ⌝ }
+    ensures { λ r. ⌜ r ≡ placesOf (now (s .entry)) ⌝ }
 {
     let n = count_of(s, 0);
     let m = count_of(s, 1);
@@ -313,13 +291,25 @@ fn rows(s: &[u8]) -> Loaded
     let x = offset_of(s, 0);
     let y = offset_of(s, 1);
     let z = offset_of(s, 2);
-    let aspid = asp_words(s, x, n);
-    let mask = asp_halves(s, x + 4, n);
-    let spare = asp_halves(s, x + 6, n);
-    let mode = as_words(s, y, m);
-    let iid = link_words(s, z, k);
-    let owner = link_words(s, z + 4, k);
-    answer(n, m, k, aspid, mask, spare, mode, iid, owner)
+    Places {
+        asps: n,
+        ases: m,
+        links: k,
+        x: x,
+        y: y,
+        z: z,
+    }
+}
+
+fn rows(s: &[u8]) -> Loaded
+    requires { ⌜ laidOut (now s) ≡ true ⌝ }
+    ensures { λ r. ⌜ r ≡ loadOf (now (s .entry)) ⌝ }
+{
+    let t = places_of(s);
+    let aspid = asp_words(s, t.x, t.asps);
+    let mask = asp_halves(s, t.x + 4, t.asps);
+    let iid = link_words(s, t.z, t.links);
+    answer(s, t, &aspid, &mask, &iid)
 }
 
 pub fn load(file: &[u8]) -> Loaded

@@ -1,13 +1,12 @@
 -- What a turn of the loops over places beyond a count adds.
 -- Assumes nothing.
-use Prim.Native.Nat.{ℕ, _+_, _<_, _≤_}
-use mathlib.Core.Path.{_≡_, refl}
-use mathlib.Core.Bool.{true, _&&_, _||_}
+use Prim.Native.Nat.{ℕ, _+_, _≤_}
+use mathlib.Core.Path.{_≡_}
+use mathlib.Core.Bool.{true, _&&_}
 use mathlib.Core.List.{List}
-use native.Mathlib.Omega.{arith}
-use lib.Dec.{ltb, eqb}
+use lib.Dec.{eqb}
 use borrow.Author.Tests.{lt-ltb, le-ltb}
-use Rattle.laws.specs.Below.{allBelow, all-more, all-of}
+use Rattle.laws.specs.Below.{all-more, all-of}
 use Rattle.laws.specs.Tab.{col}
 use Rattle.gateway.specs.Sound.{blankFrom}
 

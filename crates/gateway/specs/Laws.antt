@@ -1,19 +1,17 @@
 -- What a consistent state gives, each fact once.
 -- Assumes nothing.
-use Prim.Native.Nat.{ℕ, zero, suc, _+_, _*_, _-_, _<_, _≤_}
-use mathlib.Core.Path.{_≡_, refl, ap, _∙_, sym}
-use mathlib.Core.Bool.{Bool, true, false, _||_, _&&_, not, false≢true}
+use Prim.Native.Nat.{ℕ, zero, suc, _+_, _-_, _<_, _≤_}
+use mathlib.Core.Path.{_≡_, refl}
+use mathlib.Core.Bool.{Bool, true, false, _&&_}
 use mathlib.Core.List.{List}
-use mathlib.Core.Logic.{_⊎_, inl, inr}
 use native.Mathlib.Omega.{arith}
-use native.Mathlib.Decide.{decLt, ℕ-discrete}
 use lib.Dec.{eqb, leb, ltb}
-use borrow.Author.Tests.{ltb-true, leb-true, eqb-true, le-leb, lt-leb, eq-eqb, ne-eqb, lt-ltb}
-use Rattle.laws.specs.Below.{allBelow, all-at, countBelow}
+use borrow.Author.Tests.{ltb-true, leb-true, eqb-true}
+use Rattle.laws.specs.Below.{allBelow, all-at}
 use Rattle.laws.specs.Tab.{col, on}
 use Rattle.laws.specs.Every.{and-left, and-right}
 use Rattle.gateway.specs.declared.Gateway.{Gateway}
-use Rattle.gateway.specs.Sound.{pair, countsIn, blankFrom, flagIf, differs, upAt, soundAsps, memberAt, activeAt, soundRow, activeIn, modeAt, waitingAt, overrideAt, soundAs, ascends, allUnder, soundLinks, consistentOf, consistent, zeros}
+use Rattle.gateway.specs.Sound.{pair, countsIn, blankFrom, flagIf, soundAsps, memberAt, activeAt, soundRow, activeIn, modeAt, waitingAt, overrideAt, soundAs, ascends, allUnder, soundLinks, consistentOf, consistent, zeros}
 
 -- the counts are within the tables
 pub record Limits (n m k : ℕ) : Type 0 where

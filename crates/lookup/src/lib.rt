@@ -1,7 +1,7 @@
 // What the events ask of the gateway's state.
 ghost use mathlib.Core.Path.{_≡_};
 ghost use mathlib.Core.Bool.{true, _&&_, cond};
-ghost use Prim.Native.Nat.{ℕ, _%_, _<_, _≤_};
+ghost use Prim.Native.Nat.{_%_, _<_, _≤_};
 ghost use Rattle.laws.specs.Below.{anyBelow, one};
 ghost use Rattle.laws.specs.Tab.{on, tab};
 ghost use Rattle.gateway.specs.Sound.{pair, ascends};

@@ -1,7 +1,7 @@
 -- The walk along the links, and what it says of every identifier of a range.
 -- Assumes nothing.
 use Prim.Native.Nat.{ℕ, zero, suc, _+_, _*_, _-_, _/_, _<_, _≤_}
-use mathlib.Core.Path.{_≡_, refl, ap, _∙_, sym}
+use mathlib.Core.Path.{_≡_, refl, _∙_, sym}
 use mathlib.Core.Bool.{Bool, true, false, _||_, _&&_, cond, not, false≢true}
 use mathlib.Core.List.{List}
 use native.Mathlib.Omega.{arith}
@@ -10,11 +10,10 @@ use native.Mathlib.Nat.{add-zero, add-suc}
 use native.Mathlib.Decide.{decLt, ℕ-discrete}
 use lib.Dec.{eqb, leb, ltb}
 use lib.ListN.{length}
-use borrow.Author.Tests.{eq-eqb, ne-eqb, lt-ltb, le-ltb, le-leb, lt-leb, ltb-true, leb-true, eqb-true}
-use Rattle.laws.specs.Below.{allBelow, all-at, all-of, anyBelow, any-at, any-in, firstBelow, first-none, first-more, first-at}
+use borrow.Author.Tests.{eq-eqb, ne-eqb, lt-ltb, le-ltb, le-leb, ltb-true, leb-true}
+use Rattle.laws.specs.Below.{all-at, all-of, anyBelow, any-at, any-in, firstBelow, first-none, first-more, first-at}
 use Rattle.laws.specs.Tab.{col, on}
 use Rattle.laws.specs.Every.{and-left, and-right, and-both, same-truth}
-use Rattle.laws.specs.Rank.{first-hit}
 use Rattle.wire.specs.Number.{be}
 use Rattle.gateway.specs.Sound.{pair, ascends, allUnder, consistent}
 use Rattle.gateway.specs.Laws.{ascends-any, parts, links-parts, counts-within}

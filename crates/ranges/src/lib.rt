@@ -1,7 +1,7 @@
 // The identifiers that a message names, in a number of steps that the links bound and not the ranges.
 ghost use mathlib.Core.Path.{_≡_};
-ghost use mathlib.Core.Bool.{true, _&&_, _||_, cond};
-ghost use Prim.Native.Nat.{ℕ, _<_, _≤_};
+ghost use mathlib.Core.Bool.{true, _||_};
+ghost use Prim.Native.Nat.{_<_};
 ghost use Rattle.laws.specs.Tab.{at, tab};
 ghost use Rattle.lookup.specs.Links.{rank};
 ghost use Rattle.ranges.specs.Named.{isRefused, isOf, firstIn, someIn, startAt, stopAt, entries, refusedIn, someOf};

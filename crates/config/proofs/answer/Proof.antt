@@ -4,7 +4,7 @@ use mathlib.Core.Path.{_≡_, sym, _∙_}
 use mathlib.Core.Bool.{true, false}
 use borrow.Author.Needs.{needs}
 use Rattle.config.specs.Plan.{built, rowsOk}
-use Rattle.config.specs.Laws.{rows, mode-bytes, owner-bytes}
+use Rattle.config.specs.Laws.{rows}
 use Rattle.gateway.specs.Sound.{zeros}
 use Rattle.config.proofs.answer.Statement.{statement}
 use Rattle.config.proofs.answer.Tie as tie
@@ -20,7 +20,7 @@ unfolding built zeros
 returns c = let e : rowsOk _ _ _ _ _ _ _ _ _ ≡ false = sym (c .before .before .rows-ok .ensures) ∙ not-true _ (c .before .if1 .taken) in rw (e, c .zeros .ensures)
 
 build-requires : tie.Need-build-requires
-build-requires c κs = let h = rows _ _ _ _ _ _ _ _ _ (sym (c .before .rows-ok .ensures) ∙ not-false _ (c .if1 .left)) in (search needs, search needs, search needs, mode-bytes _ _ (h .traffic) (c .before .before .before .before .before .before .before .before .pre .3), owner-bytes _ _ _ (search needs) (h .owned) (c .before .before .before .before .before .before .before .before .pre .4))
+build-requires c κs = let h = rows _ _ _ _ _ _ _ _ _ (sym (c .before .rows-ok .ensures) ∙ not-false _ (c .if1 .left)) in (c .before .before .before .pre, h .traffic, h .owned)
 
 returns-2 : tie.Need-returns-2
 unfolding built

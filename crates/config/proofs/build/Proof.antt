@@ -7,33 +7,37 @@ use Rattle.config.proofs.build.Tie as tie
 members-of-requires : tie.Need-members-of-requires
 members-of-requires c κs = search needs
 
-narrow-16-requires : tie.Need-narrow-16-requires
-narrow-16-requires c κs = search needs
+as-modes-requires : tie.Need-as-modes-requires
+as-modes-requires c κs = search needs
 
-narrow-128-requires : tie.Need-narrow-128-requires
-narrow-128-requires c κs = search needs
+add-link-owners : tie.Need-add-link-owners
+add-link-owners c = search needs
 
-cast-t18 : tie.Need-cast-t18
-cast-t18 c = search needs
+link-owners-requires : tie.Need-link-owners-requires
+link-owners-requires c κs = search needs
 
-cast-t19 : tie.Need-cast-t19
-cast-t19 c = search needs
+cast-t12 : tie.Need-cast-t12
+cast-t12 c = search needs
 
-cast-t20 : tie.Need-cast-t20
-cast-t20 c = search needs
+cast-t13 : tie.Need-cast-t13
+cast-t13 c = search needs
+
+cast-t14 : tie.Need-cast-t14
+cast-t14 c = search needs
 
 returns : tie.Need-returns
 unfolding fresh
-returns c = rw (c .narrow-128 .ensures, c .before .before .narrow-16 .ensures, c .before .before .before .before .members-of .ensures)
+returns c = rw (c .before .before .before .before .before .link-owners .ensures, c .before .before .before .before .before .before .before .as-modes .ensures, c .before .before .before .before .before .before .before .before .members-of .ensures)
 
 pub build-spec : {M : Type 1} → statement M
 build-spec =
     tie.close
     (tie.spec
     members-of-requires
-    narrow-16-requires
-    narrow-128-requires
-    cast-t18
-    cast-t19
-    cast-t20
+    as-modes-requires
+    add-link-owners
+    link-owners-requires
+    cast-t12
+    cast-t13
+    cast-t14
     returns)

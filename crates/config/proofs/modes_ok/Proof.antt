@@ -1,33 +1,35 @@
 -- `config::modes_ok`: the modes passed are in order. Assumes nothing.
-use Prim.Native.Nat.{_≤_, _-_}
-use mathlib.Core.Path.{_≡_, sym}
+use Prim.Native.Nat.{_≤_, _-_, _+_, _*_}
+use mathlib.Core.Path.{_≡_, sym, _∙_}
+use mathlib.Core.Bool.{_&&_}
 use borrow.Author.Needs.{needs}
+use lib.ListN.{length}
+use lib.Dec.{leb}
 use Rattle.config.specs.Plan.{modesOk}
-use Rattle.laws.specs.Below.{all-none, all-more, at-end}
+use Rattle.wire.specs.Number.{be}
+use Rattle.laws.specs.Below.{allBelow, all-none, all-more, at-end}
+use Rattle.laws.specs.Tab.{at}
+use Rattle.config.proofs.Tables.{table-test}
 use Rattle.config.proofs.modes_ok.Statement.{statement}
 use Rattle.config.proofs.modes_ok.Tie as tie
 
 abbrev Inv-loop : tie.InvT-loop
-Inv-loop mode ases ok₀ a₀ ok a = (ok ≡ modesOk mode a) × (a ≤ ases) × (ases ≤ 16)
+Inv-loop s at ases ok₀ a₀ ok a = (ok ≡ allBelow (λ i. leb 1 (be 4 s (at + 4 * i)) && leb (be 4 s (at + 4 * i)) 3) a) × (a ≤ ases) × (ases ≤ 16) × (at + 4 * ases ≤ length s)
 
 abbrev μ-loop : tie.MeasureT-loop
-μ-loop mode ases ok₀ a₀ ok a = ases - a
+μ-loop s at ases ok₀ a₀ ok a = ases - a
 
 loop-holds : tie.Need-loop-holds Inv-loop μ-loop
-unfolding modesOk
-loop-holds c = (sym (all-none _), search needs, search needs)
+loop-holds c = (sym (all-none _), search needs, search needs, search needs)
 
-mul-ok : tie.Need-mul-ok Inv-loop μ-loop
-mul-ok c = search needs
+mul-get32 : tie.Need-mul-get32 Inv-loop μ-loop
+mul-get32 c = search needs
 
-element-copy-out-ok : tie.Need-element-copy-out-ok Inv-loop μ-loop
-element-copy-out-ok c = search needs
+add-get32 : tie.Need-add-get32 Inv-loop μ-loop
+add-get32 c = search needs
 
-mul-ok-2 : tie.Need-mul-ok-2 Inv-loop μ-loop
-mul-ok-2 c = search needs
-
-element-copy-out-ok-2 : tie.Need-element-copy-out-ok-2 Inv-loop μ-loop
-element-copy-out-ok-2 c = search needs
+get32-requires : tie.Need-get32-requires Inv-loop μ-loop
+get32-requires c κs = search needs
 
 add-a : tie.Need-add-a Inv-loop μ-loop
 add-a c = search needs
@@ -36,11 +38,11 @@ loop-less : tie.Need-loop-less Inv-loop μ-loop
 loop-less c = search needs
 
 loop-again : tie.Need-loop-again Inv-loop μ-loop
-unfolding modesOk
-loop-again c = (rw all-more (rw (c .before .before .before .loop .inv .0)), search needs, search needs)
+loop-again c = (rw all-more (rw (c .before .before .loop .inv .0, c .get32 .ensures)), search needs, search needs, search needs)
 
 returns : tie.Need-returns Inv-loop μ-loop
-returns c = at-end (modesOk _) (c .before .loop .inv .0) (c .loop-test .left) (c .before .loop .inv .1)
+unfolding modesOk
+returns c = let i = c .before .loop .inv in at-end (allBelow _) (i .0) (c .loop-test .left) (i .1) ∙ table-test (λ x. leb 1 x && leb x 3) 16 _ _ (i .2)
 
 pub modes-ok-spec : {M : Type 1} → statement M
 modes-ok-spec =
@@ -49,10 +51,9 @@ modes-ok-spec =
     Inv-loop
     μ-loop
     loop-holds
-    mul-ok
-    element-copy-out-ok
-    mul-ok-2
-    element-copy-out-ok-2
+    mul-get32
+    add-get32
+    get32-requires
     add-a
     loop-less
     loop-again

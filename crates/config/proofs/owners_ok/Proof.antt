@@ -1,27 +1,34 @@
 -- `config::owners_ok`: the owners passed are the plan's. Assumes nothing.
-use Prim.Native.Nat.{_≤_, _-_}
-use mathlib.Core.Path.{_≡_, sym}
+use Prim.Native.Nat.{_≤_, _-_, _+_, _*_}
+use mathlib.Core.Path.{_≡_, sym, _∙_}
 use borrow.Author.Needs.{needs}
+use lib.ListN.{length}
+use lib.Dec.{ltb}
 use Rattle.gateway.specs.Sound.{allUnder}
-use Rattle.laws.specs.Below.{all-none, all-more, at-end}
+use Rattle.wire.specs.Number.{be}
+use Rattle.laws.specs.Below.{allBelow, all-none, all-more, at-end}
+use Rattle.laws.specs.Tab.{at}
+use Rattle.config.proofs.Tables.{table-test}
 use Rattle.config.proofs.owners_ok.Statement.{statement}
 use Rattle.config.proofs.owners_ok.Tie as tie
 
 abbrev Inv-loop : tie.InvT-loop
-Inv-loop owner ases links ok₀ l₀ ok l = (ok ≡ allUnder owner ases l) × (l ≤ links) × (links ≤ 128)
+Inv-loop s at ases links ok₀ l₀ ok l = (ok ≡ allBelow (λ i. ltb (be 4 s (at + 8 * i)) ases) l) × (l ≤ links) × (links ≤ 128) × (at + 8 * links ≤ length s + 4)
 
 abbrev μ-loop : tie.MeasureT-loop
-μ-loop owner ases links ok₀ l₀ ok l = links - l
+μ-loop s at ases links ok₀ l₀ ok l = links - l
 
 loop-holds : tie.Need-loop-holds Inv-loop μ-loop
-unfolding allUnder
-loop-holds c = (sym (all-none _), search needs, search needs)
+loop-holds c = (sym (all-none _), search needs, search needs, search needs)
 
-mul-ok : tie.Need-mul-ok Inv-loop μ-loop
-mul-ok c = search needs
+mul-get32 : tie.Need-mul-get32 Inv-loop μ-loop
+mul-get32 c = search needs
 
-element-copy-out-ok : tie.Need-element-copy-out-ok Inv-loop μ-loop
-element-copy-out-ok c = search needs
+add-get32 : tie.Need-add-get32 Inv-loop μ-loop
+add-get32 c = search needs
+
+get32-requires : tie.Need-get32-requires Inv-loop μ-loop
+get32-requires c κs = search needs
 
 add-l : tie.Need-add-l Inv-loop μ-loop
 add-l c = search needs
@@ -30,11 +37,11 @@ loop-less : tie.Need-loop-less Inv-loop μ-loop
 loop-less c = search needs
 
 loop-again : tie.Need-loop-again Inv-loop μ-loop
-unfolding allUnder
-loop-again c = (rw all-more (rw (c .before .before .loop .inv .0)), search needs, search needs)
+loop-again c = (rw all-more (rw (c .before .before .loop .inv .0, c .get32 .ensures)), search needs, search needs, search needs)
 
 returns : tie.Need-returns Inv-loop μ-loop
-returns c = at-end (allUnder _ _) (c .before .loop .inv .0) (c .loop-test .left) (c .before .loop .inv .1)
+unfolding allUnder
+returns c = let i = c .before .loop .inv in at-end (allBelow _) (i .0) (c .loop-test .left) (i .1) ∙ table-test (λ x. ltb x (c .before .before .before .args .ases)) 128 _ _ (i .2)
 
 pub owners-ok-spec : {M : Type 1} → statement M
 owners-ok-spec =
@@ -43,8 +50,9 @@ owners-ok-spec =
     Inv-loop
     μ-loop
     loop-holds
-    mul-ok
-    element-copy-out-ok
+    mul-get32
+    add-get32
+    get32-requires
     add-l
     loop-less
     loop-again

@@ -1,81 +1,42 @@
 -- `config::rows`: the tables of a file that is laid out well. Assumes nothing.
 use mathlib.Core.Path.{_∙_}
+use native.Mathlib.Omega.{arith}
 use borrow.Author.Needs.{needs}
 use Rattle.config.specs.Plan.{loadOf, aspIds, masks, spares, modes, linkIds, owners}
-use Rattle.config.specs.Laws.{layout, column-blank}
+use Rattle.config.specs.Layout.{inside-of, placesOf}
 use Rattle.config.proofs.rows.Statement.{statement}
 use Rattle.config.proofs.rows.Tie as tie
 
-count-of-requires : tie.Need-count-of-requires
-count-of-requires c κs = let l = layout _ (c .before .pre) in search needs
-
-count-of-requires-2 : tie.Need-count-of-requires-2
-count-of-requires-2 c κs = let l = layout _ (c .before .before .pre) in search needs
-
-count-of-requires-3 : tie.Need-count-of-requires-3
-count-of-requires-3 c κs = let l = layout _ (c .before .before .before .pre) in search needs
-
-offset-of-requires : tie.Need-offset-of-requires
-offset-of-requires c κs = let l = layout _ (c .before .before .before .before .pre) in search needs
-
-offset-of-requires-2 : tie.Need-offset-of-requires-2
-offset-of-requires-2 c κs = let l = layout _ (c .before .before .before .before .before .pre) in search needs
-
-offset-of-requires-3 : tie.Need-offset-of-requires-3
-offset-of-requires-3 c κs = let l = layout _ (c .before .before .before .before .before .before .pre) in search needs
+places-of-requires : tie.Need-places-of-requires
+places-of-requires c κs = search needs
 
 asp-words-requires : tie.Need-asp-words-requires
-asp-words-requires c κs = let l = layout _ (c .before .before .before .before .before .before .before .pre) in search needs
+asp-words-requires c κs = let i = inside-of _ _ (c .before .before .pre) (c .places-of .ensures) in (i .asps, omega (arith, i .inAsps))
 
 add-asp-halves : tie.Need-add-asp-halves
-add-asp-halves c = search needs
+add-asp-halves c = let i = inside-of _ _ (c .before .before .before .before .pre) (c .before .before .places-of .ensures) in omega (arith, i .inAsps, i .fits)
 
 asp-halves-requires : tie.Need-asp-halves-requires
-asp-halves-requires c κs = let l = layout _ (c .before .before .before .before .before .before .before .before .pre) in search needs
-
-add-asp-halves-2 : tie.Need-add-asp-halves-2
-add-asp-halves-2 c = search needs
-
-asp-halves-requires-2 : tie.Need-asp-halves-requires-2
-asp-halves-requires-2 c κs = let l = layout _ (c .before .before .before .before .before .before .before .before .before .pre) in search needs
-
-as-words-requires : tie.Need-as-words-requires
-as-words-requires c κs = let l = layout _ (c .before .before .before .before .before .before .before .before .before .before .pre) in search needs
+asp-halves-requires c κs = let i = inside-of _ _ (c .before .before .before .before .pre) (c .before .before .places-of .ensures) in (i .asps, omega (arith, i .inAsps))
 
 link-words-requires : tie.Need-link-words-requires
-link-words-requires c κs = let l = layout _ (c .before .before .before .before .before .before .before .before .before .before .before .pre) in search needs
-
-add-link-words : tie.Need-add-link-words
-add-link-words c = search needs
-
-link-words-requires-2 : tie.Need-link-words-requires-2
-link-words-requires-2 c κs = let l = layout _ (c .before .before .before .before .before .before .before .before .before .before .before .before .pre) in search needs
+link-words-requires c κs = let i = inside-of _ _ (c .before .before .before .before .before .pre) (c .before .before .before .places-of .ensures) in (i .links, omega (arith, i .inLinks))
 
 answer-requires : tie.Need-answer-requires
-answer-requires c κs = let l = layout _ (c .before .before .before .before .before .before .before .before .before .before .before .before .before .pre) in (search needs, search needs, search needs, rw (c .before .before .as-words .ensures) (column-blank 16 _ _), rw (c .link-words2 .ensures) (column-blank 128 _ _))
+answer-requires c κs = inside-of _ _ (c .before .before .before .before .before .before .before .before .before .pre) (c .before .before .before .before .before .before .before .places-of .ensures)
 
 returns : tie.Need-returns
-unfolding loadOf aspIds masks spares modes linkIds owners
-returns c = c .answer .ensures ∙ rw (c .before .before .before .before .before .before .before .before .before .before .before .before .before .before .pre, c .before .link-words2 .ensures, c .before .before .link-words .ensures, c .before .before .before .as-words .ensures, c .before .before .before .before .asp-halves2 .ensures, c .before .before .before .before .before .asp-halves .ensures, c .before .before .before .before .before .before .asp-words .ensures, c .before .before .before .before .before .before .before .offset-of3 .ensures .0, c .before .before .before .before .before .before .before .before .offset-of2 .ensures .0, c .before .before .before .before .before .before .before .before .before .offset-of .ensures .0, c .before .before .before .before .before .before .before .before .before .before .count-of3 .ensures .0, c .before .before .before .before .before .before .before .before .before .before .before .count-of2 .ensures .0, c .before .before .before .before .before .before .before .before .before .before .before .before .count-of .ensures .0)
+unfolding loadOf aspIds masks spares modes linkIds owners placesOf
+returns c = c .answer .ensures ∙ rw (c .before .before .before .before .before .before .before .before .before .before .pre, c .before .before .before .before .link-words .ensures, c .before .before .before .before .before .asp-halves .ensures, c .before .before .before .before .before .before .before .asp-words .ensures, c .before .before .before .before .before .before .before .before .places-of .ensures)
 
 pub rows-spec : {M : Type 1} → statement M
 rows-spec =
     tie.close
     (tie.spec
-    count-of-requires
-    count-of-requires-2
-    count-of-requires-3
-    offset-of-requires
-    offset-of-requires-2
-    offset-of-requires-3
+    places-of-requires
     asp-words-requires
     add-asp-halves
     asp-halves-requires
-    add-asp-halves-2
-    asp-halves-requires-2
-    as-words-requires
     link-words-requires
-    add-link-words
-    link-words-requires-2
     answer-requires
     returns)

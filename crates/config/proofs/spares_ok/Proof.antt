@@ -1,27 +1,34 @@
 -- `config::spares_ok`: the spares passed are zero. Assumes nothing.
-use Prim.Native.Nat.{_≤_, _-_}
-use mathlib.Core.Path.{_≡_, sym}
+use Prim.Native.Nat.{_≤_, _-_, _+_, _*_}
+use mathlib.Core.Path.{_≡_, sym, _∙_}
 use borrow.Author.Needs.{needs}
+use lib.ListN.{length}
+use lib.Dec.{eqb}
 use Rattle.config.specs.Plan.{sparesOk}
-use Rattle.laws.specs.Below.{all-none, all-more, at-end}
+use Rattle.wire.specs.Number.{be}
+use Rattle.laws.specs.Below.{allBelow, all-none, all-more, at-end}
+use Rattle.laws.specs.Tab.{at}
+use Rattle.config.proofs.Tables.{table-test}
 use Rattle.config.proofs.spares_ok.Statement.{statement}
 use Rattle.config.proofs.spares_ok.Tie as tie
 
 abbrev Inv-loop : tie.InvT-loop
-Inv-loop spare asps ok₀ p₀ ok p = (ok ≡ sparesOk spare p) × (p ≤ asps) × (asps ≤ 16)
+Inv-loop s at asps ok₀ p₀ ok p = (ok ≡ allBelow (λ i. eqb (be 2 s (at + 8 * i)) 0) p) × (p ≤ asps) × (asps ≤ 16) × (at + 8 * asps ≤ length s + 6)
 
 abbrev μ-loop : tie.MeasureT-loop
-μ-loop spare asps ok₀ p₀ ok p = asps - p
+μ-loop s at asps ok₀ p₀ ok p = asps - p
 
 loop-holds : tie.Need-loop-holds Inv-loop μ-loop
-unfolding sparesOk
-loop-holds c = (sym (all-none _), search needs, search needs)
+loop-holds c = (sym (all-none _), search needs, search needs, search needs)
 
-mul-ok : tie.Need-mul-ok Inv-loop μ-loop
-mul-ok c = search needs
+mul-get16 : tie.Need-mul-get16 Inv-loop μ-loop
+mul-get16 c = search needs
 
-element-copy-out-ok : tie.Need-element-copy-out-ok Inv-loop μ-loop
-element-copy-out-ok c = search needs
+add-get16 : tie.Need-add-get16 Inv-loop μ-loop
+add-get16 c = search needs
+
+get16-requires : tie.Need-get16-requires Inv-loop μ-loop
+get16-requires c κs = search needs
 
 add-p : tie.Need-add-p Inv-loop μ-loop
 add-p c = search needs
@@ -30,11 +37,11 @@ loop-less : tie.Need-loop-less Inv-loop μ-loop
 loop-less c = search needs
 
 loop-again : tie.Need-loop-again Inv-loop μ-loop
-unfolding sparesOk
-loop-again c = (rw all-more (rw (c .before .before .loop .inv .0)), search needs, search needs)
+loop-again c = (rw all-more (rw (c .before .before .loop .inv .0, c .get16 .ensures)), search needs, search needs, search needs)
 
 returns : tie.Need-returns Inv-loop μ-loop
-returns c = at-end (sparesOk _) (c .before .loop .inv .0) (c .loop-test .left) (c .before .loop .inv .1)
+unfolding sparesOk
+returns c = let i = c .before .loop .inv in at-end (allBelow _) (i .0) (c .loop-test .left) (i .1) ∙ table-test (λ x. eqb x 0) 16 _ _ (i .2)
 
 pub spares-ok-spec : {M : Type 1} → statement M
 spares-ok-spec =
@@ -43,8 +50,9 @@ spares-ok-spec =
     Inv-loop
     μ-loop
     loop-holds
-    mul-ok
-    element-copy-out-ok
+    mul-get16
+    add-get16
+    get16-requires
     add-p
     loop-less
     loop-again

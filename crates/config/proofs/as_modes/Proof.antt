@@ -1,13 +1,15 @@
--- `config::as_words`: the rows passed stand in the table. Assumes nothing.
+-- `config::as_modes`: the rows passed stand in the table. Assumes nothing.
 use Prim.Native.Nat.{_≤_, _-_, _+_, _*_}
 use native.Mathlib.Omega.{arith}
 use borrow.Author.Needs.{needs}
 use lib.ListN.{length}
+use denote.Ref.{now}
+use Rattle.config.specs.Laws.{column-at, mode-small}
 use Rattle.wire.specs.Number.{be}
 use Rattle.laws.specs.Tab.{at, HalfCol, half-more}
 use Rattle.config.proofs.Tables.{column-none, column-end}
-use Rattle.config.proofs.as_words.Statement.{statement}
-use Rattle.config.proofs.as_words.Tie as tie
+use Rattle.config.proofs.as_modes.Statement.{statement}
+use Rattle.config.proofs.as_modes.Tie as tie
 
 abbrev Inv-loop : tie.InvT-loop
 Inv-loop s at n r₀ a₀ r a = HalfCol (λ i. be 4 s (at + 4 * i)) (λ i. 0) 16 a r × (a ≤ n) × (n ≤ 16) × (at + 4 * n ≤ length s)
@@ -27,8 +29,8 @@ add-get32 c = search needs
 get32-requires : tie.Need-get32-requires Inv-loop μ-loop
 get32-requires c κs = search needs
 
-mul-r : tie.Need-mul-r Inv-loop μ-loop
-mul-r c = search needs
+cast-r : tie.Need-cast-r Inv-loop μ-loop
+cast-r c = let i = c .before .before .loop .inv in omega (arith, c .get32 .ensures, column-at 16 _ (λ k. be 4 (now (c .before .before .before .before .args .s)) (c .before .before .before .before .args .at + 4 * k)) (c .before .before .loop .a) (c .before .loop-test .taken) (i .2), mode-small _ _ (c .before .before .before .before .pre .2) (c .before .before .loop .a) (c .before .loop-test .taken))
 
 array-write-r : tie.Need-array-write-r Inv-loop μ-loop
 array-write-r c = search needs
@@ -45,8 +47,8 @@ loop-again c = (half-more _ (c .before .before .loop .inv .0) (omega arith) (c .
 returns : tie.Need-returns Inv-loop μ-loop
 returns c = column-end 16 _ _ _ _ (c .before .loop .inv .0) (c .loop-test .left) (c .before .loop .inv .1)
 
-pub as-words-spec : {M : Type 1} → statement M
-as-words-spec =
+pub as-modes-spec : {M : Type 1} → statement M
+as-modes-spec =
     tie.close
     (tie.spec
     Inv-loop
@@ -55,7 +57,7 @@ as-words-spec =
     mul-get32
     add-get32
     get32-requires
-    mul-r
+    cast-r
     array-write-r
     add-a
     loop-less
