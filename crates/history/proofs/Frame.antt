@@ -2,31 +2,27 @@
 -- those. So two events that are free to trade places commute.
 -- Assumes nothing.
 use mathlib.Core.Path.{_≡_, refl, sym, ap, _∙_, subst}
-use mathlib.Core.Bool.{Bool, true, false, _&&_, _||_, not, cond}
-use mathlib.Core.List.{List, [], _∷_, _++_}
-use mathlib.Core.Logic.{_≢_}
-use Prim.Native.Nat.{ℕ, zero, suc, _+_, _*_, _/_, _%_, _<_, _≤_}
+use mathlib.Core.Bool.{Bool, true, false, _&&_, _||_, cond}
+use mathlib.Core.List.{List, [], _++_}
+use Prim.Native.Nat.{ℕ, _+_, _*_, _/_, _%_, _<_}
 use native.Mathlib.Omega.{arith}
-use lib.Dec.{eqb, ltb, leb}
-use lib.ListN.{length, getD, set, drop, length-set, drop-of-length-le}
+use lib.Dec.{eqb, ltb}
+use lib.ListN.{length, drop, length-set}
 use lib.Seq.{ext-getD, getD-set-other}
-use borrow.Author.Tests.{lt-ltb, ltb-true, eqb-true, eq-eqb, ne-eqb, eqb-false}
+use borrow.Author.Tests.{ltb-true}
 use Rattle.laws.specs.Below.{anyBelow, any-at, any-in, one}
 use Rattle.laws.specs.Every.{and-left, and-right, and-both}
-use Rattle.laws.specs.Choice.{_orElse_, _if_}
-use Rattle.laws.specs.Tab.{at, on, col}
+use Rattle.laws.specs.Tab.{at, col}
 use Rattle.gateway.specs.Sound.{pair, consistent}
 use Rattle.gateway.specs.Laws.{counts-within}
 use Rattle.gateway.specs.declared.Gateway.{Gateway}
 use Rattle.action.specs.declared.Action.{Action}
 use Rattle.action.specs.Words.{wordsOf}
 use Rattle.server.specs.declared.Change.{Change}
-use Rattle.server.specs.declared.Change.the-variants.{Rise, Fall, Off, On, Recover}
-use Rattle.server.specs.Record.{recordOf}
 use Rattle.server.specs.Change.{after}
-use Rattle.servers.specs.Moved.{upAfter, moved}
+use Rattle.servers.specs.Moved.{moved}
 use Rattle.servers.specs.Records.{moves, active-new, active-kept, waiting-new, waiting-kept, up-kept}
-use Rattle.rules.specs.Event.{Kind, Event}
+use Rattle.rules.specs.Event.{Event}
 use Rattle.rules.specs.Identifiers.{ownerAt, isMember}
 use Rattle.rules.specs.Deed.{Deed, say, turn, change, actionsOf, stateAfter}
 use Rattle.rules.specs.Rules.{deedOf, inPlan, refusalOf, refusal}
@@ -34,7 +30,7 @@ use Rattle.rules.specs.Reach.{kindReach, reach, fromController}
 use Rattle.rules.specs.Entry.{actions, next}
 use Rattle.history.specs.Trade.{Commute}
 use Rattle.history.specs.Local.{false-of, Local, Agree, Apart, commutes}
-use Rattle.history.specs.History.{Given, ruled, Free}
+use Rattle.history.specs.History.{ruled, Free}
 use Rattle.history.proofs.Bits.{clash, or-left, or-right, or-case, set-same, ext-front, cond-yes, cond-no}
 use Rattle.history.proofs.Servers.{dyn, same-actions, same-up, remakesUp, up-length, up-drop, moved-up, moved-state, active-length, active-drop, waiting-length, waiting-drop}
 use Rattle.history.proofs.Within.{In, Within, Reaches, within}

@@ -1,9 +1,9 @@
 -- Demand 3, proved.
 -- Assumes nothing.
 use mathlib.Core.Path.{_≡_, refl, sym, ap, _∙_, subst}
-use mathlib.Core.Bool.{Bool, true, false, _&&_, _||_, not, cond}
+use mathlib.Core.Bool.{_&&_, not}
 use mathlib.Core.List.{List, [], _∷_, _++_, map}
-use Prim.Native.Nat.{ℕ, _*_, _<_}
+use Prim.Native.Nat.{ℕ, _*_}
 use native.Mathlib.Omega.{arith}
 use lib.Dec.{eqb, ltb}
 use lib.ListN.{length, take, drop, replicate, length-replicate}
@@ -21,7 +21,7 @@ use Rattle.rules.specs.Rules.{isError, typeOf, refusal}
 use Rattle.rules.specs.Reach.{reach, messageReach, readReach}
 use Rattle.rules.specs.Entry.{actions, next, Handed}
 use Rattle.history.specs.Trade.{swaps, outs, last, Commute, traded-outs, traded-last}
-use Rattle.history.specs.History.{Call, events, Calls, none, call, Given, given, ruled, reaches, Free, Untouched, Outside, Demand3, Statement, isUp, ReachOfUp, Rooms, Made}
+use Rattle.history.specs.History.{Call, events, Calls, none, call, given, ruled, Free, Untouched, Outside, Statement, isUp, ReachOfUp, Rooms, Made}
 use Rattle.history.proofs.Frame.{Plan, planOf, plan, wait, act, line, up, untouched, not-mine, free-commute}
 use Rattle.history.proofs.Keeps.{keeps}
 
