@@ -100,10 +100,6 @@ up-drop (On p) u = refl
 up-drop Recover u = refl
 
 module _ (g : Gateway) (k : Change) (named : List Bool) where
-  pub moved-is : moved g k named ≡ dyn g (upAfter k (g .up)) (moved g k named .active) (moved g k named .waiting) (g .state)
-  unfolding moved
-  moved-is = refl
-
   pub moved-up : moved g k named .up ≡ upAfter k (g .up)
   unfolding moved
   moved-up = refl
