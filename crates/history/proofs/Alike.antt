@@ -4,14 +4,14 @@
 use mathlib.Core.Path.{_≡_, refl, sym, ap, _∙_}
 use mathlib.Core.Bool.{Bool, true, false, _&&_, _||_, not, cond}
 use mathlib.Core.List.{List, [], _∷_, _++_}
-use Prim.Native.Nat.{ℕ, zero, suc, _+_, _*_, _%_, _<_, _≤_}
+use Prim.Native.Nat.{ℕ, _+_, _*_, _%_, _<_}
 use native.Mathlib.Omega.{arith}
-use lib.Dec.{eqb, ltb, leb}
-use borrow.Author.Tests.{lt-ltb, ltb-true, eqb-true, eq-eqb, not-false}
-use Rattle.laws.specs.Below.{anyBelow, any-ext, countBelow}
+use lib.Dec.{eqb, ltb}
+use borrow.Author.Tests.{ltb-true, eq-eqb, not-false}
+use Rattle.laws.specs.Below.{any-ext, countBelow}
 use Rattle.laws.specs.Count.{count-ext}
 use Rattle.laws.specs.Every.{and-left, and-right, and-both}
-use Rattle.laws.specs.Tab.{at, on, col, tab, tab-ext}
+use Rattle.laws.specs.Tab.{on, col, tab-ext}
 use Rattle.wire.specs.Walk.{Par, walk}
 use Rattle.message.specs.Verdict.{verdict}
 use Rattle.message.specs.Meaning.{readingOf}
@@ -22,18 +22,18 @@ use Rattle.gateway.specs.Laws.{active-is-member, counts-within}
 use Rattle.gateway.specs.declared.Gateway.{Gateway}
 use Rattle.lookup.specs.Servers.{receives, before}
 use Rattle.ranges.specs.declared.Refused.{Refused}
-use Rattle.server.specs.declared.Change.the-variants.{Rise, Fall, Off, On, Recover}
+use Rattle.server.specs.declared.Change.the-variants.{Rise, On}
 use Rattle.action.specs.Words.{toAll}
 use Rattle.server.specs.Record.{some, recordOf}
-use Rattle.rules.specs.Event.{Kind, message, lost, recovery, linkUp, linkDown, linkMessage, Event}
-use Rattle.rules.specs.Identifiers.{isIds, firstRefused, ownsNamed, ownersNamed, isKnown, linkOf, ownerAt, isMember, isActive}
+use Rattle.rules.specs.Event.{Kind, message, lost, recovery, linkUp, linkDown, linkMessage}
+use Rattle.rules.specs.Identifiers.{firstRefused, ownsNamed, ownersNamed, isKnown, linkOf, ownerAt, isMember, isActive}
 use Rattle.rules.specs.Deed.{Deed, say, turn, change, sent, error, error2}
-use Rattle.rules.specs.Asp.{asesOf, activeIn, upDeed, downDeed, lostDeed, otherMode, activeDeed, inactiveDeed, trafficDeed}
+use Rattle.rules.specs.Asp.{asesOf, activeIn, upDeed, downDeed, lostDeed, otherMode, activeDeed, trafficDeed}
 use Rattle.rules.specs.Link.{linkWork, classSixDeed, recipientsOf, toRecipients, linkUpDeed, linkDownDeed, linkMessageDeed, starting, idle, inService, stopping}
 use Rattle.rules.specs.Rules.{isError, typeOf, fromAsp, fromLink, readDeed, messageDeed, deedOf, inPlan}
 use Rattle.rules.specs.Reach.{ownsId, readReach, messageReach, kindReach, fromController}
 use Rattle.history.specs.Local.{false-of}
-use Rattle.history.proofs.Bits.{clash, or-left, or-right, cond-same, cond-both}
+use Rattle.history.proofs.Bits.{clash, cond-same, cond-both}
 use Rattle.servers.specs.Records.{column-at}
 use Rattle.history.proofs.Servers.{dyn, same-record}
 use Rattle.history.proofs.Within.{Reaches, known-below, owner-in, member-in, asps-16, reach-up, reach-six, neither}

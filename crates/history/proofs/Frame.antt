@@ -2,31 +2,27 @@
 -- those. So two events that are free to trade places commute.
 -- Assumes nothing.
 use mathlib.Core.Path.{_≡_, refl, sym, ap, _∙_, subst}
-use mathlib.Core.Bool.{Bool, true, false, _&&_, _||_, not, cond}
-use mathlib.Core.List.{List, [], _∷_, _++_}
-use mathlib.Core.Logic.{_≢_}
-use Prim.Native.Nat.{ℕ, zero, suc, _+_, _*_, _/_, _%_, _<_, _≤_}
+use mathlib.Core.Bool.{Bool, true, false, _&&_, _||_, cond}
+use mathlib.Core.List.{List, [], _++_}
+use Prim.Native.Nat.{ℕ, _+_, _*_, _/_, _%_, _<_}
 use native.Mathlib.Omega.{arith}
-use lib.Dec.{eqb, ltb, leb}
-use lib.ListN.{length, getD, set, drop, length-set, drop-of-length-le}
+use lib.Dec.{eqb, ltb}
+use lib.ListN.{length, drop, length-set}
 use lib.Seq.{ext-getD, getD-set-other}
-use borrow.Author.Tests.{lt-ltb, ltb-true, eqb-true, eq-eqb, ne-eqb, eqb-false}
+use borrow.Author.Tests.{ltb-true}
 use Rattle.laws.specs.Below.{anyBelow, any-at, any-in, one}
 use Rattle.laws.specs.Every.{and-left, and-right, and-both}
-use Rattle.laws.specs.Choice.{_orElse_, _if_}
-use Rattle.laws.specs.Tab.{at, on, col}
+use Rattle.laws.specs.Tab.{at, col}
 use Rattle.gateway.specs.Sound.{pair, consistent}
 use Rattle.gateway.specs.Laws.{counts-within}
 use Rattle.gateway.specs.declared.Gateway.{Gateway}
 use Rattle.action.specs.declared.Action.{Action}
 use Rattle.action.specs.Words.{wordsOf}
 use Rattle.server.specs.declared.Change.{Change}
-use Rattle.server.specs.declared.Change.the-variants.{Rise, Fall, Off, On, Recover}
-use Rattle.server.specs.Record.{recordOf}
 use Rattle.server.specs.Change.{after}
-use Rattle.servers.specs.Moved.{upAfter, moved}
+use Rattle.servers.specs.Moved.{moved}
 use Rattle.servers.specs.Records.{moves, active-new, active-kept, waiting-new, waiting-kept, up-kept}
-use Rattle.rules.specs.Event.{Kind, Event}
+use Rattle.rules.specs.Event.{Event}
 use Rattle.rules.specs.Identifiers.{ownerAt, isMember}
 use Rattle.rules.specs.Deed.{Deed, say, turn, change, actionsOf, stateAfter}
 use Rattle.rules.specs.Rules.{deedOf, inPlan, refusalOf, refusal}
@@ -34,7 +30,7 @@ use Rattle.rules.specs.Reach.{kindReach, reach, fromController}
 use Rattle.rules.specs.Entry.{actions, next}
 use Rattle.history.specs.Trade.{Commute}
 use Rattle.history.specs.Local.{false-of, Local, Agree, Apart, commutes}
-use Rattle.history.specs.History.{Given, ruled, Free}
+use Rattle.history.specs.History.{ruled, Free}
 use Rattle.history.proofs.Bits.{clash, or-left, or-right, or-case, set-same, ext-front, cond-yes, cond-no}
 use Rattle.history.proofs.Servers.{dyn, same-actions, same-up, remakesUp, up-length, up-drop, moved-up, moved-state, active-length, active-drop, waiting-length, waiting-drop}
 use Rattle.history.proofs.Within.{In, Within, Reaches, within}
@@ -359,16 +355,10 @@ module _ (g : Gateway) (R own : ℕ → Bool) (u c w s : List ℕ) (k : Alike g 
   alike-line e (change os h named) l r =
       ap (λ (x : List ℕ). col x l) (moved-state (dyn g u c w s) h named) ∙ k .lines l r ∙ sym (ap (λ (x : List ℕ). col x l) (moved-state g h named))
 
--- ---- two states that agree on what e reads
+-- ---- two states with one plan, both sound or neither: what is refused and what is reached is the same
 
-module _ (b b′ : Gateway) (e : Event) (h : Agree get reads writes b b′ e) where
-  P : planOf b′ ≡ planOf b
-  P = h plan refl
-
+module _ (b b′ : Gateway) (P : planOf b′ ≡ planOf b) where
   -- b′ is b with other contents
-  D : Gateway
-  D = dyn b (b′ .up) (b′ .active) (b′ .waiting) (b′ .state)
-
   to : b′ ≡ dyn b (b′ .up) (b′ .active) (b′ .waiting) (b′ .state)
   to = λ j. record {
     asps = P j .asps;
@@ -385,22 +375,35 @@ module _ (b b′ : Gateway) (e : Event) (h : Agree get reads writes b b′ e) wh
     state = b′ .state;
   }
 
-  same-in : inPlan b′ (e .kind) ≡ inPlan b (e .kind)
-  same-in = ap (λ (x : Gateway). inPlan x (e .kind)) to ∙ in-plan b (b′ .up) (b′ .active) (b′ .waiting) (b′ .state) (e .kind)
+  module _ (S : consistent b′ ≡ consistent b) (e : Event) where
+    plan-in : inPlan b′ (e .kind) ≡ inPlan b (e .kind)
+    plan-in = ap (λ (x : Gateway). inPlan x (e .kind)) to ∙ in-plan b (b′ .up) (b′ .active) (b′ .waiting) (b′ .state) (e .kind)
+
+    plan-refusal : refusal b′ e ≡ refusal b e
+    plan-refusal = λ j. refusalOf (S j) (plan-in j) (e .room)
+
+    plan-reaches : (a : ℕ) → Reaches b′ (e .kind) a ≡ Reaches b (e .kind) a
+    plan-reaches a =
+        ap (λ (x : Gateway). Reaches x (e .kind) a) to ∙ ap (λ (t : Bool). ltb a (b .ases) && t) (reach-plan b (b′ .up) (b′ .active) (b′ .waiting) (b′ .state) (e .kind) a)
+
+    pub plan-reach : (a : ℕ) → reach b′ e a ≡ reach b e a
+    unfolding reach
+    plan-reach a = λ j. eqb (plan-refusal j) 0 && plan-reaches a j
+
+-- ---- two states that agree on what e reads
+
+module _ (b b′ : Gateway) (e : Event) (h : Agree get reads writes b b′ e) where
+  is-dyn : b′ ≡ dyn b (b′ .up) (b′ .active) (b′ .waiting) (b′ .state)
+  is-dyn = to b b′ (h plan refl)
 
   same-refusal : refusal b′ e ≡ refusal b e
-  same-refusal = λ j. refusalOf (h sound refl j) (same-in j) (e .room)
+  same-refusal = plan-refusal b b′ (h plan refl) (h sound refl) e
 
   same-live : live b′ e ≡ live b e
   same-live = λ j. eqb (same-refusal j) 0
 
-  same-reaches : (a : ℕ) → Reaches b′ (e .kind) a ≡ Reaches b (e .kind) a
-  same-reaches a =
-      ap (λ (x : Gateway). Reaches x (e .kind) a) to ∙ ap (λ (t : Bool). ltb a (b .ases) && t) (reach-plan b (b′ .up) (b′ .active) (b′ .waiting) (b′ .state) (e .kind) a)
-
   same-reach : (a : ℕ) → reach b′ e a ≡ reach b e a
-  unfolding reach
-  same-reach a = λ j. same-live j && same-reaches a j
+  same-reach = plan-reach b b′ (h plan refl) (h sound refl) e
 
   module _ (l : live b e ≡ true) where
     alike : Alike b (Reaches b (e .kind)) (fromController (e .kind)) (b′ .up) (b′ .active) (b′ .waiting) (b′ .state)
@@ -418,11 +421,11 @@ module _ (b b′ : Gateway) (e : Event) (h : Agree get reads writes b b′ e) wh
     ok = live-sound b e l
 
     ok′ : consistent (dyn b (b′ .up) (b′ .active) (b′ .waiting) (b′ .state)) ≡ true
-    ok′ = sym (ap (λ (x : Gateway). consistent x) to) ∙ h sound refl ∙ ok
+    ok′ = sym (ap (λ (x : Gateway). consistent x) is-dyn) ∙ h sound refl ∙ ok
 
     same-deed : deedOf b′ (e .kind) ≡ deedOf b (e .kind)
     same-deed =
-        ap (λ (x : Gateway). deedOf x (e .kind)) to
+        ap (λ (x : Gateway). deedOf x (e .kind)) is-dyn
         ∙ deed-alike b (b′ .up) (b′ .active) (b′ .waiting) (b′ .state) ok ok′ (e .kind) (live-plan b e l) alike
 
     in-reach : Within b (Reaches b (e .kind)) (fromController (e .kind)) (deedOf b (e .kind))
@@ -430,11 +433,11 @@ module _ (b b′ : Gateway) (e : Event) (h : Agree get reads writes b b′ e) wh
 
     same-said : actionsOf b′ (deedOf b′ (e .kind)) ≡ actionsOf b (deedOf b (e .kind))
     same-said =
-        (λ j. actionsOf (to j) (same-deed j))
+        (λ j. actionsOf (is-dyn j) (same-deed j))
         ∙ said b (Reaches b (e .kind)) (fromController (e .kind)) (b′ .up) (b′ .active) (b′ .waiting) (b′ .state) alike (deedOf b (e .kind)) in-reach
 
     same-state : (k : Key) → writes b e k ≡ true → get (stateAfter b′ (deedOf b′ (e .kind))) k ≡ get (stateAfter b (deedOf b (e .kind))) k
-    same-state k v = (λ j. get (stateAfter (to j) (same-deed j)) k) ∙ go k v
+    same-state k v = (λ j. get (stateAfter (is-dyn j) (same-deed j)) k) ∙ go k v
       where
         R : ℕ → Bool
         R = Reaches b (e .kind)
@@ -478,7 +481,7 @@ module _ (b b′ : Gateway) (e : Event) (h : Agree get reads writes b b′ e) wh
   same-writes (up q c) =
       by-test (λ l j. same-live j && movesIn (same-deed l j) q)
       (λ l. ap (λ (t : Bool). t && movesIn (deedOf b′ (e .kind)) q) (same-live ∙ l) ∙ sym (ap (λ (t : Bool). t && movesIn (deedOf b (e .kind)) q) l))
-  same-writes (line i) = ap (λ (p : Plan). reach b′ e (col (p .owner) i)) P ∙ same-reach (ownerAt b i)
+  same-writes (line i) = ap (λ (p : Plan). reach b′ e (col (p .owner) i)) (h plan refl) ∙ same-reach (ownerAt b i)
   same-writes (act a q c d) = same-reach a
   same-writes (wait a c) = same-reach a
 
@@ -558,6 +561,10 @@ module _ (keeps : (b : Gateway) (e : Event) → consistent b ≡ true → consis
       by-live b e (λ (x : Gateway). col (x .waiting) a ≡ col (b .waiting) a)
       (λ l. kept-wait b (Reaches b (e .kind)) (fromController (e .kind)) (deedOf b (e .kind)) (within b (live-sound b e l) (e .kind) (live-plan b e l)) a c
       (false-of (Reaches b (e .kind) a) (λ r. clash (reach b e a) v (reach-of b e a l r)))) (λ l. refl)
+
+  -- what an event reaches does not change along a history: it may be read off the first state
+  pub reach-next : (b : Gateway) (e f : Event) (a : ℕ) → reach (next b e) f a ≡ reach b f a
+  reach-next b e f a = plan-reach b (next b e) (untouched b e plan refl) (untouched b e sound refl) f a
 
   pub local : Local get shape reads writes shapes reshape ruled next
   local =

@@ -1,9 +1,9 @@
 -- Demand 3, proved.
 -- Assumes nothing.
 use mathlib.Core.Path.{_≡_, refl, sym, ap, _∙_, subst}
-use mathlib.Core.Bool.{Bool, true, false, _&&_, _||_, not, cond}
+use mathlib.Core.Bool.{_&&_, not}
 use mathlib.Core.List.{List, [], _∷_, _++_, map}
-use Prim.Native.Nat.{ℕ, _*_, _<_}
+use Prim.Native.Nat.{ℕ, _*_}
 use native.Mathlib.Omega.{arith}
 use lib.Dec.{eqb, ltb}
 use lib.ListN.{length, take, drop, replicate, length-replicate}
@@ -21,8 +21,8 @@ use Rattle.rules.specs.Rules.{isError, typeOf, refusal}
 use Rattle.rules.specs.Reach.{reach, messageReach, readReach}
 use Rattle.rules.specs.Entry.{actions, next, Handed}
 use Rattle.history.specs.Trade.{swaps, outs, last, Commute, traded-outs, traded-last}
-use Rattle.history.specs.History.{Call, events, Calls, none, call, Given, given, ruled, reaches, Free, Untouched, Outside, Demand3, Statement, isUp, ReachOfUp, Rooms, Made}
-use Rattle.history.proofs.Frame.{Plan, planOf, plan, wait, act, line, up, untouched, not-mine, free-commute}
+use Rattle.history.specs.History.{Call, events, Calls, none, call, given, ruled, reaches, Free, Untouched, Outside, Statement, isUp, ReachOfUp, Rooms, Made}
+use Rattle.history.proofs.Frame.{Plan, planOf, plan, wait, act, line, up, untouched, not-mine, reach-next, free-commute}
 use Rattle.history.proofs.Keeps.{keeps}
 
 ruled-commute : (g : Gateway) (e f : Event) → Free g e f → Commute ruled next g e f
@@ -125,7 +125,11 @@ pub some-rooms : (h : List Event) → Rooms h (blanks h)
 some-rooms [] = tt
 some-rooms (e ∷ h) = (length-replicate (e .room) 0, some-rooms h)
 
--- ---- the reach of Up
+-- ---- reach
+
+-- it does not change along a history: whether two events may trade can be read off the first state
+pub reach-stays : (g : Gateway) (e f : Event) (a : ℕ) → reaches (next g e) f a ≡ reaches g f a
+reach-stays g e f a = reach-next keeps g e f a
 
 pub up-reach : ReachOfUp
 unfolding isUp reach messageReach readReach

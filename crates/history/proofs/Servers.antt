@@ -2,16 +2,15 @@
 -- Assumes nothing.
 use mathlib.Core.Path.{_≡_, refl, sym, ap, _∙_}
 use mathlib.Core.Bool.{Bool, true, false, _&&_, cond}
-use mathlib.Core.List.{List, [], _∷_}
-use Prim.Native.Nat.{ℕ, _+_, _*_, _<_, _≤_}
+use mathlib.Core.List.{List, []}
+use Prim.Native.Nat.{ℕ, _<_}
 use native.Mathlib.Omega.{arith}
-use lib.ListN.{length, getD, drop, drop-of-length-le}
+use lib.ListN.{length, drop, drop-of-length-le}
 use lib.Dec.{eqb}
-use Rattle.laws.specs.Below.{concatBelow, concat-ext}
+use Rattle.laws.specs.Below.{concat-ext}
 use Rattle.laws.specs.Tab.{at, on, col, tab, length-tab, tab-ext}
 use Rattle.gateway.specs.Sound.{pair}
 use Rattle.gateway.specs.declared.Gateway.{Gateway}
-use Rattle.server.specs.declared.AsRecord.{AsRecord}
 use Rattle.server.specs.declared.Change.{Change}
 use Rattle.server.specs.declared.Change.the-variants.{Rise, Fall, Off, On, Recover}
 use Rattle.server.specs.Record.{row, membersUp, recordFrom, recordOf}
@@ -101,10 +100,6 @@ up-drop (On p) u = refl
 up-drop Recover u = refl
 
 module _ (g : Gateway) (k : Change) (named : List Bool) where
-  pub moved-is : moved g k named ≡ dyn g (upAfter k (g .up)) (moved g k named .active) (moved g k named .waiting) (g .state)
-  unfolding moved
-  moved-is = refl
-
   pub moved-up : moved g k named .up ≡ upAfter k (g .up)
   unfolding moved
   moved-up = refl

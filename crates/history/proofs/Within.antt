@@ -1,16 +1,15 @@
 -- What an accepted event may do lies within its reach: the ASes that its change names, the link that it turns. Kind by kind.
 -- Assumes nothing.
-use mathlib.Core.Path.{_≡_, refl, sym, ap, _∙_}
+use mathlib.Core.Path.{_≡_, refl, sym, _∙_}
 use mathlib.Core.Bool.{Bool, true, false, _&&_, _||_, not, cond}
-use mathlib.Core.List.{List, [], _∷_, _++_}
-use Prim.Native.Nat.{ℕ, zero, suc, _+_, _*_, _<_, _≤_}
+use mathlib.Core.List.{List, [], _∷_}
+use Prim.Native.Nat.{ℕ, zero, suc, _+_, _<_}
 use native.Mathlib.Omega.{arith}
 use native.Mathlib.Decide.{decLt}
-use lib.Dec.{eqb, ltb, leb}
-use borrow.Author.Tests.{lt-ltb, le-ltb, ltb-true, ltb-false, eqb-true, eq-eqb, not-true, not-false}
-use Rattle.laws.specs.Below.{anyBelow, any-at, firstBelow}
+use lib.Dec.{eqb, ltb}
+use borrow.Author.Tests.{lt-ltb, le-ltb, ltb-true, eqb-true, eq-eqb, not-false}
+use Rattle.laws.specs.Below.{any-at, firstBelow}
 use Rattle.laws.specs.Every.{and-left, and-right, and-both}
-use Rattle.laws.specs.Rank.{first-not}
 use Rattle.laws.specs.Tab.{at, on, col, tab, getD-tab}
 use Rattle.wire.specs.Walk.{Par, walk}
 use Rattle.message.specs.Verdict.{verdict}
@@ -26,12 +25,11 @@ use Rattle.action.specs.declared.Action.{Action}
 use Rattle.server.specs.declared.Change.{Change}
 use Rattle.server.specs.declared.Change.the-variants.{Rise, Fall, Off, On, Recover}
 use Rattle.server.specs.Record.{some}
-use Rattle.servers.specs.Moved.{columnOf}
 use Rattle.servers.specs.Records.{moves, NamesOwn, names-own, column-at}
-use Rattle.rules.specs.Event.{Kind, message, lost, recovery, linkUp, linkDown, linkMessage, Event}
+use Rattle.rules.specs.Event.{Kind, message, lost, recovery, linkUp, linkDown, linkMessage}
 use Rattle.rules.specs.Identifiers.{isIds, firstRefused, ownsNamed, ownersNamed, isKnown, linkOf, ownerAt, isMember, isActive}
-use Rattle.rules.specs.Deed.{Deed, say, turn, change, sent, error, error2}
-use Rattle.rules.specs.Asp.{asesOf, activeIn, upDeed, downDeed, lostDeed, otherMode, activeDeed, inactiveDeed, trafficDeed}
+use Rattle.rules.specs.Deed.{Deed, say, turn, change}
+use Rattle.rules.specs.Asp.{asesOf, upDeed, downDeed, lostDeed, otherMode, activeDeed, inactiveDeed, trafficDeed}
 use Rattle.rules.specs.Link.{starting, inService, stopping, idle, establish, release, dataWork, linkWork, classSixDeed, linkUpDeed, linkDownDeed, linkMessageDeed}
 use Rattle.rules.specs.Rules.{isError, typeOf, fromAsp, readDeed, messageDeed, deedOf, inPlan}
 use Rattle.rules.specs.Reach.{ownsId, readReach, messageReach, kindReach, fromController}
