@@ -1,0 +1,19 @@
+use borrow.Author.Needs.{needs}
+use Rattle.asps.proofs.recovery_work.Statement.{statement}
+use Rattle.asps.proofs.recovery_work.Tie as tie
+use Rattle.asps.proofs.recovery_work.Reads as reads
+use Rattle.asps.proofs.recovery_work.Lts as lts
+use Rattle.asps.proofs.only.Reads as only-reads
+use Rattle.work.proofs.change_only.Reads as change-only-reads
+
+only-requires : tie.Need-only-requires
+only-requires c κs = search needs
+
+change-only-requires : tie.Need-change-only-requires
+change-only-requires c κs = search needs
+
+returns : tie.Need-returns
+returns c = rw (c .before .only .ensures) at (c .change-only .ensures)
+
+pub recovery-work-spec : {M : Type 1} → statement M
+recovery-work-spec = tie.close (tie.spec only-requires change-only-requires returns)

@@ -1,0 +1,13 @@
+use Rattle.rules.specs.Rules.{fromLink}
+use mathlib.Core.Path.{refl}
+use Rattle.links.proofs.from_link.Statement.{statement}
+use Rattle.links.proofs.from_link.Tie as tie
+use Rattle.links.proofs.from_link.Reads as reads
+use Rattle.links.proofs.from_link.Lts as lts
+
+returns : tie.Need-returns
+unfolding fromLink
+returns c = refl
+
+pub from-link-spec : {M : Type 1} → statement M
+from-link-spec = tie.close (tie.spec returns)

@@ -1,0 +1,30 @@
+use Rattle.traffic.specs.Named.{withPar}
+use Rattle.laws.specs.Choice.{choices}
+use borrow.Author.Needs.{needs}
+use Rattle.traffic.proofs.owners_par.Statement.{statement}
+use Rattle.traffic.proofs.owners_par.Tie as tie
+use Rattle.traffic.proofs.owners_par.Reads as reads
+use Rattle.traffic.proofs.owners_par.Lts as lts
+use Rattle.ranges.proofs.owners_of.Reads as owners-of-reads
+
+owners-of-requires : tie.Need-owners-of-requires
+owners-of-requires c κs = search needs
+
+returns : tie.Need-returns
+unfolding withPar
+returns c = search choices depth 9
+
+owners-of-requires-2 : tie.Need-owners-of-requires-2
+owners-of-requires-2 c κs = search needs
+
+returns-2 : tie.Need-returns-2
+unfolding withPar
+returns-2 c = search choices depth 9
+
+returns-3 : tie.Need-returns-3
+unfolding withPar
+returns-3 c = search choices depth 9
+
+pub owners-par-spec : {M : Type 1} → statement M
+owners-par-spec =
+    tie.close (tie.spec owners-of-requires returns owners-of-requires-2 returns-2 returns-3)

@@ -1,0 +1,100 @@
+use Rattle.traffic.specs.Named.{refused-here, refused-later}
+use Rattle.rules.specs.Identifiers.{firstRefused}
+use Rattle.traffic.specs.View.{trafficView}
+use Rattle.ranges.specs.Laws.{Table}
+use Rattle.wire.proofs.Steps.{step-next, Next, pars-next, pars-stop}
+use Rattle.wire.specs.declared.Step.the-variants.{Param}
+use Rattle.wire.specs.Walk.{stepAt, walk}
+use lib.ListN.{length}
+use mathlib.Core.List.{[]}
+use mathlib.Core.Path.{_≡_, refl, sym, ap, _∙_}
+use Prim.Native.Nat.{_<_, _-_}
+use native.Mathlib.Omega.{arith}
+use borrow.Author.Needs.{needs}
+use Rattle.traffic.proofs.refused_of.Statement.{statement}
+use Rattle.traffic.proofs.refused_of.Tie as tie
+use Rattle.traffic.proofs.refused_of.Reads as reads
+use Rattle.traffic.proofs.refused_of.Lts as lts
+use Rattle.traffic.proofs.refused_par.Reads as refused-par-reads
+use Rattle.wire.proofs.step_at.Reads as step-at-reads
+
+abbrev Inv-loop : tie.InvT-loop
+Inv-loop s links member iid owner p at₀ at = (firstRefused (trafficView links [] member [] iid owner) p (walk s at .pars) ≡ firstRefused (trafficView links [] member [] iid owner) p (walk s 8 .pars)) × Table iid owner links × (p < 16)
+
+abbrev μ-loop : tie.MeasureT-loop
+μ-loop s links member iid owner p at₀ at = length s - at
+
+-- the reading is the walk's, and the parameter lies within the message
+reads-at : (c : tie.After-known-told Inv-loop μ-loop)
+    → stepAt (c .before .before .before .before .before .before .args .s .now) (c .before .before .before .before .loop .at)
+    ≡ Param (c .before .w .given .0 .0) (c .before .w .given .0 .1 .0) (c .before .w .given .0 .1 .1 .0)
+reads-at c = sym (c .before .before .before .step-at .ensures) ∙ c .before .w .given .1
+
+next-at : (c : tie.After-known-told Inv-loop μ-loop)
+    → Next (c .before .before .before .before .before .before .args .s .now) (c .before .before .before .before .loop .at)
+    (c .before .w .given .0 .1 .0) (c .before .w .given .0 .1 .1 .0)
+next-at c = step-next _ _ _ _ _ (reads-at c)
+
+loop-holds : tie.Need-loop-holds Inv-loop μ-loop
+loop-holds c = (refl, c .before .pre .0, c .before .pre .1)
+
+step-at-requires : tie.Need-step-at-requires Inv-loop μ-loop
+step-at-requires c κs = search needs
+
+enum-known-w : tie.Need-enum-known-w Inv-loop μ-loop
+enum-known-w c = search needs
+
+returns : tie.Need-returns Inv-loop μ-loop
+unfolding firstRefused
+returns c = ap (firstRefused _ _) (sym (pars-stop _ _ _ (sym (c .before .step-at .ensures)) (c .match .keys2))) ∙ c .before .before .loop .inv .0
+
+add-start : tie.Need-add-start Inv-loop μ-loop
+add-start c = let k = next-at c in omega arith
+
+cast-stop : tie.Need-cast-stop Inv-loop μ-loop
+cast-stop c = let k = next-at c in omega arith
+
+add-stop : tie.Need-add-stop Inv-loop μ-loop
+add-stop c = let k = next-at c in omega arith
+
+sub-refused-par : tie.Need-sub-refused-par Inv-loop μ-loop
+sub-refused-par c = let k = next-at c in omega arith
+
+part-refused-par-start : tie.Need-part-refused-par-start Inv-loop μ-loop
+part-refused-par-start c = let k = next-at c in omega arith
+
+part-refused-par-end : tie.Need-part-refused-par-end Inv-loop μ-loop
+part-refused-par-end c = let k = next-at c in omega arith
+
+refused-par-requires : tie.Need-refused-par-requires Inv-loop μ-loop
+refused-par-requires c κs = let i = c .before .before .before .before .before .loop .inv in (i .1, i .2)
+
+returns-2 : tie.Need-returns-2 Inv-loop μ-loop
+returns-2 c = let k = c .before .before .before in refused-here _ _ _ _ _ (c .before .refused-par .ensures) (c .if1 .taken) ∙ ap (firstRefused _ _) (sym (pars-next _ _ _ _ _ (reads-at k))) ∙ k .before .before .before .before .loop .inv .0
+
+loop-less : tie.Need-loop-less Inv-loop μ-loop
+loop-less c = let k = next-at (c .before .before .before) in omega arith
+
+loop-again : tie.Need-loop-again Inv-loop μ-loop
+loop-again c = let k = c .before .before .before in let i = k .before .before .before .before .loop .inv in (refused-later _ _ _ _ _ (c .before .refused-par .ensures) (c .if1 .left) ∙ ap (firstRefused _ _) (sym (pars-next _ _ _ _ _ (reads-at k))) ∙ i .0, i .1, i .2)
+
+pub refused-of-spec : {M : Type 1} → statement M
+refused-of-spec =
+    tie.close
+    (tie.spec
+    Inv-loop
+    μ-loop
+    loop-holds
+    step-at-requires
+    enum-known-w
+    returns
+    add-start
+    cast-stop
+    add-stop
+    sub-refused-par
+    part-refused-par-start
+    part-refused-par-end
+    refused-par-requires
+    returns-2
+    loop-less
+    loop-again)

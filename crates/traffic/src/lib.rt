@@ -1,0 +1,255 @@
+// What Active and Inactive do.
+use message::Reading;
+use ranges::Refused;
+use rules::Work;
+use server::Change;
+use wire::Step;
+ghost use mathlib.Core.Path.{_≡_};
+ghost use mathlib.Core.Bool.{cond, not, _&&_};
+ghost use mathlib.Core.List.{[], _∷_};
+ghost use Prim.Native.Nat.{_<_};
+ghost use lib.Dec.{eqb};
+ghost use Rattle.laws.specs.Below.{anyBelow};
+ghost use Rattle.laws.specs.Tab.{at, col};
+ghost use Rattle.wire.specs.Walk.{walk};
+ghost use Rattle.action.specs.Words.{action};
+ghost use Rattle.ranges.specs.Laws.{Table};
+ghost use Rattle.server.specs.declared.Change.the-variants.{On};
+ghost use Rattle.rules.specs.Deed.{say, change};
+ghost use Rattle.rules.specs.Identifiers.{firstRefused, ownersNamed};
+ghost use Rattle.rules.specs.Asp.{otherMode, activeDeed, inactiveDeed, trafficDeed};
+ghost use Rattle.work.specs.Decides.{Decides};
+ghost use Rattle.traffic.specs.View.{trafficView, act, namedDeed, allDeed};
+ghost use Rattle.traffic.specs.Named.{refusedPar, withPar};
+
+// ---- the identifiers of a message
+
+// The first refused identifier of a parameter.
+fn refused_par<'a>(
+    t: u16,
+    v: &[u8],
+    links: usize,
+    member: &'a [u8; 256],
+    iid: &'a [u32; 128],
+    owner: &'a [u8; 128],
+    p: usize,
+) -> Refused
+    requires { ⌜ Table (now iid) (now owner) links × (p < 16) ⌝ }
+    ensures { λ r. ⌜ r ≡ refusedPar (trafficView links [] (now (member .entry)) [] (now (iid .entry)) (now (owner .entry))) p t (now (v .entry)) ⌝ }
+{
+    if t == 1 {
+        return ranges::first_refused(v, false, iid, owner, member, links, p);
+    }
+    if t == 8 {
+        return ranges::first_refused(v, true, iid, owner, member, links, p);
+    }
+    Refused {
+        found: false,
+        id: 0,
+    }
+}
+
+// "the first refused identifier", parameters in received order
+fn refused_of<'a>(
+    s: &[u8],
+    links: usize,
+    member: &'a [u8; 256],
+    iid: &'a [u32; 128],
+    owner: &'a [u8; 128],
+    p: usize,
+) -> Refused
+    requires { ⌜ Table (now iid) (now owner) links × (p < 16) ⌝ }
+    ensures { λ r. ⌜ r ≡ firstRefused (trafficView links [] (now (member .entry)) [] (now (iid .entry)) (now (owner .entry))) p (walk (now (s .entry)) 8 .pars) ⌝ }
+{
+    let mut at: usize = 8;
+    loop {
+        let w = wire::step_at(s, at);
+        let Step::Param { tag, len, next } = w else {
+            return Refused {
+                found: false,
+                id: 0,
+            };
+        };
+        let start = at + 4;
+        let stop = at + len as usize;
+        let r = refused_par(tag, &s[start..stop], links, member, iid, owner, p);
+        if r.found {
+            return r;
+        }
+        at = next;
+    }
+}
+
+// The flags set, with those of the ASes that own a known identifier of a parameter.
+fn owners_par<'a>(
+    set: [bool; 16],
+    t: u16,
+    v: &[u8],
+    links: usize,
+    iid: &'a [u32; 128],
+    owner: &'a [u8; 128],
+) -> [bool; 16]
+    requires { ⌜ Table (now iid) (now owner) links ⌝ }
+    ensures { λ r. ⌜ r ≡ withPar set (trafficView links [] [] [] (now (iid .entry)) (now (owner .entry))) t (now (v .entry)) ⌝ }
+{
+    if t == 1 {
+        return ranges::owners_of(set, v, false, iid, owner, links);
+    }
+    if t == 8 {
+        return ranges::owners_of(set, v, true, iid, owner, links);
+    }
+    set
+}
+
+// The ASes that own a known identifier of the message.
+fn owners_named<'a>(s: &[u8], links: usize, iid: &'a [u32; 128], owner: &'a [u8; 128]) -> [bool; 16]
+    requires { ⌜ Table (now iid) (now owner) links ⌝ }
+    ensures { λ r. ⌜ r ≡ ownersNamed (trafficView links [] [] [] (now (iid .entry)) (now (owner .entry))) (walk (now (s .entry)) 8 .pars) ⌝ }
+{
+    let mut set = [false; 16];
+    let mut at: usize = 8;
+    loop {
+        let w = wire::step_at(s, at);
+        let Step::Param { tag, len, next } = w else {
+            return set;
+        };
+        let start = at + 4;
+        let stop = at + len as usize;
+        let new = owners_par(set, tag, &s[start..stop], links, iid, owner);
+        set = new;
+        at = next;
+    }
+}
+
+// ---- Active and Inactive
+
+// Whether the mode of some AS named is not m.
+fn some_other(mode: &[u8; 16], m: usize, named: [bool; 16]) -> bool
+    ensures { λ r. ⌜ r ≡ anyBelow (λ a. at named a && not (eqb (col (now (mode .entry)) a) m)) 16 ⌝ }
+{
+    let mut found = false;
+    for a in 0..16usize {
+        found = found | (named[a] & (gateway::wide(mode[a]) != m));
+    }
+    found
+}
+
+// "In Active, a mode given that differs from a named AS's"
+fn other_mode(mode: &[u8; 16], m: u32, named: [bool; 16]) -> bool
+    ensures { λ r. ⌜ r ≡ otherMode (trafficView 0 [] [] (now (mode .entry)) [] []) m named ⌝ }
+{
+    (m != 0) & some_other(mode, m as usize, named)
+}
+
+// "Error 5. Else Ack, and p becomes active": whether the mode is another is given.
+fn active_at(p: usize, other: bool, named: [bool; 16]) -> Work
+    requires { ⌜ p < 16 ⌝ }
+    ensures { λ w. ⌜ Decides w (cond other (say (action p 0 0 5 ∷ [])) (change (action p 1027 0 0 ∷ []) (On p) named)) ⌝ }
+{
+    if other {
+        return work::error(p, 5);
+    }
+    work::change_one(work::to_asp(p, 1027, 0, 0), Change::On(p), named)
+}
+
+fn active_work(mode: &[u8; 16], p: usize, m: u32, named: [bool; 16]) -> Work
+    requires { ⌜ p < 16 ⌝ }
+    ensures { λ w. ⌜ Decides w (activeDeed (trafficView 0 [] [] (now (mode .entry)) [] []) p m named) ⌝ }
+{
+    active_at(p, other_mode(mode, m, named), named)
+}
+
+fn inactive_work(p: usize, named: [bool; 16]) -> Work
+    requires { ⌜ p < 16 ⌝ }
+    ensures { λ w. ⌜ Decides w (inactiveDeed p named) ⌝ }
+{
+    work::change_one(work::to_asp(p, 1028, 0, 0), Change::Off(p), named)
+}
+
+// Active where on holds, else Inactive, in the ASes named.
+fn act_in(on: bool, mode: &[u8; 16], p: usize, m: u32, named: [bool; 16]) -> Work
+    requires { ⌜ p < 16 ⌝ }
+    ensures { λ w. ⌜ Decides w (act (trafficView 0 [] [] (now (mode .entry)) [] []) p on m named) ⌝ }
+{
+    if on {
+        return active_work(mode, p, m, named);
+    }
+    inactive_work(p, named)
+}
+
+// "A named identifier not in the plan or owned by an AS without p: Error 2."
+fn named_work<'a>(
+    on: bool,
+    s: &[u8],
+    links: usize,
+    up: &'a [u8; 16],
+    member: &'a [u8; 256],
+    mode: &'a [u8; 16],
+    iid: &'a [u32; 128],
+    owner: &'a [u8; 128],
+    p: usize,
+    m: u32,
+) -> Work
+    requires { ⌜ Table (now iid) (now owner) links × (p < 16) ⌝ }
+    ensures { λ w. ⌜ Decides w (namedDeed (trafficView links (now (up .entry)) (now (member .entry)) (now (mode .entry)) (now (iid .entry)) (now (owner .entry))) p (walk (now (s .entry)) 8 .pars) on m) ⌝ }
+{
+    let f = refused_of(s, links, member, iid, owner, p);
+    if f.found {
+        return work::error_two(p, f.id);
+    }
+    act_in(on, mode, p, m, owners_named(s, links, iid, owner))
+}
+
+// "No identifiers name all of p's ASes; if none, Error 6.": these, and whether there are any, are given.
+fn all_at(some: bool, on: bool, mode: &[u8; 16], p: usize, m: u32, mine: [bool; 16]) -> Work
+    requires { ⌜ p < 16 ⌝ }
+    ensures { λ w. ⌜ Decides w (cond some (act (trafficView 0 [] [] (now (mode .entry)) [] []) p on m mine) (say (action p 0 0 6 ∷ []))) ⌝ }
+{
+    if some {
+        return act_in(on, mode, p, m, mine);
+    }
+    work::error(p, 6)
+}
+
+fn all_work<'a>(
+    on: bool,
+    links: usize,
+    up: &'a [u8; 16],
+    member: &'a [u8; 256],
+    mode: &'a [u8; 16],
+    iid: &'a [u32; 128],
+    owner: &'a [u8; 128],
+    p: usize,
+    m: u32,
+) -> Work
+    requires { ⌜ p < 16 ⌝ }
+    ensures { λ w. ⌜ Decides w (allDeed (trafficView links (now (up .entry)) (now (member .entry)) (now (mode .entry)) (now (iid .entry)) (now (owner .entry))) p on m) ⌝ }
+{
+    let mine = servers::column_of(member, p);
+    all_at(server::has_some(mine), on, mode, p, m, mine)
+}
+
+// "Active, Inactive: p down: Error 6. .." on says that it is Active.
+pub fn traffic_work<'a>(
+    on: bool,
+    s: &[u8],
+    links: usize,
+    up: &'a [u8; 16],
+    member: &'a [u8; 256],
+    mode: &'a [u8; 16],
+    iid: &'a [u32; 128],
+    owner: &'a [u8; 128],
+    p: usize,
+    r: Reading,
+) -> Work
+    requires { ⌜ Table (now iid) (now owner) links × (p < 16) ⌝ }
+    ensures { λ w. ⌜ Decides w (trafficDeed (trafficView links (now (up .entry)) (now (member .entry)) (now (mode .entry)) (now (iid .entry)) (now (owner .entry))) p r (walk (now (s .entry)) 8 .pars) (act (trafficView links (now (up .entry)) (now (member .entry)) (now (mode .entry)) (now (iid .entry)) (now (owner .entry))) p on (r .mode))) ⌝ }
+{
+    if up[p] == 1 {
+        if r.ids == 1 {
+            return named_work(on, s, links, up, member, mode, iid, owner, p, r.mode);
+        }
+        return all_work(on, links, up, member, mode, iid, owner, p, r.mode);
+    }
+    work::error(p, 6)
+}

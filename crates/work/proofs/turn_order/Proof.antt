@@ -1,0 +1,19 @@
+use borrow.Author.Needs.{needs}
+use Rattle.work.proofs.turn_order.Statement.{statement}
+use Rattle.work.proofs.turn_order.Tie as tie
+use Rattle.work.proofs.turn_order.Reads as reads
+use Rattle.work.proofs.turn_order.Lts as lts
+use Rattle.work.proofs.to_link.Reads as to-link-reads
+use Rattle.work.proofs.turn_one.Reads as turn-one-reads
+
+to-link-requires : tie.Need-to-link-requires
+to-link-requires c κs = search needs
+
+turn-one-requires : tie.Need-turn-one-requires
+turn-one-requires c κs = search needs
+
+returns : tie.Need-returns
+returns c = rw (c .before .to-link .ensures) at (c .turn-one .ensures)
+
+pub turn-order-spec : {M : Type 1} → statement M
+turn-order-spec = tie.close (tie.spec to-link-requires turn-one-requires returns)

@@ -1,0 +1,18 @@
+use Rattle.rules.specs.Work.{deedIn, given, spread}
+use mathlib.Core.Path.{refl}
+use borrow.Author.Needs.{needs}
+use Rattle.work.proofs.turn_spread.Statement.{statement}
+use Rattle.work.proofs.turn_spread.Tie as tie
+use Rattle.work.proofs.turn_spread.Reads as reads
+use Rattle.work.proofs.turn_spread.Lts as lts
+use Rattle.work.proofs.to_link.Reads as to-link-reads
+
+to-link-requires : tie.Need-to-link-requires
+to-link-requires c κs = search needs
+
+returns : tie.Need-returns
+unfolding deedIn given spread
+returns c = record { is = rw (c .to-link .ensures); few = search needs; asp = search needs; place = search needs }
+
+pub turn-spread-spec : {M : Type 1} → statement M
+turn-spread-spec = tie.close (tie.spec to-link-requires returns)

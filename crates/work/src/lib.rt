@@ -1,0 +1,226 @@
+// Makes the struct `Work`, one function for each shape of deed.
+use action::Action;
+use rules::Work;
+use server::Change;
+ghost use mathlib.Core.Path.{_≡_};
+ghost use mathlib.Core.List.{[], _∷_};
+ghost use Prim.Native.Nat.{_<_};
+ghost use Rattle.action.specs.Words.{action, linkSide, toAll};
+ghost use Rattle.rules.specs.Deed.{say, turn, change};
+ghost use Rattle.work.specs.Decides.{Decides, aspOf};
+
+// An action to ASP p.
+pub fn to_asp(p: usize, kind: u32, subject: u32, value: u32) -> Action
+    requires { ⌜ p < 16 ⌝ }
+    ensures { λ r. ⌜ r ≡ action p kind subject value ⌝ }
+{
+    Action {
+        to: p as u32,
+        kind,
+        subject,
+        value,
+    }
+}
+
+// An action to the link side.
+pub fn to_link(kind: u32, subject: u32, value: u32) -> Action
+    ensures { λ r. ⌜ r ≡ action linkSide kind subject value ⌝ }
+{
+    Action {
+        to: 255,
+        kind,
+        subject,
+        value,
+    }
+}
+
+// No action and no change.
+pub fn nothing() -> Work
+    ensures { λ r. ⌜ Decides r (say []) ⌝ }
+{
+    let none = to_link(0, 0, 0);
+    Work {
+        what: 0,
+        count: 0,
+        first: none,
+        second: none,
+        link: 0,
+        state: 0,
+        change: Change::Recover,
+        who: [false; 16],
+    }
+}
+
+// One action.
+pub fn say_one(a: Action) -> Work
+    ensures { λ r. ⌜ Decides r (say (a ∷ [])) ⌝ }
+{
+    Work {
+        what: 0,
+        count: 1,
+        first: a,
+        second: a,
+        link: 0,
+        state: 0,
+        change: Change::Recover,
+        who: [false; 16],
+    }
+}
+
+// Two actions.
+pub fn say_two(a: Action, b: Action) -> Work
+    ensures { λ r. ⌜ Decides r (say (a ∷ b ∷ [])) ⌝ }
+{
+    Work {
+        what: 0,
+        count: 2,
+        first: a,
+        second: b,
+        link: 0,
+        state: 0,
+        change: Change::Recover,
+        who: [false; 16],
+    }
+}
+
+// An action to ASP p.
+pub fn reply(p: usize, kind: u32, subject: u32, value: u32) -> Work
+    requires { ⌜ p < 16 ⌝ }
+    ensures { λ r. ⌜ Decides r (say (action p kind subject value ∷ [])) ⌝ }
+{
+    say_one(to_asp(p, kind, subject, value))
+}
+
+// "An Error order has value its code, and subject the first refused identifier for code 2, else 0."
+pub fn error(p: usize, code: u32) -> Work
+    requires { ⌜ p < 16 ⌝ }
+    ensures { λ r. ⌜ Decides r (say (action p 0 0 code ∷ [])) ⌝ }
+{
+    reply(p, 0, 0, code)
+}
+
+pub fn error_two(p: usize, id: u32) -> Work
+    requires { ⌜ p < 16 ⌝ }
+    ensures { λ r. ⌜ Decides r (say (action p 0 id 2 ∷ [])) ⌝ }
+{
+    reply(p, 0, id, 2)
+}
+
+// An order to the link side.
+pub fn order(kind: u32, subject: u32, value: u32) -> Work
+    ensures { λ r. ⌜ Decides r (say (action linkSide kind subject value ∷ [])) ⌝ }
+{
+    say_one(to_link(kind, subject, value))
+}
+
+// The link at an index comes to a state, with an action.
+fn turn_one(l: usize, v: u8, a: Action) -> Work
+    requires { ⌜ l < 128 ⌝ }
+    ensures { λ r. ⌜ Decides r (turn l v (a ∷ [])) ⌝ }
+{
+    Work {
+        what: 1,
+        count: 1,
+        first: a,
+        second: a,
+        link: l,
+        state: v,
+        change: Change::Recover,
+        who: [false; 16],
+    }
+}
+
+// The link at an index comes to a state, with an order to the link side.
+pub fn turn_order(l: usize, v: u8, kind: u32, subject: u32) -> Work
+    requires { ⌜ l < 128 ⌝ }
+    ensures { λ r. ⌜ Decides r (turn l v (action linkSide kind subject 0 ∷ [])) ⌝ }
+{
+    turn_one(l, v, to_link(kind, subject, 0))
+}
+
+// An action to each ASP of `who`.
+pub fn spread(who: [bool; 16], kind: u32, subject: u32) -> Work
+    ensures { λ r. ⌜ Decides r (say (toAll who kind subject 0)) ⌝ }
+{
+    let a = to_link(kind, subject, 0);
+    Work {
+        what: 3,
+        count: 0,
+        first: a,
+        second: a,
+        link: 0,
+        state: 0,
+        change: Change::Recover,
+        who: who,
+    }
+}
+
+// The link at an index comes to a state, with an action to each ASP of `who`.
+pub fn turn_spread(l: usize, v: u8, who: [bool; 16], kind: u32, subject: u32) -> Work
+    requires { ⌜ l < 128 ⌝ }
+    ensures { λ r. ⌜ Decides r (turn l v (toAll who kind subject 0)) ⌝ }
+{
+    let a = to_link(kind, subject, 0);
+    Work {
+        what: 4,
+        count: 0,
+        first: a,
+        second: a,
+        link: l,
+        state: v,
+        change: Change::Recover,
+        who: who,
+    }
+}
+
+// A change in the ASes of `who`, without a reply.
+pub fn change_only(k: Change, who: [bool; 16]) -> Work
+    requires { ⌜ aspOf k < 16 ⌝ }
+    ensures { λ r. ⌜ Decides r (change [] k who) ⌝ }
+{
+    let none = to_link(0, 0, 0);
+    Work {
+        what: 2,
+        count: 0,
+        first: none,
+        second: none,
+        link: 0,
+        state: 0,
+        change: k,
+        who: who,
+    }
+}
+
+// A change after one reply.
+pub fn change_one(a: Action, k: Change, who: [bool; 16]) -> Work
+    requires { ⌜ aspOf k < 16 ⌝ }
+    ensures { λ r. ⌜ Decides r (change (a ∷ []) k who) ⌝ }
+{
+    Work {
+        what: 2,
+        count: 1,
+        first: a,
+        second: a,
+        link: 0,
+        state: 0,
+        change: k,
+        who: who,
+    }
+}
+
+// A change after two replies.
+pub fn change_two(a: Action, b: Action, k: Change, who: [bool; 16]) -> Work
+    requires { ⌜ aspOf k < 16 ⌝ }
+    ensures { λ r. ⌜ Decides r (change (a ∷ b ∷ []) k who) ⌝ }
+{
+    Work {
+        what: 2,
+        count: 2,
+        first: a,
+        second: b,
+        link: 0,
+        state: 0,
+        change: k,
+        who: who,
+    }
+}
