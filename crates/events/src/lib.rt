@@ -7,7 +7,7 @@ ghost use Prim.Native.Nat.{_<_, _≤_};
 ghost use lib.ListN.{length};
 ghost use Rattle.action.specs.Words.{Written};
 ghost use Rattle.gateway.specs.Sound.{consistentOf};
-ghost use Rattle.rules.specs.Event.{lost, recovery, linkUp, linkDown};
+ghost use Rattle.rules.specs.Event.{message, lost, recovery, linkUp, linkDown};
 ghost use Rattle.rules.specs.Rules.{refusalOf};
 ghost use Rattle.rules.specs.Entry.{Handed};
 ghost use Rattle.rules.specs.Work.{given, spread, deedIn};
@@ -320,6 +320,56 @@ impl Node {
             &self.gateway.owner,
             &self.gateway.state,
             l,
+        );
+        self.perform(w, words)
+    }
+
+    // A message of ASP p.
+    pub fn message(self, p: usize, msg: &[u8], words: &mut [u32]) -> Outcome
+        ensures { λ r. ⌜ Handed (self .gateway) (event (message p (now (msg .entry))) (now (words .entry))) (now (words .entry)) (now (words .exit)) r ⌝ }
+    {
+        let asps = self.gateway.asps;
+        let ases = self.gateway.ases;
+        let links = self.gateway.links;
+        let room = words.len();
+        let known = p < gateway::wide(asps);
+        let no = refused(
+            asps,
+            ases,
+            links,
+            &self.gateway.aspid,
+            &self.gateway.up,
+            &self.gateway.member,
+            &self.gateway.active,
+            &self.gateway.mode,
+            &self.gateway.waiting,
+            &self.gateway.iid,
+            &self.gateway.owner,
+            &self.gateway.state,
+            known,
+            room,
+        );
+        if no != 0 {
+            let g = self.gateway;
+            return Outcome {
+                refusal: no,
+                count: 0,
+                gateway: g,
+            };
+        }
+        let n = gateway::wide(links);
+        let w = decide::message_work(
+            n,
+            &self.gateway.aspid,
+            &self.gateway.up,
+            &self.gateway.member,
+            &self.gateway.active,
+            &self.gateway.mode,
+            &self.gateway.iid,
+            &self.gateway.owner,
+            &self.gateway.state,
+            p,
+            msg,
         );
         self.perform(w, words)
     }
