@@ -11,6 +11,15 @@ pub struct Written {
     pub length: usize,
 }
 
+/// What an event hands back.
+#[repr(C)]
+#[derive(Clone, Copy)]
+pub struct Outcome {
+    pub refusal: u32,
+    pub count: usize,
+    pub gateway: Gateway,
+}
+
 extern "C" {
     fn m2ua_read(msg: *const u8, len: usize) -> Reading;
     fn m2ua_write(
@@ -26,6 +35,11 @@ extern "C" {
         out_bytes: usize,
     ) -> Written;
     fn m2ua_load(file: *const u8, len: usize) -> Loaded;
+    fn m2ua_message(g: Gateway, p: usize, msg: *const u8, len: usize, words: *mut u32, count: usize) -> Outcome;
+    fn m2ua_lost(g: Gateway, p: usize, words: *mut u32, count: usize) -> Outcome;
+    fn m2ua_recovery(g: Gateway, a: usize, words: *mut u32, count: usize) -> Outcome;
+    fn m2ua_link_up(g: Gateway, l: usize, words: *mut u32, count: usize) -> Outcome;
+    fn m2ua_link_down(g: Gateway, l: usize, words: *mut u32, count: usize) -> Outcome;
     fn m2ua_is_consistent(g: Gateway) -> u32;
 }
 
@@ -67,4 +81,25 @@ pub fn write(
             out.len(),
         )
     }
+}
+
+pub fn message(g: Gateway, p: usize, msg: &[u8], words: &mut [u32]) -> Outcome {
+    // SAFETY: each pointer and length are those of one slice, any bytes are a state, and the entry has no `requires`. So for all events.
+    unsafe { m2ua_message(g, p, msg.as_ptr(), msg.len(), words.as_mut_ptr(), words.len()) }
+}
+
+pub fn lost(g: Gateway, p: usize, words: &mut [u32]) -> Outcome {
+    unsafe { m2ua_lost(g, p, words.as_mut_ptr(), words.len()) }
+}
+
+pub fn recovery(g: Gateway, a: usize, words: &mut [u32]) -> Outcome {
+    unsafe { m2ua_recovery(g, a, words.as_mut_ptr(), words.len()) }
+}
+
+pub fn link_up(g: Gateway, l: usize, words: &mut [u32]) -> Outcome {
+    unsafe { m2ua_link_up(g, l, words.as_mut_ptr(), words.len()) }
+}
+
+pub fn link_down(g: Gateway, l: usize, words: &mut [u32]) -> Outcome {
+    unsafe { m2ua_link_down(g, l, words.as_mut_ptr(), words.len()) }
 }
