@@ -60,4 +60,20 @@ uint32_t m2ua_is_consistent(m2ua_gateway g);
 /* Reads a message of any bytes. It keeps no state and touches nothing but its result. */
 m2ua_reading m2ua_read(const uint8_t *msg, size_t len);
 
+/* What an event hands back: 0, the number of orders and the next state; or the refusal (105, 102, 101), 0 and the state given. */
+typedef struct {
+    uint32_t refusal;
+    size_t count;
+    m2ua_gateway gateway;
+} m2ua_outcome;
+
+/* The events. Orders go to `words`, four words each: addressee (ASP number; 255 the link side), class * 256 + type, subject, value. Words behind the orders
+ * stay; a list under 1,032 words is refused with 101. */
+m2ua_outcome m2ua_message(m2ua_gateway g, size_t asp, const uint8_t *msg, size_t len, uint32_t *words, size_t count);
+m2ua_outcome m2ua_lost(m2ua_gateway g, size_t asp, uint32_t *words, size_t count);
+m2ua_outcome m2ua_recovery(m2ua_gateway g, size_t as, uint32_t *words, size_t count);
+m2ua_outcome m2ua_link_up(m2ua_gateway g, size_t link, uint32_t *words, size_t count);
+m2ua_outcome m2ua_link_down(m2ua_gateway g, size_t link, uint32_t *words, size_t count);
+m2ua_outcome m2ua_link_message(m2ua_gateway g, const uint8_t *msg, size_t len, uint32_t *words, size_t count);
+
 #endif

@@ -35,11 +35,25 @@ extern "C" {
         out_bytes: usize,
     ) -> Written;
     fn m2ua_load(file: *const u8, len: usize) -> Loaded;
-    fn m2ua_message(g: Gateway, p: usize, msg: *const u8, len: usize, words: *mut u32, count: usize) -> Outcome;
+    fn m2ua_message(
+        g: Gateway,
+        p: usize,
+        msg: *const u8,
+        len: usize,
+        words: *mut u32,
+        count: usize,
+    ) -> Outcome;
     fn m2ua_lost(g: Gateway, p: usize, words: *mut u32, count: usize) -> Outcome;
     fn m2ua_recovery(g: Gateway, a: usize, words: *mut u32, count: usize) -> Outcome;
     fn m2ua_link_up(g: Gateway, l: usize, words: *mut u32, count: usize) -> Outcome;
     fn m2ua_link_down(g: Gateway, l: usize, words: *mut u32, count: usize) -> Outcome;
+    fn m2ua_link_message(
+        g: Gateway,
+        msg: *const u8,
+        len: usize,
+        words: *mut u32,
+        count: usize,
+    ) -> Outcome;
     fn m2ua_is_consistent(g: Gateway) -> u32;
 }
 
@@ -85,7 +99,16 @@ pub fn write(
 
 pub fn message(g: Gateway, p: usize, msg: &[u8], words: &mut [u32]) -> Outcome {
     // SAFETY: each pointer and length are those of one slice, any bytes are a state, and the entry has no `requires`. So for all events.
-    unsafe { m2ua_message(g, p, msg.as_ptr(), msg.len(), words.as_mut_ptr(), words.len()) }
+    unsafe {
+        m2ua_message(
+            g,
+            p,
+            msg.as_ptr(),
+            msg.len(),
+            words.as_mut_ptr(),
+            words.len(),
+        )
+    }
 }
 
 pub fn lost(g: Gateway, p: usize, words: &mut [u32]) -> Outcome {
@@ -102,4 +125,8 @@ pub fn link_up(g: Gateway, l: usize, words: &mut [u32]) -> Outcome {
 
 pub fn link_down(g: Gateway, l: usize, words: &mut [u32]) -> Outcome {
     unsafe { m2ua_link_down(g, l, words.as_mut_ptr(), words.len()) }
+}
+
+pub fn link_message(g: Gateway, msg: &[u8], words: &mut [u32]) -> Outcome {
+    unsafe { m2ua_link_message(g, msg.as_ptr(), msg.len(), words.as_mut_ptr(), words.len()) }
 }

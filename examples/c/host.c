@@ -43,6 +43,15 @@ int main(void) {
     expect("code of the smallest plan", plan.code, 0);
     expect("identifier of its ASP", plan.gateway.aspid[0], 7);
     expect("its state is consistent", m2ua_is_consistent(plan.gateway), 1);
+    static uint32_t words[1032];
+    const uint8_t up[8] = {1, 0, 3, 1, 0, 0, 0, 8};
+    m2ua_outcome next = m2ua_message(plan.gateway, 0, up, sizeof up, words, 1032);
+    expect("refusal of Up", next.refusal, 0);
+    expect("orders of Up", (uint32_t)next.count, 2);
+    expect("its Ack", words[1], 772);
+    expect("its Notify", words[7], 65538);
+    expect("the ASP is up", next.gateway.up[0], 1);
+    expect("refusal with 1,031 words", m2ua_message(plan.gateway, 0, up, sizeof up, words, 1031).refusal, 101);
     plan.gateway.up[0] = 2;
     expect("a flag of 2 is not", m2ua_is_consistent(plan.gateway), 0);
     expect("code of a plan cut short", m2ua_load(smallest, 35).code, 201);

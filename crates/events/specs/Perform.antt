@@ -50,6 +50,11 @@ accepted sound known room = go sound known (ltb room leastRoom) refl
     go true false w e h = let z : ⊥ = omega arith in absurd z
     go false v w e h = let z : ⊥ = omega arith in absurd z
 
+-- "105 board not sound", whatever else
+pub unsound : (sound known : Bool) (room : ℕ) → sound ≡ false → 105 ≡ refusalOf sound known room
+unfolding refusalOf
+unsound sound known room e = rw e
+
 -- the same of an event that names the index i, where the configuration has n
 pub record Taken (g : Gateway) (i n room : ℕ) : Type 0 where
   pub sound-yes : consistent g ≡ true

@@ -1,5 +1,6 @@
 // The six kinds of event: what is refused, what is done, and the entries.
 use gateway::Gateway;
+use message::Reading;
 use rules::Outcome;
 use rules::Work;
 ghost use mathlib.Core.Path.{_≡_};
@@ -7,8 +8,9 @@ ghost use Prim.Native.Nat.{_<_, _≤_};
 ghost use lib.ListN.{length};
 ghost use Rattle.action.specs.Words.{Written};
 ghost use Rattle.gateway.specs.Sound.{consistentOf};
-ghost use Rattle.rules.specs.Event.{message, lost, recovery, linkUp, linkDown};
+ghost use Rattle.rules.specs.Event.{message, lost, recovery, linkUp, linkDown, linkMessage};
 ghost use Rattle.rules.specs.Rules.{refusalOf};
+ghost use Rattle.links.specs.Side.{passes};
 ghost use Rattle.rules.specs.Entry.{Handed};
 ghost use Rattle.rules.specs.Work.{given, spread, deedIn};
 ghost use Rattle.work.specs.Decides.{aspOf};
@@ -64,6 +66,46 @@ pub fn refused<'a>(
         owner,
         state,
     );
+    refusal(sound, known, room)
+}
+
+// The same of a message of the link side: the identifier is looked up only where the state is consistent.
+fn refused_side<'a>(
+    asps: u8,
+    ases: u8,
+    links: u8,
+    aspid: &'a [u32; 16],
+    up: &'a [u8; 16],
+    member: &'a [u8; 256],
+    active: &'a [u8; 256],
+    mode: &'a [u8; 16],
+    waiting: &'a [u8; 16],
+    iid: &'a [u32; 128],
+    owner: &'a [u8; 128],
+    state: &'a [u8; 128],
+    read: Reading,
+    room: usize,
+) -> u32
+    ensures { λ r. ⌜ r ≡ refusalOf (consistentOf asps ases links (now (aspid .entry)) (now (up .entry)) (now (member .entry)) (now (active .entry)) (now (mode .entry)) (now (waiting .entry)) (now (iid .entry)) (now (owner .entry)) (now (state .entry))) (passes (now (iid .entry)) links read) room ⌝ }
+{
+    let sound = gateway::consistent_of(
+        asps,
+        ases,
+        links,
+        aspid,
+        up,
+        member,
+        active,
+        mode,
+        waiting,
+        iid,
+        owner,
+        state,
+    );
+    if !sound {
+        return 105;
+    }
+    let known = links::is_in_plan(iid, gateway::wide(links), read);
     refusal(sound, known, room)
 }
 
@@ -370,6 +412,52 @@ impl Node {
             &self.gateway.state,
             p,
             msg,
+        );
+        self.perform(w, words)
+    }
+
+    // A message of the link side.
+    pub fn link_message(self, msg: &[u8], words: &mut [u32]) -> Outcome
+        ensures { λ r. ⌜ Handed (self .gateway) (event (linkMessage (now (msg .entry))) (now (words .entry))) (now (words .entry)) (now (words .exit)) r ⌝ }
+    {
+        let asps = self.gateway.asps;
+        let ases = self.gateway.ases;
+        let links = self.gateway.links;
+        let room = words.len();
+        let n = gateway::wide(links);
+        let read = message::read(msg);
+        let no = refused_side(
+            asps,
+            ases,
+            links,
+            &self.gateway.aspid,
+            &self.gateway.up,
+            &self.gateway.member,
+            &self.gateway.active,
+            &self.gateway.mode,
+            &self.gateway.waiting,
+            &self.gateway.iid,
+            &self.gateway.owner,
+            &self.gateway.state,
+            read,
+            room,
+        );
+        if no != 0 {
+            let g = self.gateway;
+            return Outcome {
+                refusal: no,
+                count: 0,
+                gateway: g,
+            };
+        }
+        let w = links::link_message(
+            n,
+            &self.gateway.active,
+            &self.gateway.mode,
+            &self.gateway.iid,
+            &self.gateway.owner,
+            &self.gateway.state,
+            read,
         );
         self.perform(w, words)
     }

@@ -12,7 +12,7 @@ ghost use Rattle.message.specs.Meaning.{readingOf};
 ghost use Rattle.config.specs.Plan.{loadOf};
 ghost use Rattle.gateway.specs.Sound.{consistent};
 ghost use Rattle.encode.specs.Write.{Writes};
-ghost use Rattle.rules.specs.Event.{message, lost, recovery, linkUp, linkDown};
+ghost use Rattle.rules.specs.Event.{message, lost, recovery, linkUp, linkDown, linkMessage};
 ghost use Rattle.rules.specs.Entry.{Handed};
 ghost use Rattle.events.specs.Perform.{event};
 
@@ -99,4 +99,12 @@ pub extern "C" fn m2ua_link_down(g: Gateway, l: usize, words: &mut [u32]) -> Out
     ensures { λ r. ⌜ Handed g (event (linkDown l) (now (words .entry))) (now (words .entry)) (now (words .exit)) r ⌝ }
 {
     Node { gateway: g }.link_down(l, words)
+}
+
+// A message of the link side.
+#[no_mangle]
+pub extern "C" fn m2ua_link_message(g: Gateway, msg: &[u8], words: &mut [u32]) -> Outcome
+    ensures { λ r. ⌜ Handed g (event (linkMessage (now (msg .entry))) (now (words .entry))) (now (words .entry)) (now (words .exit)) r ⌝ }
+{
+    Node { gateway: g }.link_message(msg, words)
 }

@@ -2,11 +2,6 @@ use Rattle.rules.specs.Asp.{downDeed}
 use borrow.Author.Needs.{needs}
 use Rattle.asps.proofs.down_work.Statement.{statement}
 use Rattle.asps.proofs.down_work.Tie as tie
-use Rattle.asps.proofs.down_work.Reads as reads
-use Rattle.asps.proofs.down_work.Lts as lts
-use Rattle.servers.proofs.column_of.Reads as column-of-reads
-use Rattle.work.proofs.change_one.Reads as change-one-reads
-use Rattle.work.proofs.to_asp.Reads as to-asp-reads
 
 to-asp-requires : tie.Need-to-asp-requires
 to-asp-requires c κs = search needs

@@ -1,10 +1,6 @@
 use borrow.Author.Needs.{needs}
 use Rattle.asps.proofs.recovery_work.Statement.{statement}
 use Rattle.asps.proofs.recovery_work.Tie as tie
-use Rattle.asps.proofs.recovery_work.Reads as reads
-use Rattle.asps.proofs.recovery_work.Lts as lts
-use Rattle.asps.proofs.only.Reads as only-reads
-use Rattle.work.proofs.change_only.Reads as change-only-reads
 
 only-requires : tie.Need-only-requires
 only-requires c κs = search needs

@@ -1,11 +1,6 @@
 use borrow.Author.Needs.{needs}
 use Rattle.asps.proofs.rise.Statement.{statement}
 use Rattle.asps.proofs.rise.Tie as tie
-use Rattle.asps.proofs.rise.Reads as reads
-use Rattle.asps.proofs.rise.Lts as lts
-use Rattle.work.proofs.change_one.Reads as change-one-reads
-use Rattle.work.proofs.change_two.Reads as change-two-reads
-use Rattle.work.proofs.to_asp.Reads as to-asp-reads
 
 to-asp-requires : tie.Need-to-asp-requires
 to-asp-requires c κs = search needs

@@ -4,13 +4,6 @@ use mathlib.Core.Path.{sym, _∙_}
 use borrow.Author.Needs.{needs}
 use Rattle.asps.proofs.up_work.Statement.{statement}
 use Rattle.asps.proofs.up_work.Tie as tie
-use Rattle.asps.proofs.up_work.Reads as reads
-use Rattle.asps.proofs.up_work.Lts as lts
-use Rattle.servers.proofs.column_of.Reads as column-of-reads
-use Rattle.server.proofs.has_some.Reads as has-some-reads
-use Rattle.asps.proofs.is_other.Reads as is-other-reads
-use Rattle.asps.proofs.rise.Reads as rise-reads
-use Rattle.work.proofs.error.Reads as error-reads
 
 mul-is-other : tie.Need-mul-is-other
 mul-is-other c = search needs

@@ -2,8 +2,6 @@ use Rattle.rules.specs.Rules.{fromAsp}
 use mathlib.Core.Path.{refl}
 use Rattle.decide.proofs.from_asp.Statement.{statement}
 use Rattle.decide.proofs.from_asp.Tie as tie
-use Rattle.decide.proofs.from_asp.Reads as reads
-use Rattle.decide.proofs.from_asp.Lts as lts
 
 returns : tie.Need-returns
 unfolding fromAsp

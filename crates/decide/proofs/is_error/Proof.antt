@@ -3,8 +3,6 @@ use borrow.Author.Tests.{le-leb, lt-leb}
 use borrow.Author.Needs.{needs}
 use Rattle.decide.proofs.is_error.Statement.{statement}
 use Rattle.decide.proofs.is_error.Tie as tie
-use Rattle.decide.proofs.is_error.Reads as reads
-use Rattle.decide.proofs.is_error.Lts as lts
 
 returns : tie.Need-returns
 unfolding isError

@@ -5,12 +5,6 @@ use native.Mathlib.Omega.{arith}
 use borrow.Author.Needs.{needs}
 use Rattle.decide.proofs.message_work.Statement.{statement}
 use Rattle.decide.proofs.message_work.Tie as tie
-use Rattle.decide.proofs.message_work.Reads as reads
-use Rattle.decide.proofs.message_work.Lts as lts
-use Rattle.decide.proofs.is_error.Reads as is-error-reads
-use Rattle.decide.proofs.read_work.Reads as read-work-reads
-use Rattle.message.proofs.read.Reads as read-reads
-use Rattle.work.proofs.nothing.Reads as nothing-reads
 
 is-error-requires : tie.Need-is-error-requires
 is-error-requires c κs = search needs

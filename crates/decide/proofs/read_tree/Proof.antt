@@ -3,15 +3,6 @@ use Rattle.work.specs.Decides.{decisions}
 use borrow.Author.Needs.{needs}
 use Rattle.decide.proofs.read_tree.Statement.{statement}
 use Rattle.decide.proofs.read_tree.Tie as tie
-use Rattle.decide.proofs.read_tree.Reads as reads
-use Rattle.decide.proofs.read_tree.Lts as lts
-use Rattle.asps.proofs.down_work.Reads as down-work-reads
-use Rattle.asps.proofs.up_work.Reads as up-work-reads
-use Rattle.links.proofs.class_six.Reads as class-six-reads
-use Rattle.traffic.proofs.traffic_work.Reads as traffic-work-reads
-use Rattle.work.proofs.error.Reads as error-reads
-use Rattle.work.proofs.nothing.Reads as nothing-reads
-use Rattle.work.proofs.reply.Reads as reply-reads
 
 mul-t : tie.Need-mul-t
 mul-t c = search needs

@@ -3,11 +3,6 @@ use Rattle.work.specs.Decides.{decided, by-eq, by-ne}
 use borrow.Author.Needs.{needs}
 use Rattle.decide.proofs.read_work.Statement.{statement}
 use Rattle.decide.proofs.read_work.Tie as tie
-use Rattle.decide.proofs.read_work.Reads as reads
-use Rattle.decide.proofs.read_work.Lts as lts
-use Rattle.decide.proofs.from_asp.Reads as from-asp-reads
-use Rattle.decide.proofs.read_tree.Reads as read-tree-reads
-use Rattle.work.proofs.error.Reads as error-reads
 
 from-asp-requires : tie.Need-from-asp-requires
 from-asp-requires c κs = search needs

@@ -4,10 +4,6 @@ use Rattle.rules.specs.Identifiers.{linkOf}
 use borrow.Author.Needs.{needs}
 use Rattle.links.proofs.class_six.Statement.{statement}
 use Rattle.links.proofs.class_six.Tie as tie
-use Rattle.links.proofs.class_six.Reads as reads
-use Rattle.links.proofs.class_six.Lts as lts
-use Rattle.links.proofs.six_at.Reads as six-at-reads
-use Rattle.lookup.proofs.index_of.Reads as index-of-reads
 
 index-of-requires : tie.Need-index-of-requires
 index-of-requires c κs = search needs

@@ -3,11 +3,6 @@ use Rattle.work.specs.Decides.{decisions}
 use borrow.Author.Needs.{needs}
 use Rattle.links.proofs.data_tree.Statement.{statement}
 use Rattle.links.proofs.data_tree.Tie as tie
-use Rattle.links.proofs.data_tree.Reads as reads
-use Rattle.links.proofs.data_tree.Lts as lts
-use Rattle.links.proofs.order_and_reply.Reads as order-and-reply-reads
-use Rattle.work.proofs.error.Reads as error-reads
-use Rattle.work.proofs.order.Reads as order-reads
 
 order-and-reply-requires : tie.Need-order-and-reply-requires
 order-and-reply-requires c κs = search needs

@@ -2,9 +2,6 @@ use Rattle.links.specs.Six.{data-tree}
 use borrow.Author.Needs.{needs}
 use Rattle.links.proofs.data_work.Statement.{statement}
 use Rattle.links.proofs.data_work.Tie as tie
-use Rattle.links.proofs.data_work.Reads as reads
-use Rattle.links.proofs.data_work.Lts as lts
-use Rattle.links.proofs.data_tree.Reads as data-tree-reads
 
 data-tree-requires : tie.Need-data-tree-requires
 data-tree-requires c κs = search needs

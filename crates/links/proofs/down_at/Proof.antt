@@ -2,10 +2,6 @@ use Rattle.work.specs.Decides.{decisions}
 use borrow.Author.Needs.{needs}
 use Rattle.links.proofs.down_at.Statement.{statement}
 use Rattle.links.proofs.down_at.Tie as tie
-use Rattle.links.proofs.down_at.Reads as reads
-use Rattle.links.proofs.down_at.Lts as lts
-use Rattle.work.proofs.nothing.Reads as nothing-reads
-use Rattle.work.proofs.turn_spread.Reads as turn-spread-reads
 
 nothing-requires : tie.Need-nothing-requires
 nothing-requires c κs = search needs

@@ -1,8 +1,6 @@
 use Rattle.laws.specs.Choice.{choices}
 use Rattle.links.proofs.down_type.Statement.{statement}
 use Rattle.links.proofs.down_type.Tie as tie
-use Rattle.links.proofs.down_type.Reads as reads
-use Rattle.links.proofs.down_type.Lts as lts
 
 returns : tie.Need-returns
 returns c = search choices depth 5

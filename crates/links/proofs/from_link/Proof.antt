@@ -2,8 +2,6 @@ use Rattle.rules.specs.Rules.{fromLink}
 use mathlib.Core.Path.{refl}
 use Rattle.links.proofs.from_link.Statement.{statement}
 use Rattle.links.proofs.from_link.Tie as tie
-use Rattle.links.proofs.from_link.Reads as reads
-use Rattle.links.proofs.from_link.Lts as lts
 
 returns : tie.Need-returns
 unfolding fromLink

@@ -2,10 +2,6 @@ use Rattle.links.specs.Side.{passes}
 use borrow.Author.Needs.{needs}
 use Rattle.links.proofs.is_in_plan.Statement.{statement}
 use Rattle.links.proofs.is_in_plan.Tie as tie
-use Rattle.links.proofs.is_in_plan.Reads as reads
-use Rattle.links.proofs.is_in_plan.Lts as lts
-use Rattle.links.proofs.from_link.Reads as from-link-reads
-use Rattle.lookup.proofs.is_known.Reads as is-known-reads
 
 from-link-requires : tie.Need-from-link-requires
 from-link-requires c κs = search needs

@@ -4,11 +4,6 @@ use Rattle.ranges.specs.Laws.{owner-small}
 use borrow.Author.Needs.{needs}
 use Rattle.links.proofs.link_down.Statement.{statement}
 use Rattle.links.proofs.link_down.Tie as tie
-use Rattle.links.proofs.link_down.Reads as reads
-use Rattle.links.proofs.link_down.Lts as lts
-use Rattle.links.proofs.down_at.Reads as down-at-reads
-use Rattle.links.proofs.down_type.Reads as down-type-reads
-use Rattle.lookup.proofs.recipients.Reads as recipients-reads
 
 element-copy-out-a : tie.Need-element-copy-out-a
 element-copy-out-a c = search needs

@@ -5,10 +5,6 @@ use borrow.Author.Tests.{ltb-true}
 use borrow.Author.Needs.{needs}
 use Rattle.links.proofs.link_message.Statement.{statement}
 use Rattle.links.proofs.link_message.Tie as tie
-use Rattle.links.proofs.link_message.Reads as reads
-use Rattle.links.proofs.link_message.Lts as lts
-use Rattle.links.proofs.message_at.Reads as message-at-reads
-use Rattle.lookup.proofs.index_of.Reads as index-of-reads
 
 index-of-requires : tie.Need-index-of-requires
 index-of-requires c κs = search needs

@@ -4,10 +4,6 @@ use Rattle.ranges.specs.Laws.{owner-small}
 use borrow.Author.Needs.{needs}
 use Rattle.links.proofs.link_up.Statement.{statement}
 use Rattle.links.proofs.link_up.Tie as tie
-use Rattle.links.proofs.link_up.Reads as reads
-use Rattle.links.proofs.link_up.Lts as lts
-use Rattle.links.proofs.up_at.Reads as up-at-reads
-use Rattle.lookup.proofs.recipients.Reads as recipients-reads
 
 element-copy-out-a : tie.Need-element-copy-out-a
 element-copy-out-a c = search needs

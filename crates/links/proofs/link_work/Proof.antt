@@ -3,13 +3,6 @@ use Rattle.work.specs.Decides.{decisions}
 use borrow.Author.Needs.{needs}
 use Rattle.links.proofs.link_work.Statement.{statement}
 use Rattle.links.proofs.link_work.Tie as tie
-use Rattle.links.proofs.link_work.Reads as reads
-use Rattle.links.proofs.link_work.Lts as lts
-use Rattle.links.proofs.data_work.Reads as data-work-reads
-use Rattle.links.proofs.establish_work.Reads as establish-work-reads
-use Rattle.links.proofs.release_work.Reads as release-work-reads
-use Rattle.work.proofs.nothing.Reads as nothing-reads
-use Rattle.work.proofs.order.Reads as order-reads
 
 data-work-requires : tie.Need-data-work-requires
 data-work-requires c κs = search needs

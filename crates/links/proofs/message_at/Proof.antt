@@ -4,10 +4,6 @@ use Rattle.ranges.specs.Laws.{owner-small}
 use borrow.Author.Needs.{needs}
 use Rattle.links.proofs.message_at.Statement.{statement}
 use Rattle.links.proofs.message_at.Tie as tie
-use Rattle.links.proofs.message_at.Reads as reads
-use Rattle.links.proofs.message_at.Lts as lts
-use Rattle.lookup.proofs.recipients.Reads as recipients-reads
-use Rattle.work.proofs.spread.Reads as spread-reads
 
 element-copy-out-a : tie.Need-element-copy-out-a
 element-copy-out-a c = search needs

@@ -1,11 +1,6 @@
 use borrow.Author.Needs.{needs}
 use Rattle.links.proofs.order_and_reply.Statement.{statement}
 use Rattle.links.proofs.order_and_reply.Tie as tie
-use Rattle.links.proofs.order_and_reply.Reads as reads
-use Rattle.links.proofs.order_and_reply.Lts as lts
-use Rattle.work.proofs.say_two.Reads as say-two-reads
-use Rattle.work.proofs.to_asp.Reads as to-asp-reads
-use Rattle.work.proofs.to_link.Reads as to-link-reads
 
 to-link-requires : tie.Need-to-link-requires
 to-link-requires c κs = search needs

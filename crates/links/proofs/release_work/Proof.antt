@@ -3,11 +3,6 @@ use Rattle.work.specs.Decides.{decisions}
 use borrow.Author.Needs.{needs}
 use Rattle.links.proofs.release_work.Statement.{statement}
 use Rattle.links.proofs.release_work.Tie as tie
-use Rattle.links.proofs.release_work.Reads as reads
-use Rattle.links.proofs.release_work.Lts as lts
-use Rattle.work.proofs.nothing.Reads as nothing-reads
-use Rattle.work.proofs.reply.Reads as reply-reads
-use Rattle.work.proofs.turn_order.Reads as turn-order-reads
 
 reply-requires : tie.Need-reply-requires
 reply-requires c κs = search needs

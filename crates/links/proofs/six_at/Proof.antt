@@ -5,11 +5,6 @@ use Rattle.ranges.specs.Laws.{owner-small}
 use borrow.Author.Needs.{needs}
 use Rattle.links.proofs.six_at.Statement.{statement}
 use Rattle.links.proofs.six_at.Tie as tie
-use Rattle.links.proofs.six_at.Reads as reads
-use Rattle.links.proofs.six_at.Lts as lts
-use Rattle.links.proofs.link_work.Reads as link-work-reads
-use Rattle.work.proofs.error.Reads as error-reads
-use Rattle.work.proofs.error_two.Reads as error-two-reads
 
 element-copy-out-if1 : tie.Need-element-copy-out-if1
 element-copy-out-if1 c = search needs

@@ -2,10 +2,6 @@ use Rattle.work.specs.Decides.{decisions}
 use borrow.Author.Needs.{needs}
 use Rattle.links.proofs.up_at.Statement.{statement}
 use Rattle.links.proofs.up_at.Tie as tie
-use Rattle.links.proofs.up_at.Reads as reads
-use Rattle.links.proofs.up_at.Lts as lts
-use Rattle.work.proofs.nothing.Reads as nothing-reads
-use Rattle.work.proofs.turn_spread.Reads as turn-spread-reads
 
 turn-spread-requires : tie.Need-turn-spread-requires
 turn-spread-requires c κs = search needs

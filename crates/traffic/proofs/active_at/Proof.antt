@@ -2,11 +2,6 @@ use Rattle.work.specs.Decides.{decisions, by-no}
 use borrow.Author.Needs.{needs}
 use Rattle.traffic.proofs.active_at.Statement.{statement}
 use Rattle.traffic.proofs.active_at.Tie as tie
-use Rattle.traffic.proofs.active_at.Reads as reads
-use Rattle.traffic.proofs.active_at.Lts as lts
-use Rattle.work.proofs.change_one.Reads as change-one-reads
-use Rattle.work.proofs.error.Reads as error-reads
-use Rattle.work.proofs.to_asp.Reads as to-asp-reads
 
 error-requires : tie.Need-error-requires
 error-requires c κs = search needs

@@ -2,10 +2,6 @@ use Rattle.rules.specs.Asp.{inactiveDeed}
 use borrow.Author.Needs.{needs}
 use Rattle.traffic.proofs.inactive_work.Statement.{statement}
 use Rattle.traffic.proofs.inactive_work.Tie as tie
-use Rattle.traffic.proofs.inactive_work.Reads as reads
-use Rattle.traffic.proofs.inactive_work.Lts as lts
-use Rattle.work.proofs.change_one.Reads as change-one-reads
-use Rattle.work.proofs.to_asp.Reads as to-asp-reads
 
 to-asp-requires : tie.Need-to-asp-requires
 to-asp-requires c κs = search needs

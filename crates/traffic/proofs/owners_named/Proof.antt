@@ -12,10 +12,6 @@ use native.Mathlib.Omega.{arith}
 use borrow.Author.Needs.{needs}
 use Rattle.traffic.proofs.owners_named.Statement.{statement}
 use Rattle.traffic.proofs.owners_named.Tie as tie
-use Rattle.traffic.proofs.owners_named.Reads as reads
-use Rattle.traffic.proofs.owners_named.Lts as lts
-use Rattle.traffic.proofs.owners_par.Reads as owners-par-reads
-use Rattle.wire.proofs.step_at.Reads as step-at-reads
 
 abbrev Inv-loop : tie.InvT-loop
 Inv-loop s links iid owner set₀ at₀ set at = Owners (trafficView links [] [] [] iid owner) (walk s at .pars) (walk s 8 .pars) set × Table iid owner links

@@ -3,9 +3,6 @@ use Rattle.laws.specs.Choice.{choices}
 use borrow.Author.Needs.{needs}
 use Rattle.traffic.proofs.owners_par.Statement.{statement}
 use Rattle.traffic.proofs.owners_par.Tie as tie
-use Rattle.traffic.proofs.owners_par.Reads as reads
-use Rattle.traffic.proofs.owners_par.Lts as lts
-use Rattle.ranges.proofs.owners_of.Reads as owners-of-reads
 
 owners-of-requires : tie.Need-owners-of-requires
 owners-of-requires c κs = search needs

@@ -13,10 +13,6 @@ use native.Mathlib.Omega.{arith}
 use borrow.Author.Needs.{needs}
 use Rattle.traffic.proofs.refused_of.Statement.{statement}
 use Rattle.traffic.proofs.refused_of.Tie as tie
-use Rattle.traffic.proofs.refused_of.Reads as reads
-use Rattle.traffic.proofs.refused_of.Lts as lts
-use Rattle.traffic.proofs.refused_par.Reads as refused-par-reads
-use Rattle.wire.proofs.step_at.Reads as step-at-reads
 
 abbrev Inv-loop : tie.InvT-loop
 Inv-loop s links member iid owner p at₀ at = (firstRefused (trafficView links [] member [] iid owner) p (walk s at .pars) ≡ firstRefused (trafficView links [] member [] iid owner) p (walk s 8 .pars)) × Table iid owner links × (p < 16)

@@ -3,9 +3,6 @@ use Rattle.laws.specs.Choice.{choices}
 use borrow.Author.Needs.{needs}
 use Rattle.traffic.proofs.refused_par.Statement.{statement}
 use Rattle.traffic.proofs.refused_par.Tie as tie
-use Rattle.traffic.proofs.refused_par.Reads as reads
-use Rattle.traffic.proofs.refused_par.Lts as lts
-use Rattle.ranges.proofs.first_refused.Reads as first-refused-reads
 
 first-refused-requires : tie.Need-first-refused-requires
 first-refused-requires c κs = search needs

@@ -8,9 +8,6 @@ use native.Mathlib.Omega.{arith}
 use borrow.Author.Needs.{needs}
 use Rattle.traffic.proofs.some_other.Statement.{statement}
 use Rattle.traffic.proofs.some_other.Tie as tie
-use Rattle.traffic.proofs.some_other.Reads as reads
-use Rattle.traffic.proofs.some_other.Lts as lts
-use Rattle.gateway.proofs.wide.Reads as wide-reads
 
 abbrev Inv-loop : tie.InvT-loop
 Inv-loop mode m named found₀ a₀ found a = (found ≡ anyBelow (λ i. at named i && not (eqb (col mode i) m)) a) × (a ≤ 16)

@@ -3,8 +3,6 @@ use borrow.Author.Needs.{needs}
 use mathlib.Core.Path.{refl}
 use Rattle.work.proofs.change_two.Statement.{statement}
 use Rattle.work.proofs.change_two.Tie as tie
-use Rattle.work.proofs.change_two.Reads as reads
-use Rattle.work.proofs.change_two.Lts as lts
 
 returns : tie.Need-returns
 unfolding deedIn given

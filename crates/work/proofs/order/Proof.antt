@@ -1,10 +1,6 @@
 use borrow.Author.Needs.{needs}
 use Rattle.work.proofs.order.Statement.{statement}
 use Rattle.work.proofs.order.Tie as tie
-use Rattle.work.proofs.order.Reads as reads
-use Rattle.work.proofs.order.Lts as lts
-use Rattle.work.proofs.say_one.Reads as say-one-reads
-use Rattle.work.proofs.to_link.Reads as to-link-reads
 
 to-link-requires : tie.Need-to-link-requires
 to-link-requires c κs = search needs

@@ -1,10 +1,6 @@
 use borrow.Author.Needs.{needs}
 use Rattle.work.proofs.reply.Statement.{statement}
 use Rattle.work.proofs.reply.Tie as tie
-use Rattle.work.proofs.reply.Reads as reads
-use Rattle.work.proofs.reply.Lts as lts
-use Rattle.work.proofs.say_one.Reads as say-one-reads
-use Rattle.work.proofs.to_asp.Reads as to-asp-reads
 
 to-asp-requires : tie.Need-to-asp-requires
 to-asp-requires c κs = search needs

@@ -1,10 +1,6 @@
 use borrow.Author.Needs.{needs}
 use Rattle.work.proofs.turn_order.Statement.{statement}
 use Rattle.work.proofs.turn_order.Tie as tie
-use Rattle.work.proofs.turn_order.Reads as reads
-use Rattle.work.proofs.turn_order.Lts as lts
-use Rattle.work.proofs.to_link.Reads as to-link-reads
-use Rattle.work.proofs.turn_one.Reads as turn-one-reads
 
 to-link-requires : tie.Need-to-link-requires
 to-link-requires c κs = search needs
