@@ -1,7 +1,9 @@
-// Links the archive that `rt staticlib host` writes.
+// Links the archives that `rt staticlib host` and `rt staticlib host_events` write.
 fn main() {
     let dir = concat!(env!("CARGO_MANIFEST_DIR"), "/../target/staticlib");
     println!("cargo:rustc-link-search=native={dir}");
     println!("cargo:rustc-link-lib=static=host");
+    println!("cargo:rustc-link-lib=static=host_events");
     println!("cargo:rerun-if-changed={dir}/libhost.a");
+    println!("cargo:rerun-if-changed={dir}/libhost_events.a");
 }

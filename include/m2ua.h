@@ -1,4 +1,5 @@
-/* The M2UA gateway library: the entries that `rt staticlib host` exports (crates/host). Link target/staticlib/libhost.a.
+/* The M2UA gateway library: the entries that `rt staticlib host` and `rt staticlib host_events` export (crates/host, crates/host_events). Link
+ * target/staticlib/libhost.a and libhost_events.a.
  * Nothing checks this header against the Rattle source; examples/c tries each entry. */
 #ifndef M2UA_H
 #define M2UA_H

@@ -1,20 +1,16 @@
-// The public entries over the C ABI, for hosts in C and Rust (include/m2ua.h). Thin: each calls the entry of its name and promises the same.
+// The public entries for messages and plans over the C ABI, for hosts in C and Rust (include/m2ua.h). Thin: each calls the entry of its name and
+// promises the same. (The events are in host_events: in one archive with them the reader would not be compiled into its one caller.)
 // A slice is passed as a pointer and a length, a struct by value.
 use config::Loaded;
 use encode::Written;
-use events::Node;
 use gateway::Gateway;
 use message::Reading;
-use rules::Outcome;
 ghost use mathlib.Core.Path.{_≡_};
 ghost use mathlib.Core.Bool.{cond};
 ghost use Rattle.message.specs.Meaning.{readingOf};
 ghost use Rattle.config.specs.Plan.{loadOf};
 ghost use Rattle.gateway.specs.Sound.{consistent};
 ghost use Rattle.encode.specs.Write.{Writes};
-ghost use Rattle.rules.specs.Event.{message, lost, recovery, linkUp, linkDown, linkMessage};
-ghost use Rattle.rules.specs.Entry.{Handed};
-ghost use Rattle.events.specs.Perform.{event};
 
 fn flag(b: bool) -> u32
     ensures { λ r. ⌜ r ≡ cond b 1 0 ⌝ }
@@ -59,52 +55,4 @@ pub extern "C" fn m2ua_is_consistent(g: Gateway) -> u32
     ensures { λ r. ⌜ r ≡ cond (consistent g) 1 0 ⌝ }
 {
     flag(g.is_consistent())
-}
-
-// A message of ASP p.
-#[no_mangle]
-pub extern "C" fn m2ua_message(g: Gateway, p: usize, msg: &[u8], words: &mut [u32]) -> Outcome
-    ensures { λ r. ⌜ Handed g (event (message p (now (msg .entry))) (now (words .entry))) (now (words .entry)) (now (words .exit)) r ⌝ }
-{
-    Node { gateway: g }.message(p, msg, words)
-}
-
-// The association of ASP p is lost.
-#[no_mangle]
-pub extern "C" fn m2ua_lost(g: Gateway, p: usize, words: &mut [u32]) -> Outcome
-    ensures { λ r. ⌜ Handed g (event (lost p) (now (words .entry))) (now (words .entry)) (now (words .exit)) r ⌝ }
-{
-    Node { gateway: g }.lost(p, words)
-}
-
-// The recovery time of AS a is over.
-#[no_mangle]
-pub extern "C" fn m2ua_recovery(g: Gateway, a: usize, words: &mut [u32]) -> Outcome
-    ensures { λ r. ⌜ Handed g (event (recovery a) (now (words .entry))) (now (words .entry)) (now (words .exit)) r ⌝ }
-{
-    Node { gateway: g }.recovery(a, words)
-}
-
-// The link at index l is up.
-#[no_mangle]
-pub extern "C" fn m2ua_link_up(g: Gateway, l: usize, words: &mut [u32]) -> Outcome
-    ensures { λ r. ⌜ Handed g (event (linkUp l) (now (words .entry))) (now (words .entry)) (now (words .exit)) r ⌝ }
-{
-    Node { gateway: g }.link_up(l, words)
-}
-
-// The link at index l is down.
-#[no_mangle]
-pub extern "C" fn m2ua_link_down(g: Gateway, l: usize, words: &mut [u32]) -> Outcome
-    ensures { λ r. ⌜ Handed g (event (linkDown l) (now (words .entry))) (now (words .entry)) (now (words .exit)) r ⌝ }
-{
-    Node { gateway: g }.link_down(l, words)
-}
-
-// A message of the link side.
-#[no_mangle]
-pub extern "C" fn m2ua_link_message(g: Gateway, msg: &[u8], words: &mut [u32]) -> Outcome
-    ensures { λ r. ⌜ Handed g (event (linkMessage (now (msg .entry))) (now (words .entry))) (now (words .entry)) (now (words .exit)) r ⌝ }
-{
-    Node { gateway: g }.link_message(msg, words)
 }
