@@ -1,0 +1,121 @@
+//! The event lines of a generated script as calls of both libraries, the proved one and the second program.
+use crate::proved::{self, Outcome};
+use second::generate::{generate, Kind};
+use second::{Event, Gateway, Next};
+
+#[derive(Clone, Copy, Debug, PartialEq, Eq)]
+pub enum What {
+    Message,
+    Lost,
+    Recovery,
+    LinkUp,
+    LinkDown,
+    LinkMessage,
+}
+
+/// An event with its message and its list's length: what it keeps when it trades places.
+#[derive(Clone, Debug, PartialEq, Eq)]
+pub struct Call {
+    pub what: What,
+    pub index: u32,
+    pub message: Vec<u8>,
+    pub room: usize,
+}
+
+/// A line that matters here.
+pub enum Line {
+    Plan(Vec<u8>),
+    Call(Call),
+}
+
+fn hex(word: &str) -> Option<Vec<u8>> {
+    if word == "-" {
+        return Some(vec![]);
+    }
+    if word.len() % 2 != 0 {
+        return None;
+    }
+    (0..word.len() / 2)
+        .map(|i| u8::from_str_radix(&word[2 * i..2 * i + 2], 16).ok())
+        .collect()
+}
+
+/// A plan or an event; nothing for other lines and for malformed ones, which the scripts compare.
+pub fn line(text: &str) -> Option<Line> {
+    let words: Vec<&str> = text.split(' ').collect();
+    let (what, index, room, message) = match words[..] {
+        ["plan", file] => return hex(file).map(Line::Plan),
+        ["msg", p, room, message] => (What::Message, p, room, message),
+        ["lost", p, room] => (What::Lost, p, room, "-"),
+        ["recovery", a, room] => (What::Recovery, a, room, "-"),
+        ["up", l, room] => (What::LinkUp, l, room, "-"),
+        ["down", l, room] => (What::LinkDown, l, room, "-"),
+        ["linkmsg", room, message] => (What::LinkMessage, "0", room, message),
+        _ => return None,
+    };
+    Some(Line::Call(Call {
+        what,
+        index: index.parse().ok()?,
+        message: hex(message)?,
+        // as the scripts have it: at most 2,048 words are lent
+        room: (room.parse::<u32>().ok()? as usize).min(2048),
+    }))
+}
+
+/// The plans and events of a generated script.
+pub fn generated(seed: u64, lines: u64) -> Vec<Line> {
+    let mut found = vec![];
+    let mut keep = |text: &[u8]| {
+        found.extend(line(&String::from_utf8_lossy(text)));
+        Ok(())
+    };
+    generate(seed, lines, Kind::Event, &mut keep).expect("a script");
+    found
+}
+
+impl Call {
+    pub fn event(&self) -> Event<'_> {
+        let (index, message) = (self.index, &self.message[..]);
+        match self.what {
+            What::Message => Event::Message {
+                asp: index,
+                message,
+            },
+            What::Lost => Event::Lost { asp: index },
+            What::Recovery => Event::Recovery { server: index },
+            What::LinkUp => Event::LinkUp { link: index },
+            What::LinkDown => Event::LinkDown { link: index },
+            What::LinkMessage => Event::LinkMessage { message },
+        }
+    }
+
+    /// The controller whose event it is.
+    pub fn controller(&self) -> Option<u32> {
+        matches!(self.what, What::Message | What::Lost).then_some(self.index)
+    }
+
+    /// A lent list with leftovers, which must stay behind the orders.
+    pub fn list(&self) -> Vec<u32> {
+        (0..self.room as u32)
+            .map(|i| i.wrapping_mul(0x9e37_79b9))
+            .collect()
+    }
+
+    /// The call of the proved library.
+    pub fn proved(&self, state: Gateway, list: &mut [u32]) -> Outcome {
+        let index = self.index as usize;
+        match self.what {
+            What::Message => proved::message(state, index, &self.message, list),
+            What::Lost => proved::lost(state, index, list),
+            What::Recovery => proved::recovery(state, index, list),
+            What::LinkUp => proved::link_up(state, index, list),
+            What::LinkDown => proved::link_down(state, index, list),
+            What::LinkMessage => proved::link_message(state, &self.message, list),
+        }
+    }
+
+    /// The call of the second program.
+    pub fn second(&self, state: Gateway, list: &mut [u32]) -> Next {
+        state.event(self.event(), list)
+    }
+}
