@@ -20,7 +20,7 @@ ghost use Rattle.work.specs.Decides.{Decides};
 ghost use Rattle.asps.specs.View.{aspView};
 
 // AS a alone.
-fn only(a: usize) -> [bool; 16]
+pub fn only(a: usize) -> [bool; 16]
     ensures { λ r. ⌜ r ≡ tab 16 (λ c. eqb c a) ⌝ }
 {
     let mut r = [false; 16];

@@ -9,7 +9,7 @@ ghost use Rattle.work.specs.Decides.{Decides};
 ghost use Rattle.decide.specs.View.{view, readTree, messageTree};
 
 // "Bytes 2 and 3, from 0, both 0 in 4 or more bytes (an Error)"
-fn is_error(s: &[u8]) -> bool
+pub fn is_error(s: &[u8]) -> bool
     ensures { λ r. ⌜ r ≡ isError (now (s .entry)) ⌝ }
 {
     if s.len() < 4 {
