@@ -9,6 +9,7 @@ use eventline::event_of;
 use eventline::is_event;
 use eventline::lent;
 use eventline::put_outcome;
+use eventline::put_reached;
 use gateway::Gateway;
 use gateway::wide;
 use rules::Outcome;
@@ -36,6 +37,7 @@ pub enum Command {
     State,
     Write,
     Event,
+    Reach,
     Other,
 }
 
@@ -72,6 +74,9 @@ fn command_of(line: &[u8]) -> Command {
     }
     if is_event(line) {
         return Command::Event;
+    }
+    if is(name, b"reach") {
+        return Command::Reach;
     }
     Command::Other
 }
@@ -285,6 +290,31 @@ fn event(line: &[u8], bytes: &mut [u8; 32768], out: &mut [u8; 65536], s: State) 
     happen(e, bytes, out, s)
 }
 
+// ---- `reach` with one of these lines
+
+// The ASes that an event reaches; the gateway stays as it is.
+fn show_reach(e: Event, bytes: &[u8; 32768], out: &mut [u8; 65536], s: State) -> State
+    requires { ⌜ s .used + 17000 ≤ 65536 ⌝ }
+    ensures { λ r. ⌜ r .used ≤ s .used + 17000 ⌝ }
+{
+    let room = lent(e.words);
+    let kind = e.kind;
+    let g = s.gateway;
+    let row = eventrun::reached_by(kind, e.index, first(bytes, e.size), room, g);
+    at(s, put_reached(out, s.used, &row))
+}
+
+fn reach(rest: &[u8], bytes: &mut [u8; 32768], out: &mut [u8; 65536], s: State) -> State
+    requires { ⌜ (s .used + 17000 ≤ 65536) × (length (now rest) ≤ 65535) ⌝ }
+    ensures { λ r. ⌜ r .used ≤ s .used + 17000 ⌝ }
+{
+    let parsed = event_of(rest, bytes);
+    let Parsed::Line(e) = parsed else {
+        return bad(out, s);
+    };
+    show_reach(e, bytes, out, s)
+}
+
 // ---- Lines
 
 // The answer to a line of a command.
@@ -303,6 +333,7 @@ fn answer(
         Command::State => show_state(out, s),
         Command::Write => write(rest_of(line), bytes, out, s),
         Command::Event => event(line, bytes, out, s),
+        Command::Reach => reach(rest_of(line), bytes, out, s),
         Command::Other => bad(out, s),
     }
 }
