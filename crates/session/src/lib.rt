@@ -246,7 +246,7 @@ fn write(rest: &[u8], bytes: &mut [u8; 32768], out: &mut [u8; 65536], s: State) 
 
 // ---- `msg`, `lost`, `recovery`, `up`, `down`, `linkmsg`
 
-// The count as it is written. More than 258 is never written.
+// The count as a number of 32 bits. The entries never count more than 258.
 fn count_of(n: usize) -> u32 {
     if n > 258 {
         return 0;
