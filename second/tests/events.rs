@@ -848,9 +848,15 @@ fn generated_histories() {
     let mut notified = BTreeSet::new();
     let mut states: BTreeSet<u8> = BTreeSet::new();
     let mut modes: BTreeSet<u8> = BTreeSet::new();
-    for seed in 1..=4 {
+    let scripts = [
+        (1, Kind::Event),
+        (2, Kind::Event),
+        (3, Kind::Bytes),
+        (4, Kind::Bytes),
+    ];
+    for (seed, kind) in scripts {
         let mut session = Session::new();
-        generate(seed, 10_000, Kind::Event, &mut |line| {
+        generate(seed, 10_000, kind, &mut |line| {
             chars += line.len() + 1;
             let before = *session.gateway();
             let mut out = Vec::new();

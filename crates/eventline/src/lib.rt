@@ -21,15 +21,20 @@ pub enum Kind {
     LinkUp,
     LinkDown,
     LinkMessage,
-    NoKind,
+}
+
+// What a name says.
+enum Named {
+    Event(Kind),
+    NoEvent,
 }
 
 // What an event line says. The index is that of an ASP, an AS or a link place, and 0 for a message of the link side; a message stands in the first bytes of
-// the buffer, `size` of them; `words` is the length of the lent list.
+// the buffer, `size` of them; `words` is the length of the lent list as it is written.
 pub struct Event {
     pub kind: Kind,
     pub index: u32,
-    pub words: usize,
+    pub words: u32,
     pub size: usize,
 }
 
@@ -40,35 +45,46 @@ pub enum Parsed {
 
 // ---- Reading
 
-fn kind_of(name: &[u8]) -> Kind {
+fn kind_of(name: &[u8]) -> Named {
     if is(name, b"msg") {
-        return Kind::Message;
+        return Named::Event(Kind::Message);
     }
     if is(name, b"lost") {
-        return Kind::Lost;
+        return Named::Event(Kind::Lost);
     }
     if is(name, b"recovery") {
-        return Kind::Recovery;
+        return Named::Event(Kind::Recovery);
     }
     if is(name, b"up") {
-        return Kind::LinkUp;
+        return Named::Event(Kind::LinkUp);
     }
     if is(name, b"down") {
-        return Kind::LinkDown;
+        return Named::Event(Kind::LinkDown);
     }
     if is(name, b"linkmsg") {
-        return Kind::LinkMessage;
+        return Named::Event(Kind::LinkMessage);
     }
-    Kind::NoKind
+    Named::NoEvent
 }
 
-// The length of the lent list: at most 2,048 words.
-fn words_of(n: u32) -> usize {
+// Whether a line begins as an event's.
+pub fn is_event(line: &[u8]) -> bool {
+    let named = kind_of(word_of(line));
+    if let Named::NoEvent = named {
+        return false;
+    }
+    true
+}
+
+// The words that are lent to an event: at most 2,048.
+pub fn lent(n: u32) -> usize
+    ensures { λ r. ⌜ r ≤ 2048 ⌝ }
+{
     if n < 2048 { n as usize } else { 2048 }
 }
 
 // `HEX`, the last word.
-fn message_of(kind: Kind, index: u32, words: usize, hex: &[u8], bytes: &mut [u8; 32768]) -> Parsed
+fn message_of(kind: Kind, index: u32, words: u32, hex: &[u8], bytes: &mut [u8; 32768]) -> Parsed
     requires { ⌜ length (now hex) ≤ 65535 ⌝ }
 {
     let size = bytes_of(hex, bytes);
@@ -91,7 +107,7 @@ fn listed(kind: Kind, index: u32, rest: &[u8], bytes: &mut [u8; 32768]) -> Parse
     let Number::Value(n) = number else {
         return Parsed::NoEvent;
     };
-    message_of(kind, index, words_of(n), rest_of(rest), bytes)
+    message_of(kind, index, n, rest_of(rest), bytes)
 }
 
 // `LISTLEN`, the last word.
@@ -100,11 +116,10 @@ fn plain(kind: Kind, index: u32, rest: &[u8]) -> Parsed {
     let Number::Value(n) = number else {
         return Parsed::NoEvent;
     };
-    let words = words_of(n);
     Parsed::Line(Event {
         kind,
         index,
-        words,
+        words: n,
         size: 0,
     })
 }
@@ -144,7 +159,6 @@ fn line_of(kind: Kind, rest: &[u8], bytes: &mut [u8; 32768]) -> Parsed
         Kind::LinkUp => plain_line(Kind::LinkUp, rest),
         Kind::LinkDown => plain_line(Kind::LinkDown, rest),
         Kind::LinkMessage => listed(Kind::LinkMessage, 0, rest, bytes),
-        Kind::NoKind => Parsed::NoEvent,
     }
 }
 
@@ -152,7 +166,11 @@ fn line_of(kind: Kind, rest: &[u8], bytes: &mut [u8; 32768]) -> Parsed
 pub fn event_of(line: &[u8], bytes: &mut [u8; 32768]) -> Parsed
     requires { ⌜ length (now line) ≤ 65535 ⌝ }
 {
-    line_of(kind_of(word_of(line)), rest_of(line), bytes)
+    let named = kind_of(word_of(line));
+    let Named::Event(kind) = named else {
+        return Parsed::NoEvent;
+    };
+    line_of(kind, rest_of(line), bytes)
 }
 
 // ---- Writing

@@ -3,8 +3,16 @@
 // A further command is a case of `Command`, a line of `command_of`, an arm of `answer` and a
 // function of its own, which writes at most 17,000 characters and hands the next state back.
 use config::Loaded;
+use eventline::Event;
+use eventline::Parsed;
+use eventline::event_of;
+use eventline::is_event;
+use eventline::lent;
+use eventline::put_outcome;
+use eventline::put_reached;
 use gateway::Gateway;
 use gateway::wide;
+use rules::Outcome;
 use text::Size;
 use text::bytes_of;
 use text::first;
@@ -28,6 +36,8 @@ pub enum Command {
     Plan,
     State,
     Write,
+    Event,
+    Reach,
     Other,
 }
 
@@ -61,6 +71,12 @@ fn command_of(line: &[u8]) -> Command {
     }
     if is(line, b"state") {
         return Command::State;
+    }
+    if is_event(line) {
+        return Command::Event;
+    }
+    if is(name, b"reach") {
+        return Command::Reach;
     }
     Command::Other
 }
@@ -228,6 +244,77 @@ fn write(rest: &[u8], bytes: &mut [u8; 32768], out: &mut [u8; 65536], s: State) 
     at(s, writing::put_message(rest, bytes, out, s.used))
 }
 
+// ---- `msg`, `lost`, `recovery`, `up`, `down`, `linkmsg`
+
+// The count as a number of 32 bits. The entries never count more than 258.
+fn count_of(n: usize) -> u32 {
+    if n > 258 {
+        return 0;
+    }
+    n as u32
+}
+
+// The text of an outcome; its gateway becomes the current one.
+fn told(o: Outcome, list: &[u32; 2048], out: &mut [u8; 65536], used: usize) -> State
+    requires { ⌜ used + 17000 ≤ 65536 ⌝ }
+    ensures { λ r. ⌜ r .used ≤ used + 17000 ⌝ }
+{
+    let next = put_outcome(out, used, o.refusal, count_of(o.count), list);
+    let gateway = o.gateway;
+    State {
+        used: next,
+        gateway: gateway,
+    }
+}
+
+fn happen(e: Event, bytes: &[u8; 32768], out: &mut [u8; 65536], s: State) -> State
+    requires { ⌜ s .used + 17000 ≤ 65536 ⌝ }
+    ensures { λ r. ⌜ r .used ≤ s .used + 17000 ⌝ }
+{
+    let mut list = [0u32; 2048];
+    let n = lent(e.words);
+    let kind = e.kind;
+    let g = s.gateway;
+    let o = eventrun::happen(kind, e.index, first(bytes, e.size), &mut list[..n], g);
+    told(o, &list, out, s.used)
+}
+
+fn event(line: &[u8], bytes: &mut [u8; 32768], out: &mut [u8; 65536], s: State) -> State
+    requires { ⌜ (s .used + 17000 ≤ 65536) × (length (now line) ≤ 65535) ⌝ }
+    ensures { λ r. ⌜ r .used ≤ s .used + 17000 ⌝ }
+{
+    let parsed = event_of(line, bytes);
+    let Parsed::Line(e) = parsed else {
+        return bad(out, s);
+    };
+    happen(e, bytes, out, s)
+}
+
+// ---- `reach` with one of these lines
+
+// The ASes that an event reaches; the gateway stays as it is.
+fn show_reach(e: Event, bytes: &[u8; 32768], out: &mut [u8; 65536], s: State) -> State
+    requires { ⌜ s .used + 17000 ≤ 65536 ⌝ }
+    ensures { λ r. ⌜ r .used ≤ s .used + 17000 ⌝ }
+{
+    let room = lent(e.words);
+    let kind = e.kind;
+    let g = s.gateway;
+    let row = eventrun::reached_by(kind, e.index, first(bytes, e.size), room, g);
+    at(s, put_reached(out, s.used, &row))
+}
+
+fn reach(rest: &[u8], bytes: &mut [u8; 32768], out: &mut [u8; 65536], s: State) -> State
+    requires { ⌜ (s .used + 17000 ≤ 65536) × (length (now rest) ≤ 65535) ⌝ }
+    ensures { λ r. ⌜ r .used ≤ s .used + 17000 ⌝ }
+{
+    let parsed = event_of(rest, bytes);
+    let Parsed::Line(e) = parsed else {
+        return bad(out, s);
+    };
+    show_reach(e, bytes, out, s)
+}
+
 // ---- Lines
 
 // The answer to a line of a command.
@@ -245,6 +332,8 @@ fn answer(
         Command::Plan => plan(rest_of(line), bytes, out, s),
         Command::State => show_state(out, s),
         Command::Write => write(rest_of(line), bytes, out, s),
+        Command::Event => event(line, bytes, out, s),
+        Command::Reach => reach(rest_of(line), bytes, out, s),
         Command::Other => bad(out, s),
     }
 }

@@ -1,4 +1,5 @@
-//! Lines of the kind `event`: long histories, each over one board.
+//! Lines of the kinds `event` and `bytes`: long histories, each over one
+//! board.
 
 use super::message::{self, Message, Piece};
 use super::plans::{self, Plan};
@@ -62,16 +63,19 @@ pub struct History {
     queue: VecDeque<Vec<u8>>,
     /// Events left on this board.
     left: u64,
+    /// Whether `bytes` lines are made.
+    bytes: bool,
     results: Vec<u8>,
 }
 
 impl History {
-    pub fn new() -> Self {
+    pub fn new(bytes: bool) -> Self {
         History {
             session: Session::new(),
             queue: VecDeque::new(),
             // A few events on the board of zeros come first.
             left: 3,
+            bytes,
             results: Vec::new(),
         }
     }
@@ -150,7 +154,7 @@ impl History {
         };
         match rng.below(10) {
             0 => line.extend_from_slice(b"reach "),
-            1 | 2 => put_bytes_command(rng, &gateway, &event, line),
+            1 | 2 if self.bytes => put_bytes_command(rng, &gateway, &event, line),
             _ => {}
         }
         event.put(list, line);
@@ -199,7 +203,7 @@ impl Made {
             }
             20..=29 => Made::LinkMessage(link_message(rng, gateway)),
             _ => {
-                let p = index(rng, gateway.asps);
+                let p = sender(rng, gateway);
                 Made::Message(p, asp_message(rng, gateway, p))
             }
         }
@@ -275,6 +279,18 @@ fn index(rng: &mut Rng, count: u8) -> u32 {
     rng.below(count as u64) as u32
 }
 
+/// Mostly an ASP that serves a link: others have little to say.
+fn sender(rng: &mut Rng, gateway: &Gateway) -> u32 {
+    for _ in 0..3 {
+        let p = index(rng, gateway.asps);
+        let mut links = 0..gateway.links as usize;
+        if links.any(|link| serves(gateway, p, link)) {
+            return p;
+        }
+    }
+    index(rng, gateway.asps)
+}
+
 /// Mostly an AS that waits, if there is one.
 fn waiting_server(rng: &mut Rng, gateway: &Gateway) -> u32 {
     let waiting = gateway.waiting.iter().enumerate();
@@ -305,7 +321,7 @@ fn link_in(rng: &mut Rng, gateway: &Gateway, state: u8) -> u32 {
 /// of any link, or unknown.
 fn identifier(rng: &mut Rng, gateway: &Gateway, tests: &[&dyn Fn(usize) -> bool]) -> u32 {
     let ids = gateway.link_ids();
-    match rng.below(40) {
+    match rng.below(90) {
         0 => return rng.word(),
         1 if !ids.is_empty() => return rng.pick(ids).wrapping_add(1),
         2 if !ids.is_empty() => return rng.pick(ids).wrapping_sub(1),

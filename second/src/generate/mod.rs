@@ -22,14 +22,16 @@ pub enum Kind {
     Write,
     /// `plan` and `state`.
     Plan,
-    /// The six events, `bytes`, `reach` and `state`.
+    /// The six events, `reach` and `state`.
     Event,
+    /// The same with `bytes`.
+    Bytes,
     /// Malformed lines of every sort, also with bytes that are no text.
     Bad,
 }
 
 impl Kind {
-    pub const NAMES: [&'static str; 5] = ["read", "write", "plan", "event", "bad"];
+    pub const NAMES: [&'static str; 6] = ["read", "write", "plan", "event", "bytes", "bad"];
 
     pub fn named(name: &str) -> Option<Kind> {
         match name {
@@ -37,6 +39,7 @@ impl Kind {
             "write" => Some(Kind::Write),
             "plan" => Some(Kind::Plan),
             "event" => Some(Kind::Event),
+            "bytes" => Some(Kind::Bytes),
             "bad" => Some(Kind::Bad),
             _ => None,
         }
@@ -51,7 +54,7 @@ pub fn generate(
     take: &mut dyn FnMut(&[u8]) -> io::Result<()>,
 ) -> io::Result<()> {
     let mut rng = Rng::new(seed);
-    let mut history = History::new();
+    let mut history = History::new(kind == Kind::Bytes);
     let mut line = Vec::new();
     for _ in 0..lines {
         line.clear();
@@ -59,7 +62,7 @@ pub fn generate(
             Kind::Read => reading::line(&mut rng, &mut line),
             Kind::Write => writing::line(&mut rng, &mut line),
             Kind::Plan => plans::line(&mut rng, &mut line),
-            Kind::Event => history.line(&mut rng, &mut line),
+            Kind::Event | Kind::Bytes => history.line(&mut rng, &mut line),
             Kind::Bad => malformed::any_line(&mut rng, &mut line),
         }
         take(&line)?;

@@ -1,0 +1,16 @@
+-- Which event of document 01 a script's event line says.
+-- Assumes nothing.
+use Prim.Native.Nat.{ℕ}
+use mathlib.Core.List.{List}
+use Rattle.eventline.specs.declared.Kind.{Kind as Name}
+use Rattle.eventline.specs.declared.Kind.the-variants.{Message, Lost, Recovery, LinkUp, LinkDown, LinkMessage}
+use Rattle.rules.specs.Event.{Kind, message, lost, recovery, linkUp, linkDown, linkMessage}
+
+-- `msg`, `lost`, `recovery`, `up`, `down`, `linkmsg`, with the line's index and message
+abbrev pub said : Name → ℕ → List ℕ → Kind
+said Message i msg = message i msg
+said Lost i msg = lost i
+said Recovery i msg = recovery i
+said LinkUp i msg = linkUp i
+said LinkDown i msg = linkDown i
+said LinkMessage i msg = linkMessage msg
