@@ -47,3 +47,16 @@ begins-at l v k e h = sym (getD-take (length v) l k 0 h) ∙ ap (λ x. getD x k 
 pub over-four : (l ys l₂ : List ℕ) (a b c d : ℕ) → l₂ ≡ overlay (set (set (set (set l 0 a) 1 b) 2 c) 3 d) 4 ys → l₂ ≡ overlay l 0 (a ∷ b ∷ c ∷ d ∷ ys)
 unfolding overlay
 over-four l ys l₂ a b c d e = e
+
+-- four bytes at a position
+pub over-each : (l v : List ℕ) (i : ℕ) → length v ≡ 4 → set (set (set (set l i (getD v 0 0)) (i + 1) (getD v 1 0)) (i + 2) (getD v 2 0)) (i + 3) (getD v 3 0) ≡ overlay l i v
+unfolding overlay
+over-each l (a ∷ b ∷ c ∷ d ∷ []) i h =
+    let e₂ : i + 2 ≡ suc (suc i) = omega arith in
+    let e₃ : i + 3 ≡ suc (suc (suc i)) = omega arith in
+    rw (add-one i, e₂, e₃)
+over-each l [] i h = absurd (omega arith)
+over-each l (a ∷ []) i h = absurd (omega arith)
+over-each l (a ∷ b ∷ []) i h = absurd (omega arith)
+over-each l (a ∷ b ∷ c ∷ []) i h = absurd (omega arith)
+over-each l (a ∷ b ∷ c ∷ d ∷ e ∷ v) i h = absurd (omega arith)

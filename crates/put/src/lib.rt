@@ -54,11 +54,30 @@ fn put_each(out: &mut [u8], at: usize, v: &[u8])
     }
 }
 
+// Four bytes, written from a position on: most values are one number. All are read before one is written, so that the compiler moves them at once.
+fn put_four(out: &mut [u8], at: usize, v: &[u8])
+    requires { ⌜ (length (now v) ≡ 4) × (at + length (now v) ≤ length (now out)) ⌝ }
+    ensures { λ _. ⌜ now (out .exit) ≡ overlay (now (out .entry)) at (now (v .entry)) ⌝ }
+{
+    let a = v[0];
+    let b = v[1];
+    let c = v[2];
+    let d = v[3];
+    out[at] = a;
+    out[at + 1] = b;
+    out[at + 2] = c;
+    out[at + 3] = d;
+}
+
 // Bytes, written from a position on. Those of a message are at most 2,048.
 pub fn put_bytes(out: &mut [u8], at: usize, v: &[u8])
     requires { ⌜ at + length (now v) ≤ length (now out) ⌝ }
     ensures { λ _. ⌜ now (out .exit) ≡ overlay (now (out .entry)) at (now (v .entry)) ⌝ }
 {
+    if v.len() == 4 {
+        put_four(out, at, v);
+        return;
+    }
     if v.len() <= 2048 {
         put_block(out, at, v);
         return;
