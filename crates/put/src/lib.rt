@@ -23,8 +23,27 @@ pub fn put32(out: &mut [u8], at: usize, n: u32)
     put16(out, at + 2, (n % 65536) as u16);
 }
 
-// Bytes, written from a position on.
-pub fn put_bytes(out: &mut [u8], at: usize, v: &[u8])
+// At most 2,048 bytes, written from a position on. They go through a block, which no other bytes overlap: so the compiler makes one move of the
+// two loops, and no block.
+fn put_block(out: &mut [u8], at: usize, v: &[u8])
+    requires { ⌜ (length (now v) ≤ 2048) × (at + length (now v) ≤ length (now out)) ⌝ }
+    ensures { λ _. ⌜ now (out .exit) ≡ overlay (now (out .entry)) at (now (v .entry)) ⌝ }
+{
+    let mut block = [0u8; 2048];
+    let mut i: usize = 0;
+    while i < v.len() {
+        block[i] = v[i];
+        i += 1;
+    }
+    let mut j: usize = 0;
+    while j < v.len() {
+        out[at + j] = block[j];
+        j += 1;
+    }
+}
+
+// Bytes of any number, written one by one from a position on.
+fn put_each(out: &mut [u8], at: usize, v: &[u8])
     requires { ⌜ at + length (now v) ≤ length (now out) ⌝ }
     ensures { λ _. ⌜ now (out .exit) ≡ overlay (now (out .entry)) at (now (v .entry)) ⌝ }
 {
@@ -33,6 +52,37 @@ pub fn put_bytes(out: &mut [u8], at: usize, v: &[u8])
         out[at + i] = v[i];
         i += 1;
     }
+}
+
+// Four bytes, written from a position on: most values are one number. All are read before one is written, so that the compiler moves them at once.
+fn put_four(out: &mut [u8], at: usize, v: &[u8])
+    requires { ⌜ (length (now v) ≡ 4) × (at + length (now v) ≤ length (now out)) ⌝ }
+    ensures { λ _. ⌜ now (out .exit) ≡ overlay (now (out .entry)) at (now (v .entry)) ⌝ }
+{
+    let a = v[0];
+    let b = v[1];
+    let c = v[2];
+    let d = v[3];
+    out[at] = a;
+    out[at + 1] = b;
+    out[at + 2] = c;
+    out[at + 3] = d;
+}
+
+// Bytes, written from a position on. Those of a message are at most 2,048.
+pub fn put_bytes(out: &mut [u8], at: usize, v: &[u8])
+    requires { ⌜ at + length (now v) ≤ length (now out) ⌝ }
+    ensures { λ _. ⌜ now (out .exit) ≡ overlay (now (out .entry)) at (now (v .entry)) ⌝ }
+{
+    if v.len() == 4 {
+        put_four(out, at, v);
+        return;
+    }
+    if v.len() <= 2048 {
+        put_block(out, at, v);
+        return;
+    }
+    put_each(out, at, v);
 }
 
 // At most three zeros, written from a position on.

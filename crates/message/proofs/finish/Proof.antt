@@ -2,6 +2,9 @@ use borrow.Author.Needs.{needs}
 use Rattle.message.proofs.finish.Statement.{statement}
 use Rattle.message.proofs.finish.Tie as tie
 
+element-copy-out-state : tie.Need-element-copy-out-state
+element-copy-out-state c = search needs
+
 end-code-requires : tie.Need-end-code-requires
 end-code-requires c κs = search needs
 
@@ -15,4 +18,4 @@ returns : tie.Need-returns
 returns c = cc
 
 pub finish-spec : {M : Type 1} → statement M
-finish-spec = tie.close (tie.spec end-code-requires first-of-requires outcome-of-requires returns)
+finish-spec = tie.close (tie.spec element-copy-out-state end-code-requires first-of-requires outcome-of-requires returns)

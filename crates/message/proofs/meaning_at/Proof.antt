@@ -12,11 +12,11 @@ element-copy-out-unit-2 c = search needs
 unit-requires : tie.Need-unit-requires
 unit-requires c κs = search needs
 
-element-copy-out-t17 : tie.Need-element-copy-out-t17
-element-copy-out-t17 c = search needs
+element-copy-out-t18 : tie.Need-element-copy-out-t18
+element-copy-out-t18 c = search needs
 
-element-copy-out-t20 : tie.Need-element-copy-out-t20
-element-copy-out-t20 c = search needs
+element-copy-out-t21 : tie.Need-element-copy-out-t21
+element-copy-out-t21 c = search needs
 
 element-copy-out-unit-3 : tie.Need-element-copy-out-unit-3
 element-copy-out-unit-3 c = search needs
@@ -24,8 +24,8 @@ element-copy-out-unit-3 c = search needs
 unit-requires-2 : tie.Need-unit-requires-2
 unit-requires-2 c κs = search needs
 
-element-copy-out-t27 : tie.Need-element-copy-out-t27
-element-copy-out-t27 c = search needs
+element-copy-out-t28 : tie.Need-element-copy-out-t28
+element-copy-out-t28 c = search needs
 
 element-copy-out-unit-4 : tie.Need-element-copy-out-unit-4
 element-copy-out-unit-4 c = search needs
@@ -33,18 +33,15 @@ element-copy-out-unit-4 c = search needs
 unit-requires-3 : tie.Need-unit-requires-3
 unit-requires-3 c κs = search needs
 
-element-copy-out-t34 : tie.Need-element-copy-out-t34
-element-copy-out-t34 c = search needs
+element-copy-out-t35 : tie.Need-element-copy-out-t35
+element-copy-out-t35 c = search needs
 
-element-copy-out-t37 : tie.Need-element-copy-out-t37
-element-copy-out-t37 c = search needs
-
-element-copy-out-t40 : tie.Need-element-copy-out-t40
-element-copy-out-t40 c = search needs
+element-copy-out-t38 : tie.Need-element-copy-out-t38
+element-copy-out-t38 c = search needs
 
 returns : tie.Need-returns
 unfolding meaningAt
-returns c = rw (c .before .before .before .unit3 .ensures, c .before .before .before .before .before .before .unit2 .ensures, c .before .before .before .before .before .before .before .before .before .before .unit .ensures)
+returns c = rw (c .before .before .unit3 .ensures, c .before .before .before .before .before .unit2 .ensures, c .before .before .before .before .before .before .before .before .before .unit .ensures, c .before .before .before .before .before .before .before .before .before .before .before .before .pre)
 
 pub meaning-at-spec : {M : Type 1} → statement M
 meaning-at-spec =
@@ -53,14 +50,13 @@ meaning-at-spec =
     element-copy-out-unit
     element-copy-out-unit-2
     unit-requires
-    element-copy-out-t17
-    element-copy-out-t20
+    element-copy-out-t18
+    element-copy-out-t21
     element-copy-out-unit-3
     unit-requires-2
-    element-copy-out-t27
+    element-copy-out-t28
     element-copy-out-unit-4
     unit-requires-3
-    element-copy-out-t34
-    element-copy-out-t37
-    element-copy-out-t40
+    element-copy-out-t35
+    element-copy-out-t38
     returns)

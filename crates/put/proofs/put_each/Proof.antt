@@ -6,8 +6,8 @@ use Prim.Native.Nat.{_≤_, _-_}
 use mathlib.Core.Path.{_≡_, refl, ap, _∙_}
 use Rattle.put.proofs.Sets.{over-more, length-over}
 use lib.Seq.{take-all}
-use Rattle.put.proofs.put_bytes.Statement.{statement}
-use Rattle.put.proofs.put_bytes.Tie as tie
+use Rattle.put.proofs.put_each.Statement.{statement}
+use Rattle.put.proofs.put_each.Tie as tie
 
 abbrev Inv-loop : tie.InvT-loop
 Inv-loop out₀ at v i₀ out i = (i ≤ length v) × (out ≡ overlay out₀ at (take i v))
@@ -43,8 +43,8 @@ same-length c = ap length (c .before .loop .inv .1) ∙ simp length-over
 returns : tie.Need-returns Inv-loop μ-loop
 returns c = let v = c .before .before .args .v .now in rw (take-all (c .before .loop .i) v (omega arith)) at (c .before .loop .inv .1)
 
-pub put-bytes-spec : {M : Type 1} → statement M
-put-bytes-spec =
+pub put-each-spec : {M : Type 1} → statement M
+put-each-spec =
     tie.close
     (tie.spec
     Inv-loop
