@@ -1,12 +1,13 @@
-// What a message of an ASP does: read once, then by class and type.
+// What a message of an ASP is, and what those do that are not of the ASP itself: Beat, Beat Ack, class 6, and any other.
 use message::Reading;
 use rules::Work;
 ghost use mathlib.Core.Path.{_≡_};
 ghost use Prim.Native.Nat.{_<_};
 ghost use Rattle.ranges.specs.Laws.{Table};
-ghost use Rattle.rules.specs.Rules.{isError, fromAsp, readDeed, messageDeed};
+ghost use Rattle.rules.specs.Rules.{isError, fromAsp};
 ghost use Rattle.work.specs.Decides.{Decides};
-ghost use Rattle.decide.specs.View.{view, readTree, messageTree};
+ghost use Rattle.links.specs.View.{sixView};
+ghost use Rattle.decide.specs.Other.{otherTree, otherDeed};
 
 // "Bytes 2 and 3, from 0, both 0 in 4 or more bytes (an Error)"
 pub fn is_error(s: &[u8]) -> bool
@@ -25,43 +26,28 @@ fn from_asp(k: u32) -> bool
     (((((k == 1) | (k == 2)) | (k == 4)) | (k == 7)) | (k == 10)) | (k == 15)
 }
 
-// A readable message, by its class and type; six says that the type is one of class 6 that ASPs send.
-fn read_tree<'a>(
+// Beat, Beat Ack, class 6 and any other, by class and type; six says that the type is one of class 6 that ASPs send.
+fn other_tree<'a>(
     links: usize,
-    aspid: &'a [u32; 16],
     up: &'a [u8; 16],
     member: &'a [u8; 256],
     active: &'a [u8; 256],
-    mode: &'a [u8; 16],
     iid: &'a [u32; 128],
     owner: &'a [u8; 128],
     state: &'a [u8; 128],
     p: usize,
-    s: &[u8],
     r: Reading,
     six: bool,
 ) -> Work
     requires { ⌜ Table (now iid) (now owner) links × (p < 16) × (r .class < 256) × (r .kind < 256) ⌝ }
-    ensures { λ w. ⌜ Decides w (readTree (view links (now (aspid .entry)) (now (up .entry)) (now (member .entry)) (now (active .entry)) (now (mode .entry)) (now (iid .entry)) (now (owner .entry)) (now (state .entry))) p (now (s .entry)) r six) ⌝ }
+    ensures { λ w. ⌜ Decides w (otherTree (sixView links (now (up .entry)) (now (member .entry)) (now (active .entry)) (now (iid .entry)) (now (owner .entry)) (now (state .entry))) p r six) ⌝ }
 {
     let t = r.class * 256 + r.kind;
-    if t == 769 {
-        return asps::up_work(aspid, member, active, p, r);
-    }
-    if t == 770 {
-        return asps::down_work(member, p);
-    }
     if t == 771 {
         return work::reply(p, 774, 0, 0);
     }
     if t == 774 {
         return work::nothing();
-    }
-    if t == 1025 {
-        return traffic::traffic_work(true, s, links, up, member, mode, iid, owner, p, r);
-    }
-    if t == 1026 {
-        return traffic::traffic_work(false, s, links, up, member, mode, iid, owner, p, r);
     }
     if r.class == 6 {
         if six {
@@ -72,78 +58,21 @@ fn read_tree<'a>(
     work::error(p, 6)
 }
 
-// "A message the reader refuses: an Error, no change."
-fn read_work<'a>(
+// What a readable message of ASP p does that is neither Up, Down, Active nor Inactive.
+pub fn other_work<'a>(
     links: usize,
-    aspid: &'a [u32; 16],
     up: &'a [u8; 16],
     member: &'a [u8; 256],
     active: &'a [u8; 256],
-    mode: &'a [u8; 16],
     iid: &'a [u32; 128],
     owner: &'a [u8; 128],
     state: &'a [u8; 128],
     p: usize,
-    s: &[u8],
     r: Reading,
 ) -> Work
     requires { ⌜ Table (now iid) (now owner) links × (p < 16) × (r .class < 256) × (r .kind < 256) ⌝ }
-    ensures { λ w. ⌜ Decides w (messageTree (view links (now (aspid .entry)) (now (up .entry)) (now (member .entry)) (now (active .entry)) (now (mode .entry)) (now (iid .entry)) (now (owner .entry)) (now (state .entry))) p (now (s .entry)) r) ⌝ }
+    ensures { λ w. ⌜ Decides w (otherDeed (sixView links (now (up .entry)) (now (member .entry)) (now (active .entry)) (now (iid .entry)) (now (owner .entry)) (now (state .entry))) p r) ⌝ }
 {
-    if r.code == 0 {
-        let six = from_asp(r.kind);
-        return read_tree(
-            links,
-            aspid,
-            up,
-            member,
-            active,
-            mode,
-            iid,
-            owner,
-            state,
-            p,
-            s,
-            r,
-            six,
-        );
-    }
-    work::error(p, r.code)
-}
-
-// What a message of ASP p does.
-pub fn message_work<'a>(
-    links: usize,
-    aspid: &'a [u32; 16],
-    up: &'a [u8; 16],
-    member: &'a [u8; 256],
-    active: &'a [u8; 256],
-    mode: &'a [u8; 16],
-    iid: &'a [u32; 128],
-    owner: &'a [u8; 128],
-    state: &'a [u8; 128],
-    p: usize,
-    s: &[u8],
-) -> Work
-    requires { ⌜ Table (now iid) (now owner) links × (p < 16) ⌝ }
-    ensures { λ w. ⌜ Decides w (messageDeed (view links (now (aspid .entry)) (now (up .entry)) (now (member .entry)) (now (active .entry)) (now (mode .entry)) (now (iid .entry)) (now (owner .entry)) (now (state .entry))) p (now (s .entry))) ⌝ }
-{
-    if is_error(s) {
-        return work::nothing();
-    }
-    let r = message::read(s);
-    read_work(
-        links,
-        aspid,
-        up,
-        member,
-        active,
-        mode,
-        iid,
-        owner,
-        state,
-        p,
-        s,
-        r,
-    )
+    let six = from_asp(r.kind);
+    other_tree(links, up, member, active, iid, owner, state, p, r, six)
 }

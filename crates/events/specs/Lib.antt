@@ -1,2 +1,3 @@
+pub mod Active
 pub mod Perform
 pub mod Work

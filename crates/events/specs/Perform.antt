@@ -33,6 +33,10 @@ pub record Performed (g : Gateway) (d : Deed) (ws ws′ : List ℕ) (r : Outcome
   pub few : length (actionsOf g d) ≤ 258
   pub state : r .gateway ≡ stateAfter g d
 
+-- the same deed, otherwise written
+pub performed : {g : Gateway} {d e : Deed} {ws ws′ : List ℕ} {r : Outcome} → Performed g d ws ws′ r → d ≡ e → Performed g e ws ws′ r
+performed h e = rw e at h
+
 -- ---- an event that is not refused
 
 pub record Accepted (sound known : Bool) (room : ℕ) : Type 0 where

@@ -4,18 +4,22 @@ use message::Reading;
 use rules::Outcome;
 use rules::Work;
 ghost use mathlib.Core.Path.{_≡_};
+ghost use mathlib.Core.Bool.{true};
 ghost use Prim.Native.Nat.{_<_, _≤_};
 ghost use lib.ListN.{length};
 ghost use Rattle.action.specs.Words.{Written};
-ghost use Rattle.gateway.specs.Sound.{consistentOf};
+ghost use Rattle.gateway.specs.Sound.{consistent, consistentOf};
 ghost use Rattle.rules.specs.Event.{message, lost, recovery, linkUp, linkDown, linkMessage};
-ghost use Rattle.rules.specs.Rules.{refusalOf};
+ghost use Rattle.rules.specs.Asp.{upDeed, downDeed};
+ghost use Rattle.rules.specs.Rules.{readDeed, messageDeed, refusalOf};
+ghost use Rattle.decide.specs.Other.{otherDeed};
 ghost use Rattle.links.specs.Side.{passes};
 ghost use Rattle.rules.specs.Entry.{Handed};
 ghost use Rattle.rules.specs.Work.{given, spread, deedIn};
 ghost use Rattle.work.specs.Decides.{aspOf};
 ghost use Rattle.events.specs.Perform.{Performed, event};
 ghost use Rattle.events.specs.Work.{firstOf};
+ghost use Rattle.events.specs.Active.{activeOrNot};
 
 // "Refusals in order: 105 board not sound; 102 ..; 101 list under 1,032 words": known is that what the event names is in the plan.
 pub fn refusal(sound: bool, known: bool, room: usize) -> u32
@@ -201,6 +205,111 @@ impl Node {
             gateway: g,
         }
     }
+
+    // ---- what an ASP asks: each method does what the rules' definition of its name says
+
+    // "Up: an identifier given and not the plan's: Error 15. Else Ack. .. p is up."
+    fn up(self, p: usize, read: Reading, words: &mut [u32]) -> Outcome
+        requires { ⌜ (1032 ≤ length (now words)) × (p < 16) ⌝ }
+        ensures { λ r. ⌜ Performed (self .gateway) (upDeed (self .gateway) p read) (now (words .entry)) (now (words .exit)) r ⌝ }
+    {
+        let w = asps::up_work(
+            &self.gateway.aspid,
+            &self.gateway.member,
+            &self.gateway.active,
+            p,
+            read,
+        );
+        self.perform(w, words)
+    }
+
+    // "Down: Ack; p down, inactive everywhere."
+    fn down(self, p: usize, words: &mut [u32]) -> Outcome
+        requires { ⌜ (1032 ≤ length (now words)) × (p < 16) ⌝ }
+        ensures { λ r. ⌜ Performed (self .gateway) (downDeed (self .gateway) p) (now (words .entry)) (now (words .exit)) r ⌝ }
+    {
+        let w = asps::down_work(&self.gateway.member, p);
+        self.perform(w, words)
+    }
+
+    // "Active, Inactive: p down: Error 6. .." on says that it is Active.
+    fn active(self, on: bool, p: usize, msg: &[u8], read: Reading, words: &mut [u32]) -> Outcome
+        requires { ⌜ (1032 ≤ length (now words)) × (p < 16) × (consistent (self .gateway) ≡ true) ⌝ }
+        ensures { λ r. ⌜ Performed (self .gateway) (activeOrNot (self .gateway) on p (now (msg .entry)) read) (now (words .entry)) (now (words .exit)) r ⌝ }
+    {
+        let n = gateway::wide(self.gateway.links);
+        let w = traffic::traffic_work(
+            on,
+            msg,
+            n,
+            &self.gateway.up,
+            &self.gateway.member,
+            &self.gateway.mode,
+            &self.gateway.iid,
+            &self.gateway.owner,
+            p,
+            read,
+        );
+        self.perform(w, words)
+    }
+
+    // Beat, Beat Ack, class 6, and any other.
+    fn other(self, p: usize, read: Reading, words: &mut [u32]) -> Outcome
+        requires { ⌜ (1032 ≤ length (now words)) × (p < 16) × (consistent (self .gateway) ≡ true) × (read .class < 256) × (read .kind < 256) ⌝ }
+        ensures { λ r. ⌜ Performed (self .gateway) (otherDeed (self .gateway) p read) (now (words .entry)) (now (words .exit)) r ⌝ }
+    {
+        let n = gateway::wide(self.gateway.links);
+        let w = decide::other_work(
+            n,
+            &self.gateway.up,
+            &self.gateway.member,
+            &self.gateway.active,
+            &self.gateway.iid,
+            &self.gateway.owner,
+            &self.gateway.state,
+            p,
+            read,
+        );
+        self.perform(w, words)
+    }
+
+    // A readable message of ASP p, by its class and type.
+    fn readable(self, p: usize, msg: &[u8], read: Reading, words: &mut [u32]) -> Outcome
+        requires { ⌜ (1032 ≤ length (now words)) × (p < 16) × (consistent (self .gateway) ≡ true) × (read .class < 256) × (read .kind < 256) ⌝ }
+        ensures { λ r. ⌜ Performed (self .gateway) (readDeed (self .gateway) p (now (msg .entry)) read) (now (words .entry)) (now (words .exit)) r ⌝ }
+    {
+        let t = read.class * 256 + read.kind;
+        if t == 769 {
+            return self.up(p, read, words);
+        }
+        if t == 770 {
+            return self.down(p, words);
+        }
+        if t == 1025 {
+            return self.active(true, p, msg, read, words);
+        }
+        if t == 1026 {
+            return self.active(false, p, msg, read, words);
+        }
+        self.other(p, read, words)
+    }
+
+    // Any message of ASP p, where the event is not refused.
+    fn answer(self, p: usize, msg: &[u8], words: &mut [u32]) -> Outcome
+        requires { ⌜ (1032 ≤ length (now words)) × (p < 16) × (consistent (self .gateway) ≡ true) ⌝ }
+        ensures { λ r. ⌜ Performed (self .gateway) (messageDeed (self .gateway) p (now (msg .entry))) (now (words .entry)) (now (words .exit)) r ⌝ }
+    {
+        if decide::is_error(msg) {
+            return self.perform(work::nothing(), words);
+        }
+        let read = message::read(msg);
+        if read.code != 0 {
+            return self.perform(work::error(p, read.code), words);
+        }
+        self.readable(p, msg, read, words)
+    }
+
+    // ---- the entries
 
     // The association of ASP p is lost.
     pub fn lost(self, p: usize, words: &mut [u32]) -> Outcome
@@ -399,21 +508,7 @@ impl Node {
                 gateway: g,
             };
         }
-        let n = gateway::wide(links);
-        let w = decide::message_work(
-            n,
-            &self.gateway.aspid,
-            &self.gateway.up,
-            &self.gateway.member,
-            &self.gateway.active,
-            &self.gateway.mode,
-            &self.gateway.iid,
-            &self.gateway.owner,
-            &self.gateway.state,
-            p,
-            msg,
-        );
-        self.perform(w, words)
+        self.answer(p, msg, words)
     }
 
     // A message of the link side.

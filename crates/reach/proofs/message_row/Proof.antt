@@ -1,7 +1,7 @@
 -- `reach::message_row`: an Error, unreadable, or read. Assumes nothing.
 use mathlib.Core.Path.{sym, _∙_}
 use native.Mathlib.Omega.{arith}
-use Rattle.decide.specs.View.{class-small, kind-small}
+use Rattle.decide.specs.Other.{class-small, kind-small}
 use Rattle.reach.specs.Rows.{message-error, message-unread, message-read}
 use borrow.Author.Needs.{needs}
 use Rattle.reach.proofs.message_row.Statement.{statement}

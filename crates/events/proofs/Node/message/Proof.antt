@@ -1,16 +1,14 @@
--- `events::Node::message`: refused, or what the message's decision does. Assumes nothing.
+-- `events::Node::message`: refused, or what the message does. Assumes nothing.
 use Prim.Native.Nat.{_<_, _≤_}
-use mathlib.Core.Path.{_≡_, _∙_}
+use mathlib.Core.Path.{_≡_, refl, _∙_}
 use native.Mathlib.Omega.{arith}
-use borrow.Author.Needs.{needs}
 use lib.Dec.{ltb}
 use lib.ListN.{length}
 use Rattle.gateway.specs.Sound.{consistent}
 use Rattle.rules.specs.Event.{message}
 use Rattle.rules.specs.Rules.{refusalOf}
 use Rattle.events.specs.Perform.{Taken, taken, handed-no, handed-yes}
-use Rattle.ranges.specs.Laws.{table}
-use Rattle.decide.specs.View.{message-same}
+use borrow.Author.Needs.{needs}
 use Rattle.events.proofs.Node.message.Statement.{statement}
 use Rattle.events.proofs.Node.message.Tie as tie
 
@@ -29,20 +27,16 @@ refused-requires c κs = search needs
 returns : tie.Need-returns
 returns c = handed-no _ (message _ _) (refusal-is (c .before .before)) (c .before .if1 .taken)
 
-wide-requires-2 : tie.Need-wide-requires-2
-wide-requires-2 c κs = search needs
-
-message-work-requires : tie.Need-message-work-requires
-message-work-requires c κs = let t = known (c .before .before .before .before .before .before .before .before .before .before .before) (c .before .before .before .before .before .before .before .before .before .before .if1 .left) in (rw (c .before .before .before .before .before .before .before .before .before .wide2 .ensures) (table (c .before .before .before .before .before .before .before .before .before .before .before .before .before .before .before .before .before .before .before .before .before .before .before .before .before .args .t1 .gateway) (t .sound-yes)), omega (arith, t .within, t .counts .asps))
-
-perform-requires : tie.Need-perform-requires
-perform-requires c κs = (known (c .before .before .before .before .before .before .before .before .before .before .before .before .before) (c .before .before .before .before .before .before .before .before .before .before .before .before .if1 .left) .enough, c .before .message-work .ensures .asp, c .before .message-work .ensures .place)
+answer-requires : tie.Need-answer-requires
+answer-requires c κs = let t = known (c .before .before) (c .before .if1 .left) in (t .enough, omega (arith, t .within, t .counts .asps), t .sound-yes)
 
 same-length : tie.Need-same-length
 same-length c = search needs
 
 returns-2 : tie.Need-returns-2
-returns-2 c = handed-yes _ (message _ _) (refusal-is (c .before .before .before .before .before .before .before .before .before .before .before .before .before .before .before .before)) (c .before .before .before .before .before .before .before .before .before .before .before .before .before .before .before .if1 .left) (c .before .before .before .before .message-work .ensures .is ∙ rw (c .before .before .before .before .before .before .before .before .before .before .before .before .before .before .wide2 .ensures) (message-same (c .before .before .before .before .before .before .before .before .before .before .before .before .before .before .before .before .before .before .before .before .before .before .before .before .before .before .before .before .before .before .args .t1 .gateway) (c .before .before .before .before .before .before .before .before .before .before .before .before .before .before .before .before .before .before .before .before .before .before .before .before .before .before .before .before .before .before .args .p) (c .before .before .before .before .before .before .before .before .before .before .before .before .before .before .before .before .before .before .before .before .before .before .before .before .before .before .before .before .before .before .args .msg .now))) (c .before .before .perform .ensures)
+returns-2 c = handed-yes _ (message _ _) (refusal-is (c .before .before .before .before .before)) (c .before .before .before .before .if1 .left) refl (c .before .before .answer .ensures)
 
 pub message-spec : {M : Type 1} → statement M
-message-spec = tie.close (tie.spec wide-requires refused-requires returns wide-requires-2 message-work-requires perform-requires same-length returns-2)
+message-spec =
+    tie.close
+    (tie.spec wide-requires refused-requires returns answer-requires same-length returns-2)
