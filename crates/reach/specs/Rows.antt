@@ -34,12 +34,10 @@ namedRow g p s ids =
 -- a readable message, by its class and type
 unfoldable pub readRow : Gateway → ℕ → List ℕ → Reading → List Bool
 readRow g p s r =
-    cond (eqb (r .class * 256 + r .kind) 769) (columnOf (g .member) p)
-    (cond (eqb (r .class * 256 + r .kind) 770) (columnOf (g .member) p)
-    (cond (eqb (r .class * 256 + r .kind) 1025) (namedRow g p s (r .ids))
-    (cond (eqb (r .class * 256 + r .kind) 1026) (namedRow g p s (r .ids))
+    cond (eqb (r .class * 256 + r .kind) 769 || eqb (r .class * 256 + r .kind) 770) (columnOf (g .member) p)
+    (cond (eqb (r .class * 256 + r .kind) 1025 || eqb (r .class * 256 + r .kind) 1026) (namedRow g p s (r .ids))
     (cond (eqb (r .class) 6) (tab 16 (ownsId (trafficView (g .links) [] [] [] (g .iid) (g .owner)) (r .id)))
-    (replicate 16 false)))))
+    (replicate 16 false)))
 
 -- ---- laws
 
@@ -78,17 +76,15 @@ named-row g p s ids = go (eqb ids 1)
 
 pub read-row : (g : Gateway) (p : ℕ) (s : List ℕ) (r : Reading) → readRow g p s r ≡ tab 16 (readReach g p s r)
 unfolding readRow readReach columnOf ownsId isKnown linkOf
-read-row g p s r = go (eqb (typeOf r) 769) (eqb (typeOf r) 770) (eqb (typeOf r) 1025) (eqb (typeOf r) 1026) (eqb (r .class) 6)
+read-row g p s r = go (eqb (typeOf r) 769 || eqb (typeOf r) 770) (eqb (typeOf r) 1025 || eqb (typeOf r) 1026) (eqb (r .class) 6)
   where
-    go : (u v w x y : Bool)
-        → cond u (columnOf (g .member) p) (cond v (columnOf (g .member) p) (cond w (namedRow g p s (r .ids)) (cond x (namedRow g p s (r .ids)) (cond y (tab 16 (ownsId (trafficView (g .links) [] [] [] (g .iid) (g .owner)) (r .id))) (replicate 16 false)))))
-        ≡ tab 16 (λ a. cond (u || v) (isMember g a p) (cond (w || x) (cond (eqb (r .ids) 1) (ownsNamed g (walk s 8 .pars) a) (isMember g a p)) (cond y (ownsId g (r .id) a) false)))
-    go true v w x y = refl
-    go false true w x y = refl
-    go false false true x y = named-row g p s (r .ids)
-    go false false false true y = named-row g p s (r .ids)
-    go false false false false true = refl
-    go false false false false false = none-row (λ a. false) (λ a. refl)
+    go : (u v w : Bool)
+        → cond u (columnOf (g .member) p) (cond v (namedRow g p s (r .ids)) (cond w (tab 16 (ownsId (trafficView (g .links) [] [] [] (g .iid) (g .owner)) (r .id))) (replicate 16 false)))
+        ≡ tab 16 (λ a. cond u (isMember g a p) (cond v (cond (eqb (r .ids) 1) (ownsNamed g (walk s 8 .pars) a) (isMember g a p)) (cond w (ownsId g (r .id) a) false)))
+    go true v w = refl
+    go false true w = named-row g p s (r .ids)
+    go false false true = refl
+    go false false false = none-row (λ a. false) (λ a. refl)
 
 -- the rule asks no other columns
 module _ (g : Gateway) where

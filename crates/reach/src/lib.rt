@@ -74,16 +74,10 @@ fn read_row<'a>(
     ensures { λ w. ⌜ w ≡ readRow (trafficView links [] (now (member .entry)) [] (now (iid .entry)) (now (owner .entry))) p (now (s .entry)) r ⌝ }
 {
     let t = r.class * 256 + r.kind;
-    if t == 769 {
+    if (t == 769) | (t == 770) {
         return servers::column_of(member, p);
     }
-    if t == 770 {
-        return servers::column_of(member, p);
-    }
-    if t == 1025 {
-        return named_row(s, links, member, iid, owner, p, r.ids);
-    }
-    if t == 1026 {
+    if (t == 1025) | (t == 1026) {
         return named_row(s, links, member, iid, owner, p, r.ids);
     }
     if r.class == 6 {

@@ -18,52 +18,23 @@ returns : tie.Need-returns
 unfolding readRow
 returns c = search choices depth 9
 
-column-of-requires-2 : tie.Need-column-of-requires-2
-column-of-requires-2 c κs = search needs
+named-row-requires : tie.Need-named-row-requires
+named-row-requires c κs = search needs
 
 returns-2 : tie.Need-returns-2
 unfolding readRow
 returns-2 c = search choices depth 9
 
-named-row-requires : tie.Need-named-row-requires
-named-row-requires c κs = search needs
+owner-of-requires : tie.Need-owner-of-requires
+owner-of-requires c κs = search needs
 
 returns-3 : tie.Need-returns-3
 unfolding readRow
 returns-3 c = search choices depth 9
 
-named-row-requires-2 : tie.Need-named-row-requires-2
-named-row-requires-2 c κs = search needs
-
 returns-4 : tie.Need-returns-4
 unfolding readRow
 returns-4 c = search choices depth 9
 
-owner-of-requires : tie.Need-owner-of-requires
-owner-of-requires c κs = search needs
-
-returns-5 : tie.Need-returns-5
-unfolding readRow
-returns-5 c = search choices depth 9
-
-returns-6 : tie.Need-returns-6
-unfolding readRow
-returns-6 c = search choices depth 9
-
 pub read-row-spec : {M : Type 1} → statement M
-read-row-spec =
-    tie.close
-    (tie.spec
-    mul-t
-    add-t
-    column-of-requires
-    returns
-    column-of-requires-2
-    returns-2
-    named-row-requires
-    returns-3
-    named-row-requires-2
-    returns-4
-    owner-of-requires
-    returns-5
-    returns-6)
+read-row-spec = tie.close (tie.spec mul-t add-t column-of-requires returns named-row-requires returns-2 owner-of-requires returns-3 returns-4)
