@@ -13,10 +13,10 @@ use Rattle.action.specs.declared.Action.{Action}
 use Rattle.action.specs.Words.{Written, toAll-short, written-append}
 use Rattle.gateway.specs.declared.Gateway.{Gateway}
 use Rattle.server.specs.Change.{fits}
-use Rattle.servers.specs.Moved.{moved, allActions, allActions-short}
+use Rattle.servers.specs.Moved.{moved, linked, allActions, allActions-short}
 use Rattle.rules.specs.declared.Outcome.{Outcome}
 use Rattle.rules.specs.declared.Work.{Work}
-use Rattle.rules.specs.Deed.{Deed, say, turn, change, actionsOf, stateAfter, withState}
+use Rattle.rules.specs.Deed.{Deed, say, turn, change, actionsOf, stateAfter}
 use Rattle.rules.specs.Work.{given, spread, deedIn}
 use Rattle.events.specs.Perform.{Performed}
 
@@ -96,7 +96,7 @@ performed-say g w h x =
     rw (deed-say w h) (record { accepted = refl; wrote = x; few = omega (arith, first-short w); state = refl })
 
 pub performed-turn : (g : Gateway) (w : Work) {ws ws′ : List ℕ} {n : ℕ} {g′ : Gateway} → (w .what ≡ 2 → ⊥) → (eqb (w .what) 0 || eqb (w .what) 3) ≡ false → Written ws 0 (firstOf w) ws′ n
-    → g′ ≡ withState g (w .link) (w .state) → Performed g (deedIn w) ws ws′ (record { refusal = 0; count = n; gateway = g′ })
+    → g′ ≡ linked g (w .link) (w .state) → Performed g (deedIn w) ws ws′ (record { refusal = 0; count = n; gateway = g′ })
 performed-turn g w q h x e =
     rw (deed-turn w q h) (record { accepted = refl; wrote = x; few = omega (arith, first-short w); state = e })
 

@@ -12,7 +12,6 @@ use Rattle.gateway.specs.declared.Gateway.{Gateway}
 use Rattle.server.specs.declared.Change.{Change}
 use Rattle.server.specs.declared.Change.the-variants.{Rise, Fall, Off, On, Recover}
 use Rattle.server.specs.Record.{recordFrom, recordOf}
-use Rattle.servers.specs.Moved.{linked}
 use Rattle.servers.specs.Records.{ups-at}
 use Rattle.keeps.specs.Good.{Allowed}
 use Rattle.keeps.specs.Keeps.{InPlan, keeps as keeps-change, keeps-link}
@@ -41,7 +40,6 @@ module _ (g : Gateway) (named : List Bool) where
   allowed Recover s h a b e = tt
 
 keeps-deed : (g : Gateway) (R own : ℕ → Bool) → consistent g ≡ true → ((a : ℕ) → R a ≡ true → ltb a (g .ases) ≡ true) → (d : Deed) → Within g R own d → consistent (stateAfter g d) ≡ true
-unfolding linked
 keeps-deed g R own ok h (say os) w = ok
 keeps-deed g R own ok h (turn l v os) w = keeps-link g l v ok (w .0) (w .1)
 keeps-deed g R own ok h (change os k named) w =

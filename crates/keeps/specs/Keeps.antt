@@ -258,5 +258,4 @@ links-kept iid owner state ases links l v b w h =
     go i (no z) e = rw (getD-set-other state l i v 0 (λ y. omega arith)) e
 
 pub keeps-link : (g : Gateway) (l v : ℕ) → consistent g ≡ true → l < g .links → v < 4 → consistent (linked g l v) ≡ true
-unfolding linked
 keeps-link g l v h b w = whole (linked g l v) (counts-true g h) (parts g h .inAsps) (parts g h .inAses) (links-kept (g .iid) (g .owner) (g .state) (g .ases) (g .links) l v b w (parts g h .inLinks))

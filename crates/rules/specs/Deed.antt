@@ -3,12 +3,11 @@
 use Prim.Native.Nat.{ℕ}
 use mathlib.Core.Bool.{Bool}
 use mathlib.Core.List.{List, [], _∷_, _++_}
-use lib.ListN.{set}
 use Rattle.action.specs.declared.Action.{Action}
 use Rattle.action.specs.Words.{action}
 use Rattle.gateway.specs.declared.Gateway.{Gateway}
 use Rattle.server.specs.declared.Change.{Change}
-use Rattle.servers.specs.Moved.{moved, allActions}
+use Rattle.servers.specs.Moved.{moved, linked, allActions}
 
 pub data Deed : Type 0 where
   -- actions alone
@@ -24,27 +23,9 @@ actionsOf g (say os) = os
 actionsOf g (turn l v os) = os
 actionsOf g (change os k named) = os ++ allActions g k named
 
--- the gateway with the link at an index in a state
-abbrev pub withState : Gateway → ℕ → ℕ → Gateway
-withState g l v =
-    record {
-      asps = g .asps;
-      ases = g .ases;
-      links = g .links;
-      aspid = g .aspid;
-      up = g .up;
-      member = g .member;
-      active = g .active;
-      mode = g .mode;
-      waiting = g .waiting;
-      iid = g .iid;
-      owner = g .owner;
-      state = set (g .state) l v;
-    }
-
 abbrev pub stateAfter : Gateway → Deed → Gateway
 stateAfter g (say os) = g
-stateAfter g (turn l v os) = withState g l v
+stateAfter g (turn l v os) = linked g l v
 stateAfter g (change os k named) = moved g k named
 
 -- one action

@@ -63,8 +63,8 @@ moved g k named =
       state = g .state;
     }
 
--- the gateway with link l in state v
-unfoldable pub linked : Gateway → ℕ → ℕ → Gateway
+-- the gateway with the link at an index in a state
+abbrev pub linked : Gateway → ℕ → ℕ → Gateway
 linked g l v =
     record {
       asps = g .asps;
