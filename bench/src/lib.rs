@@ -1,4 +1,5 @@
-//! What the programs here share: the proved library's entries, plans, and timing.
+//! What the programs here share: the proved library's entries, plans, messages, and timing.
+pub mod messages;
 pub mod plans;
 pub mod proved;
 pub mod timing;
