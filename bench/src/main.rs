@@ -1,35 +1,11 @@
 //! Times the proved library against the hand-written second program, both in this one run, on the same inputs. Each pair is first checked to
 //! agree on what is timed.
+use bench::messages::{active_of, bytes, data, message, sample_m};
 use bench::plans::{full_plan, plan, plan_s};
 use bench::{proved, timing};
 use second::read::{read, Reading};
 use second::{is_sound, load, write, Gateway};
 use std::hint::black_box;
-
-fn number(tag: u16, value: u32) -> Vec<u8> {
-    let mut p = vec![];
-    p.extend(tag.to_be_bytes());
-    p.extend(8u16.to_be_bytes());
-    p.extend(value.to_be_bytes());
-    p
-}
-
-fn bytes(tag: u16, value: &[u8]) -> Vec<u8> {
-    let mut p = vec![];
-    p.extend(tag.to_be_bytes());
-    p.extend((4 + value.len() as u16).to_be_bytes());
-    p.extend(value);
-    p.resize(p.len().div_ceil(4) * 4, 0);
-    p
-}
-
-fn message(class: u8, kind: u8, params: &[Vec<u8>]) -> Vec<u8> {
-    let body: Vec<u8> = params.concat();
-    let mut m = vec![1, 0, class, kind];
-    m.extend((8 + body.len() as u32).to_be_bytes());
-    m.extend(body);
-    m
-}
 
 /// The state as the hand-written baseline gets it too: by value.
 #[inline(never)]
@@ -45,16 +21,11 @@ fn read_both(msg: &[u8]) -> Reading {
 
 fn main() {
     let up = message(3, 1, &[]);
-    let range = bytes(0x8, &[0, 0, 0, 100, 0, 0, 0, 115]);
-    let m = message(4, 1, &[number(0xb, 1), range]);
-    let data = message(
-        6,
-        1,
-        &[number(0x1, 100), number(0x13, 7), bytes(0x300, &[0x55; 60])],
-    );
+    let m = sample_m();
+    let data = data(100);
     assert_eq!(data.len(), 88);
     let ids: Vec<u8> = (0..500u32).flat_map(|i| (i * 3).to_be_bytes()).collect();
-    let active = message(4, 1, &[bytes(0x1, &ids)]);
+    let active = active_of((0..500).map(|i| i * 3));
     let ranges: Vec<u8> = (0..250u32)
         .flat_map(|i| [i * 3, i * 3 + 1])
         .flat_map(|x| x.to_be_bytes())

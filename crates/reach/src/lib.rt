@@ -1,6 +1,7 @@
 // The ASes that an event may read and change (document 01, "Reach"), as a flag for each.
 use gateway::Gateway;
 use message::Reading;
+use wire::Step;
 ghost use mathlib.Core.Path.{_≡_};
 ghost use mathlib.Core.Bool.{_&&_};
 ghost use mathlib.Core.List.{[]};
@@ -11,13 +12,62 @@ ghost use Rattle.gateway.specs.Sound.{consistent};
 ghost use Rattle.ranges.specs.Laws.{Table};
 ghost use Rattle.links.specs.Side.{passes};
 ghost use Rattle.traffic.specs.View.{trafficView};
+ghost use Rattle.traffic.specs.Named.{withPar};
+ghost use Rattle.wire.specs.Walk.{walk};
 ghost use Rattle.rules.specs.Event.{message, lost, recovery, linkUp, linkDown, linkMessage};
 ghost use Rattle.rules.specs.Rules.{refusalOf};
+ghost use Rattle.rules.specs.Identifiers.{ownersNamed};
 ghost use Rattle.rules.specs.Reach.{ownsId, messageReach};
 ghost use Rattle.reach.specs.Reached.{eventOf, reached};
 ghost use Rattle.reach.specs.Rows.{namedRow, readRow};
 
 // ---- owners
+
+// The flags set, with those of the ASes that own a known identifier of a parameter.
+fn owners_par<'a>(
+    set: [bool; 16],
+    t: u16,
+    v: &[u8],
+    links: usize,
+    iid: &'a [u32; 128],
+    owner: &'a [u8; 128],
+) -> [bool; 16]
+    requires { ⌜ Table (now iid) (now owner) links ⌝ }
+    ensures { λ r. ⌜ r ≡ withPar set (trafficView links [] [] [] (now (iid .entry)) (now (owner .entry))) t (now (v .entry)) ⌝ }
+{
+    if t == 1 {
+        return ranges::owners_of(set, v, false, iid, owner, links);
+    }
+    if t == 8 {
+        return ranges::owners_of(set, v, true, iid, owner, links);
+    }
+    set
+}
+
+// The ASes that own a known identifier of the message.
+fn owners_named<'a>(
+    s: &[u8],
+    links: usize,
+    iid: &'a [u32; 128],
+    owner: &'a [u8; 128],
+) -> [bool; 16]
+    requires { ⌜ Table (now iid) (now owner) links ⌝ }
+    ensures { λ r. ⌜ r ≡ ownersNamed (trafficView links [] [] [] (now (iid .entry)) (now (owner .entry))) (walk (now (s .entry)) 8 .pars) ⌝ }
+{
+    let mut set = [false; 16];
+    let mut at: usize = 8;
+    loop {
+        let w = wire::step_at(s, at);
+        let Step::Param { tag, len, next } = w else {
+            return set;
+        };
+        let start = at + 4;
+        let stop = at + len as usize;
+        let new = owners_par(set, tag, &s[start..stop], links, iid, owner);
+        set = new;
+        at = next;
+    }
+}
 
 // The owner of the link at l.
 fn owner_at(owner: &[u8; 128], l: usize) -> [bool; 16]
@@ -55,7 +105,7 @@ fn named_row<'a>(
     ensures { λ r. ⌜ r ≡ namedRow (trafficView links [] (now (member .entry)) [] (now (iid .entry)) (now (owner .entry))) p (now (s .entry)) ids ⌝ }
 {
     if ids == 1 {
-        return traffic::owners_named(s, links, iid, owner);
+        return owners_named(s, links, iid, owner);
     }
     servers::column_of(member, p)
 }

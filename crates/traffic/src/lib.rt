@@ -1,6 +1,6 @@
 // What Active and Inactive do.
 use message::Reading;
-use ranges::Refused;
+use naming::Named;
 use rules::Work;
 use server::Change;
 use wire::Step;
@@ -14,6 +14,7 @@ ghost use Rattle.laws.specs.Tab.{at, col};
 ghost use Rattle.wire.specs.Walk.{walk};
 ghost use Rattle.action.specs.Words.{action};
 ghost use Rattle.ranges.specs.Laws.{Table};
+ghost use Rattle.naming.specs.Names.{Names};
 ghost use Rattle.server.specs.declared.Change.the-variants.{On};
 ghost use Rattle.rules.specs.Deed.{say, change};
 ghost use Rattle.rules.specs.Identifiers.{firstRefused, ownersNamed};
@@ -24,103 +25,56 @@ ghost use Rattle.traffic.specs.Named.{refusedPar, withPar};
 
 // ---- the identifiers of a message
 
-// The first refused identifier of a parameter.
-fn refused_par<'a>(
-    t: u16,
-    v: &[u8],
-    links: usize,
-    member: &'a [u8; 256],
-    iid: &'a [u32; 128],
-    owner: &'a [u8; 128],
-    p: usize,
-) -> Refused
-    requires { ⌜ Table (now iid) (now owner) links × (p < 16) ⌝ }
-    ensures { λ r. ⌜ r ≡ refusedPar (trafficView links [] (now (member .entry)) [] (now (iid .entry)) (now (owner .entry))) p t (now (v .entry)) ⌝ }
-{
-    if t == 1 {
-        return ranges::first_refused(v, false, iid, owner, member, links, p);
-    }
-    if t == 8 {
-        return ranges::first_refused(v, true, iid, owner, member, links, p);
-    }
-    Refused {
-        found: false,
-        id: 0,
-    }
-}
-
-// "the first refused identifier", parameters in received order
-fn refused_of<'a>(
-    s: &[u8],
-    links: usize,
-    member: &'a [u8; 256],
-    iid: &'a [u32; 128],
-    owner: &'a [u8; 128],
-    p: usize,
-) -> Refused
-    requires { ⌜ Table (now iid) (now owner) links × (p < 16) ⌝ }
-    ensures { λ r. ⌜ r ≡ firstRefused (trafficView links [] (now (member .entry)) [] (now (iid .entry)) (now (owner .entry))) p (walk (now (s .entry)) 8 .pars) ⌝ }
-{
-    let mut at: usize = 8;
-    loop {
-        let w = wire::step_at(s, at);
-        let Step::Param { tag, len, next } = w else {
-            return Refused {
-                found: false,
-                id: 0,
-            };
-        };
-        let start = at + 4;
-        let stop = at + len as usize;
-        let r = refused_par(tag, &s[start..stop], links, member, iid, owner, p);
-        if r.found {
-            return r;
-        }
-        at = next;
-    }
-}
-
-// The flags set, with those of the ASes that own a known identifier of a parameter.
-fn owners_par<'a>(
+// Those of a parameter, beside the flags set.
+fn named_par<'a>(
     set: [bool; 16],
     t: u16,
     v: &[u8],
     links: usize,
+    member: &'a [u8; 256],
     iid: &'a [u32; 128],
     owner: &'a [u8; 128],
-) -> [bool; 16]
-    requires { ⌜ Table (now iid) (now owner) links ⌝ }
-    ensures { λ r. ⌜ r ≡ withPar set (trafficView links [] [] [] (now (iid .entry)) (now (owner .entry))) t (now (v .entry)) ⌝ }
+    p: usize,
+) -> Named
+    requires { ⌜ Table (now iid) (now owner) links × (p < 16) ⌝ }
+    ensures { λ r. ⌜ Names r (refusedPar (trafficView links [] (now (member .entry)) [] (now (iid .entry)) (now (owner .entry))) p t (now (v .entry))) (withPar set (trafficView links [] [] [] (now (iid .entry)) (now (owner .entry))) t (now (v .entry))) ⌝ }
 {
     if t == 1 {
-        return ranges::owners_of(set, v, false, iid, owner, links);
+        return naming::of_ids(set, v, iid, owner, member, links, p);
     }
     if t == 8 {
-        return ranges::owners_of(set, v, true, iid, owner, links);
+        return naming::of_ranges(set, v, iid, owner, member, links, p);
     }
-    set
+    naming::passes(set)
 }
 
-// The ASes that own a known identifier of the message.
-pub fn owners_named<'a>(
+// "the first refused identifier", parameters in received order; or the ASes that own those named
+fn named_of<'a>(
     s: &[u8],
     links: usize,
+    member: &'a [u8; 256],
     iid: &'a [u32; 128],
     owner: &'a [u8; 128],
-) -> [bool; 16]
-    requires { ⌜ Table (now iid) (now owner) links ⌝ }
-    ensures { λ r. ⌜ r ≡ ownersNamed (trafficView links [] [] [] (now (iid .entry)) (now (owner .entry))) (walk (now (s .entry)) 8 .pars) ⌝ }
+    p: usize,
+) -> Named
+    requires { ⌜ Table (now iid) (now owner) links × (p < 16) ⌝ }
+    ensures { λ r. ⌜ Names r (firstRefused (trafficView links [] (now (member .entry)) [] (now (iid .entry)) (now (owner .entry))) p (walk (now (s .entry)) 8 .pars)) (ownersNamed (trafficView links [] [] [] (now (iid .entry)) (now (owner .entry))) (walk (now (s .entry)) 8 .pars)) ⌝ }
 {
     let mut set = [false; 16];
     let mut at: usize = 8;
     loop {
         let w = wire::step_at(s, at);
         let Step::Param { tag, len, next } = w else {
-            return set;
+            return naming::passes(set);
         };
         let start = at + 4;
         let stop = at + len as usize;
-        let new = owners_par(set, tag, &s[start..stop], links, iid, owner);
+        let e = named_par(set, tag, &s[start..stop], links, member, iid, owner, p);
+        let f = e.refused;
+        if f.found {
+            return e;
+        }
+        let new = e.set;
         set = new;
         at = next;
     }
@@ -198,11 +152,13 @@ fn named_work<'a>(
     requires { ⌜ Table (now iid) (now owner) links × (p < 16) ⌝ }
     ensures { λ w. ⌜ Decides w (namedDeed (trafficView links (now (up .entry)) (now (member .entry)) (now (mode .entry)) (now (iid .entry)) (now (owner .entry))) p (walk (now (s .entry)) 8 .pars) on m) ⌝ }
 {
-    let f = refused_of(s, links, member, iid, owner, p);
+    let e = named_of(s, links, member, iid, owner, p);
+    let f = e.refused;
     if f.found {
         return work::error_two(p, f.id);
     }
-    act_in(on, mode, p, m, owners_named(s, links, iid, owner))
+    let named = e.set;
+    act_in(on, mode, p, m, named)
 }
 
 // "No identifiers name all of p's ASes; if none, Error 6.": these, and whether there are any, are given.

@@ -10,8 +10,8 @@ use mathlib.Core.Path.{_≡_, refl, sym, ap, _∙_}
 use Prim.Native.Nat.{_<_, _-_}
 use native.Mathlib.Omega.{arith}
 use borrow.Author.Needs.{needs}
-use Rattle.traffic.proofs.owners_named.Statement.{statement}
-use Rattle.traffic.proofs.owners_named.Tie as tie
+use Rattle.reach.proofs.owners_named.Statement.{statement}
+use Rattle.reach.proofs.owners_named.Tie as tie
 
 abbrev Inv-loop : tie.InvT-loop
 Inv-loop s links iid owner set₀ at₀ set at = Owners (trafficView links [] [] [] iid owner) (walk s at .pars) (walk s 8 .pars) set × Table iid owner links

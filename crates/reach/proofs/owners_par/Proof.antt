@@ -1,8 +1,8 @@
 use Rattle.traffic.specs.Named.{withPar}
 use Rattle.laws.specs.Choice.{choices}
 use borrow.Author.Needs.{needs}
-use Rattle.traffic.proofs.owners_par.Statement.{statement}
-use Rattle.traffic.proofs.owners_par.Tie as tie
+use Rattle.reach.proofs.owners_par.Statement.{statement}
+use Rattle.reach.proofs.owners_par.Tie as tie
 
 owners-of-requires : tie.Need-owners-of-requires
 owners-of-requires c κs = search needs

@@ -1,0 +1,138 @@
+//! Times events of the proved library against the hand-written second program, both in this one run. A time is of one call: the state goes in by value
+//! and comes out by value. Each call is first checked to give the same on both sides: refusal, count, state and the whole list of words.
+use bench::messages::{active_of, bytes, data, message, number, sample_m};
+use bench::plans::{full_plan, plan_s};
+use bench::{proved, timing};
+use second::{load, Gateway, Next};
+use std::hint::black_box;
+
+/// Room for the most orders of an event.
+const ROOM: usize = 1032;
+
+// The hand-written baseline gets the state by value too.
+#[inline(never)]
+fn hand_message(state: Gateway, p: u32, msg: &[u8], words: &mut [u32]) -> Next {
+    state.message(p, msg, words)
+}
+
+#[inline(never)]
+fn hand_link_message(state: Gateway, msg: &[u8], words: &mut [u32]) -> Next {
+    state.link_message(msg, words)
+}
+
+/// A message of ASP p at a state.
+type Call<'a> = (Gateway, u32, &'a [u8]);
+
+/// The calls in turn; all must give so many orders.
+fn messages(name: &str, calls: &[Call], orders: u32) {
+    let (mut x, mut y) = ([0xaa; ROOM], [0xaa; ROOM]);
+    for (state, p, msg) in calls {
+        let a = proved::message(*state, *p as usize, msg, &mut x);
+        let b = hand_message(*state, *p, msg, &mut y);
+        assert_eq!((a.refusal, a.count), (b.code, b.count as usize), "{name}");
+        assert_eq!((b.code, b.count), (0, orders), "{name}");
+        assert!(a.gateway == b.gateway && x == y, "{name}");
+    }
+    let (mut i, mut j) = (0, 0);
+    timing::compare(
+        name,
+        || {
+            i = (i + 1) % calls.len();
+            let (state, p, msg) = black_box(&calls[i]);
+            proved::message(*state, *p as usize, msg, &mut x)
+        },
+        || {
+            j = (j + 1) % calls.len();
+            let (state, p, msg) = black_box(&calls[j]);
+            hand_message(*state, *p, msg, &mut y)
+        },
+    );
+}
+
+fn link_message(name: &str, state: &Gateway, msg: &[u8], orders: u32) {
+    let (mut x, mut y) = ([0xaa; ROOM], [0xaa; ROOM]);
+    let a = proved::link_message(*state, msg, &mut x);
+    let b = hand_link_message(*state, msg, &mut y);
+    assert_eq!((a.refusal, a.count), (b.code, b.count as usize), "{name}");
+    assert_eq!((b.code, b.count), (0, orders), "{name}");
+    assert!(a.gateway == b.gateway && x == y, "{name}");
+    timing::compare(
+        name,
+        || proved::link_message(*black_box(state), msg, &mut x),
+        || hand_link_message(*black_box(state), msg, &mut y),
+    );
+}
+
+/// The state after messages of ASPs.
+fn after(state: Gateway, msgs: &[(u32, &[u8])]) -> Gateway {
+    msgs.iter().fold(state, |g, (p, msg)| {
+        let next = g.message(*p, msg, &mut [0; ROOM]);
+        assert_eq!(next.code, 0);
+        next.gateway
+    })
+}
+
+/// The state with every link that ASP p asks for in service.
+fn in_service(state: Gateway, p: u32, ids: &[u32]) -> Gateway {
+    ids.iter().fold(state, |g, id| {
+        let g = after(g, &[(p, &message(6, 2, &[number(0x1, *id)]))]);
+        let place = g.link_id.iter().position(|x| x == id).expect("a link");
+        g.link_up(place as u32, &mut [0; ROOM]).gateway
+    })
+}
+
+fn on_plan_s() {
+    let (up, beat, m) = (message(3, 1, &[]), message(3, 3, &[]), sample_m());
+    let fresh = load(&plan_s()).gateway;
+    let both = after(fresh, &[(0, &up), (1, &up)]);
+    let first = after(both, &[(0, &m)]);
+    let other = after(both, &[(1, &m)]);
+    assert!(after(first, &[(1, &m)]) == other && after(other, &[(0, &m)]) == first);
+    let serving = in_service(first, 0, &[100]);
+    let active = active_of((0..500).map(|i| 100 + i % 16));
+    messages(
+        "M, a takeover, plan S",
+        &[(first, 1, &m), (other, 0, &m)],
+        2,
+    );
+    messages("Data, plan S", &[(serving, 0, &data(100))], 2);
+    messages("Beat, plan S", &[(first, 0, &beat)], 1);
+    link_message("Data of the link side, plan S", &serving, &data(100), 1);
+    messages("Active of 500 ids, plan S", &[(both, 0, &active)], 3);
+}
+
+fn on_full_plan() {
+    let (up, beat, all) = (message(3, 1, &[]), message(3, 3, &[]), message(4, 1, &[]));
+    let fresh = load(&full_plan()).gateway;
+    let ups: Vec<(u32, &[u8])> = (0..16).map(|p| (p, &up[..])).collect();
+    let alls: Vec<(u32, &[u8])> = (0..16).map(|p| (p, &all[..])).collect();
+    // all are up, ASP 0 is active in all, or each is
+    let idle = after(fresh, &ups);
+    let one = after(idle, &alls[..1]);
+    let each = in_service(after(idle, &alls), 15, &[0, 3, 6]);
+    // link 0 is of AS 0 (override), link 3 of AS 1 (load-share), link 6 of AS 2 (broadcast)
+    let range = bytes(0x8, &[0, 0, 0, 0, 0, 0, 0, 0]);
+    let m = message(4, 1, &[number(0xb, 1), range]);
+    let (first, other) = (after(idle, &[(0, &m)]), after(idle, &[(1, &m)]));
+    let active = active_of((0..500).map(|i| i % 128 * 3));
+    let mixed = active_of((0..500).map(|i| i * 37 % 128 * 3));
+    messages(
+        "takeover in an AS, full plan",
+        &[(first, 1, &m), (other, 0, &m)],
+        2,
+    );
+    messages("Data, full plan", &[(each, 15, &data(3))], 2);
+    messages("Beat, full plan", &[(each, 15, &beat)], 1);
+    link_message("link side, load-share, full plan", &each, &data(3), 1);
+    link_message("link side, broadcast, full plan", &each, &data(6), 16);
+    messages("Active in 16 ASes, full plan", &[(idle, 0, &all)], 257);
+    messages("Up after it, full plan", &[(one, 0, &up)], 258);
+    messages("Active of 500 ids, full plan", &[(idle, 0, &active)], 257);
+    messages("the same, ids mixed, full plan", &[(idle, 0, &mixed)], 257);
+}
+
+fn main() {
+    timing::heading();
+    on_plan_s();
+    on_full_plan();
+}

@@ -1,0 +1,43 @@
+//! Messages, made of parameters.
+
+pub fn number(tag: u16, value: u32) -> Vec<u8> {
+    bytes(tag, &value.to_be_bytes())
+}
+
+pub fn bytes(tag: u16, value: &[u8]) -> Vec<u8> {
+    let mut p = vec![];
+    p.extend(tag.to_be_bytes());
+    p.extend((4 + value.len() as u16).to_be_bytes());
+    p.extend(value);
+    p.resize(p.len().div_ceil(4) * 4, 0);
+    p
+}
+
+pub fn message(class: u8, kind: u8, params: &[Vec<u8>]) -> Vec<u8> {
+    let body: Vec<u8> = params.concat();
+    let mut m = vec![1, 0, class, kind];
+    m.extend((8 + body.len() as u32).to_be_bytes());
+    m.extend(body);
+    m
+}
+
+/// Message M of document 01: Active, override, links 100 to 115.
+pub fn sample_m() -> Vec<u8> {
+    let range = bytes(0x8, &[0, 0, 0, 100, 0, 0, 0, 115]);
+    message(4, 1, &[number(0xb, 1), range])
+}
+
+/// Data of 88 bytes with a correlation id.
+pub fn data(id: u32) -> Vec<u8> {
+    message(
+        6,
+        1,
+        &[number(0x1, id), number(0x13, 7), bytes(0x300, &[0x55; 60])],
+    )
+}
+
+/// An Active that names identifiers.
+pub fn active_of(ids: impl Iterator<Item = u32>) -> Vec<u8> {
+    let value: Vec<u8> = ids.flat_map(u32::to_be_bytes).collect();
+    message(4, 1, &[bytes(0x1, &value)])
+}

@@ -1,0 +1,79 @@
+-- `naming::of_ranges`: none of the entries passed is refused, and the flags of their owners are set. Assumes nothing.
+use Prim.Native.Nat.{_≤_, _<_, _-_}
+use mathlib.Core.Path.{_≡_, refl, sym, _∙_}
+use mathlib.Core.Bool.{true}
+use native.Mathlib.Omega.{arith}
+use borrow.Author.Needs.{needs}
+use Rattle.ranges.specs.Named.{entries}
+use Rattle.ranges.specs.Laws.{Table, pair-start, pair-stop}
+use Rattle.naming.specs.Laws.{Passed, passed-none, passed-more, passed-refused, all-good, all-marked, names-found, names-none}
+use Rattle.naming.proofs.of_ranges.Statement.{statement}
+use Rattle.naming.proofs.of_ranges.Tie as tie
+
+abbrev Inv-loop : tie.InvT-loop
+Inv-loop value iid owner member links p n r₀ i₀ r i = Passed iid owner member links p true value r₀ i r × (i ≤ n) × (n ≡ entries true value) × Table iid owner links × (p < 16)
+
+abbrev μ-loop : tie.MeasureT-loop
+μ-loop value iid owner member links p n r₀ i₀ r i = n - i
+
+loop-holds : tie.Need-loop-holds Inv-loop μ-loop
+unfolding entries
+loop-holds c = (passed-none _ _ _ _ _ _ _ _ (search needs), search needs, refl, c .before .pre .0, c .before .pre .1)
+
+mul-get32 : tie.Need-mul-get32 Inv-loop μ-loop
+mul-get32 c = search needs
+
+get32-requires : tie.Need-get32-requires Inv-loop μ-loop
+unfolding entries
+get32-requires c κs = omega (arith, c .before .loop .inv .2)
+
+mul-get32-2 : tie.Need-mul-get32-2 Inv-loop μ-loop
+mul-get32-2 c = search needs
+
+add-get32 : tie.Need-add-get32 Inv-loop μ-loop
+add-get32 c = search needs
+
+get32-requires-2 : tie.Need-get32-requires-2 Inv-loop μ-loop
+unfolding entries
+get32-requires-2 c κs = omega (arith, c .before .before .loop .inv .2)
+
+of-range-requires : tie.Need-of-range-requires Inv-loop μ-loop
+of-range-requires c κs = let i = c .before .before .before .loop .inv in (i .3, i .4)
+
+returns : tie.Need-returns Inv-loop μ-loop
+returns c = let k = c .before .before .of-range .ensures in let i = c .before .before .before .before .before .before .loop .inv in names-found (c .if1 .taken) (passed-refused _ _ _ _ _ _ _ _ _ _ (i .0) _ _ (c .before .before .before .before .get32 .ensures ∙ sym (pair-start true _ _ refl)) (c .before .before .before .get322 .ensures ∙ sym (pair-stop true _ _ refl)) _ (k .refused) (c .if1 .taken) (omega (arith, i .2)))
+
+add-i : tie.Need-add-i Inv-loop μ-loop
+add-i c = search needs
+
+loop-less : tie.Need-loop-less Inv-loop μ-loop
+loop-less c = search needs
+
+loop-again : tie.Need-loop-again Inv-loop μ-loop
+loop-again c = let k = c .before .before .before .of-range .ensures in let i = c .before .before .before .before .before .before .before .loop .inv in (passed-more _ _ _ _ _ _ _ _ _ _ (i .0) _ _ (c .before .before .before .before .before .get32 .ensures ∙ sym (pair-start true _ _ refl)) (c .before .before .before .before .get322 .ensures ∙ sym (pair-stop true _ _ refl)) _ _ (k .refused) (c .before .if1 .left) (k .set (c .before .if1 .left)), search needs, i .2, i .3, i .4)
+
+passes-requires : tie.Need-passes-requires Inv-loop μ-loop
+passes-requires c κs = search needs
+
+returns-2 : tie.Need-returns-2 Inv-loop μ-loop
+returns-2 c = let i = c .before .before .loop .inv in names-none (c .passes .ensures .0) (all-good _ _ _ _ _ _ _ _ _ _ (i .0) (omega (arith, i .2))) (c .passes .ensures .1) (all-marked _ _ _ _ _ _ _ _ _ _ (i .0) (omega (arith, i .2)))
+
+pub of-ranges-spec : {M : Type 1} → statement M
+of-ranges-spec =
+    tie.close
+    (tie.spec
+    Inv-loop
+    μ-loop
+    loop-holds
+    mul-get32
+    get32-requires
+    mul-get32-2
+    add-get32
+    get32-requires-2
+    of-range-requires
+    returns
+    add-i
+    loop-less
+    loop-again
+    passes-requires
+    returns-2)

@@ -1,0 +1,12 @@
+-- What one pass over the identifiers of a message finds.
+-- Assumes nothing.
+use mathlib.Core.Path.{_≡_}
+use mathlib.Core.Bool.{Bool, false}
+use mathlib.Core.List.{List}
+use Rattle.ranges.specs.declared.Refused.{Refused}
+use Rattle.naming.specs.declared.Named.{Named}
+
+-- the first refused identifier, and where there is none the owners' flags
+pub record Names (r : Named) (first : Refused) (owners : List Bool) : Type 0 where
+  pub refused : r .refused ≡ first
+  pub set : r .refused .found ≡ false → r .set ≡ owners

@@ -1,0 +1,163 @@
+// The identifiers that a message names, looked up once: the first that is refused or, where none is, the ASes that own them.
+use ranges::Refused;
+ghost use mathlib.Core.Path.{_≡_};
+ghost use mathlib.Core.Bool.{true, false, _||_};
+ghost use Prim.Native.Nat.{_<_, _≤_};
+ghost use Rattle.laws.specs.Tab.{at, tab};
+ghost use Rattle.gateway.specs.Sound.{ascends};
+ghost use Rattle.lookup.specs.Links.{rank};
+ghost use Rattle.ranges.specs.Named.{isRefused, isOf, nothing, refusing, firstIn, someIn, startAt, stopAt, refusedIn, someOf};
+ghost use Rattle.ranges.specs.Laws.{Table};
+ghost use Rattle.naming.specs.Names.{Names};
+
+// The flags are of use where nothing is refused.
+pub struct Named {
+    pub refused: Refused,
+    pub set: [bool; 16],
+}
+
+pub fn passes(set: [bool; 16]) -> Named
+    ensures { λ r. ⌜ (r .refused ≡ nothing) × (r .set ≡ set) ⌝ }
+{
+    Named {
+        refused: Refused {
+            found: false,
+            id: 0,
+        },
+        set: set,
+    }
+}
+
+fn refuses(x: u32, set: [bool; 16]) -> Named
+    ensures { λ r. ⌜ r .refused ≡ refusing x ⌝ }
+{
+    Named {
+        refused: Refused { found: true, id: x },
+        set: set,
+    }
+}
+
+// How many identifiers are below x. They often come in order: so the place `near` is tried first.
+fn rank_near(iid: &[u32; 128], links: usize, x: u32, near: usize) -> usize
+    requires { ⌜ (links ≤ 128) × (ascends (now iid) links ≡ true) ⌝ }
+    ensures { λ r. ⌜ (r ≡ rank (now (iid .entry)) links x) × (r ≤ links) ⌝ }
+{
+    if near < links {
+        if iid[near] == x {
+            return near;
+        }
+    }
+    lookup::rank_of(iid, links, x)
+}
+
+// Whether x, that stands at l or nowhere, is not in the plan or owned by an AS without p.
+fn is_refused<'a>(
+    iid: &'a [u32; 128],
+    owner: &'a [u8; 128],
+    member: &'a [u8; 256],
+    links: usize,
+    p: usize,
+    l: usize,
+    x: u32,
+) -> bool
+    requires { ⌜ Table (now iid) (now owner) links × (p < 16) × (l ≡ rank (now iid) links x) ⌝ }
+    ensures { λ r. ⌜ r ≡ isRefused (now (iid .entry)) (now (owner .entry)) (now (member .entry)) links p x ⌝ }
+{
+    if links <= l {
+        return true;
+    }
+    let a = gateway::wide(owner[l]);
+    (iid[l] != x) | !lookup::is_member(member, a, p)
+}
+
+// The identifiers of the value of a 0x1, beside the flags set.
+pub fn of_ids<'a>(
+    set: [bool; 16],
+    value: &[u8],
+    iid: &'a [u32; 128],
+    owner: &'a [u8; 128],
+    member: &'a [u8; 256],
+    links: usize,
+    p: usize,
+) -> Named
+    requires { ⌜ Table (now iid) (now owner) links × (p < 16) ⌝ }
+    ensures { λ r. ⌜ Names r (refusedIn (isRefused (now (iid .entry)) (now (owner .entry)) (now (member .entry)) links p) false (now (value .entry))) (tab 16 (λ a. at set a || someOf (isOf (now (iid .entry)) (now (owner .entry)) links a) false (now (value .entry)))) ⌝ }
+{
+    let n = value.len() / 4;
+    let mut r = set;
+    let mut near: usize = 0;
+    for i in 0..n {
+        let x = wire::get32(value, 4 * i);
+        let l = rank_near(iid, links, x, near);
+        if is_refused(iid, owner, member, links, p, l, x) {
+            return refuses(x, r);
+        }
+        let a = gateway::wide(owner[l]);
+        r[a] = true;
+        near = l + 1;
+    }
+    passes(r)
+}
+
+// The identifiers from start to stop, both ends meant.
+fn of_range<'a>(
+    set: [bool; 16],
+    iid: &'a [u32; 128],
+    owner: &'a [u8; 128],
+    member: &'a [u8; 256],
+    links: usize,
+    p: usize,
+    start: u32,
+    stop: u32,
+) -> Named
+    requires { ⌜ Table (now iid) (now owner) links × (p < 16) ⌝ }
+    ensures { λ r. ⌜ Names r (firstIn (isRefused (now (iid .entry)) (now (owner .entry)) (now (member .entry)) links p) start stop) (tab 16 (λ a. at set a || someIn (isOf (now (iid .entry)) (now (owner .entry)) links a) start stop)) ⌝ }
+{
+    if stop < start {
+        return passes(set);
+    }
+    let mut r = set;
+    let mut l = lookup::rank_of(iid, links, start);
+    let mut x = start;
+    loop {
+        if is_refused(iid, owner, member, links, p, l, x) {
+            return refuses(x, r);
+        }
+        let o = gateway::wide(owner[l]);
+        r[o] = true;
+        if x == stop {
+            return passes(r);
+        }
+        l += 1;
+        x += 1;
+    }
+}
+
+// The identifiers of the value of a 0x8.
+pub fn of_ranges<'a>(
+    set: [bool; 16],
+    value: &[u8],
+    iid: &'a [u32; 128],
+    owner: &'a [u8; 128],
+    member: &'a [u8; 256],
+    links: usize,
+    p: usize,
+) -> Named
+    requires { ⌜ Table (now iid) (now owner) links × (p < 16) ⌝ }
+    ensures { λ r. ⌜ Names r (refusedIn (isRefused (now (iid .entry)) (now (owner .entry)) (now (member .entry)) links p) true (now (value .entry))) (tab 16 (λ a. at set a || someOf (isOf (now (iid .entry)) (now (owner .entry)) links a) true (now (value .entry)))) ⌝ }
+{
+    let n = value.len() / 8;
+    let mut r = set;
+    for i in 0..n {
+        let start = wire::get32(value, 8 * i);
+        let stop = wire::get32(value, 8 * i + 4);
+        let e = of_range(r, iid, owner, member, links, p, start, stop);
+        let f = e.refused;
+        if f.found {
+            return e;
+        }
+        let next = e.set;
+        r = next;
+    }
+    passes(r)
+}
