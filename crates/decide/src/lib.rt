@@ -7,7 +7,7 @@ ghost use Rattle.ranges.specs.Laws.{Table};
 ghost use Rattle.rules.specs.Rules.{isError, fromAsp};
 ghost use Rattle.work.specs.Decides.{Decides};
 ghost use Rattle.links.specs.View.{sixView};
-ghost use Rattle.decide.specs.Other.{otherTree, otherDeed};
+ghost use Rattle.decide.specs.Other.{otherTree, otherDeed, typeIn};
 
 // "Bytes 2 and 3, from 0, both 0 in 4 or more bytes (an Error)"
 pub fn is_error(s: &[u8]) -> bool
@@ -58,7 +58,7 @@ fn other_tree<'a>(
     work::error(p, 6)
 }
 
-// What a readable message of ASP p does that is neither Up, Down, Active nor Inactive.
+// What a message of ASP p does that is neither Up, Down, Active nor Inactive: error says that it is an Error.
 pub fn other_work<'a>(
     links: usize,
     up: &'a [u8; 16],
@@ -68,11 +68,32 @@ pub fn other_work<'a>(
     owner: &'a [u8; 128],
     state: &'a [u8; 128],
     p: usize,
+    error: bool,
     r: Reading,
 ) -> Work
     requires { ⌜ Table (now iid) (now owner) links × (p < 16) × (r .class < 256) × (r .kind < 256) ⌝ }
-    ensures { λ w. ⌜ Decides w (otherDeed (sixView links (now (up .entry)) (now (member .entry)) (now (active .entry)) (now (iid .entry)) (now (owner .entry)) (now (state .entry))) p r) ⌝ }
+    ensures { λ w. ⌜ Decides w (otherDeed (sixView links (now (up .entry)) (now (member .entry)) (now (active .entry)) (now (iid .entry)) (now (owner .entry)) (now (state .entry))) p error r) ⌝ }
 {
-    let six = from_asp(r.kind);
-    other_tree(links, up, member, active, iid, owner, state, p, r, six)
+    if error {
+        return work::nothing();
+    }
+    if r.code == 0 {
+        let six = from_asp(r.kind);
+        return other_tree(links, up, member, active, iid, owner, state, p, r, six);
+    }
+    work::error(p, r.code)
+}
+
+// The class and type of a message as one number; 0 of an Error and of what cannot be read.
+pub fn type_of(error: bool, r: Reading) -> u32
+    requires { ⌜ (r .class < 256) × (r .kind < 256) ⌝ }
+    ensures { λ t. ⌜ t ≡ typeIn error r ⌝ }
+{
+    if error {
+        return 0;
+    }
+    if r.code == 0 {
+        return r.class * 256 + r.kind;
+    }
+    0
 }

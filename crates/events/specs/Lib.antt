@@ -1,3 +1,4 @@
 pub mod Active
+pub mod Kinds
 pub mod Perform
 pub mod Work

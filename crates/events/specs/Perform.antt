@@ -33,10 +33,6 @@ pub record Performed (g : Gateway) (d : Deed) (ws ws′ : List ℕ) (r : Outcome
   pub few : length (actionsOf g d) ≤ 258
   pub state : r .gateway ≡ stateAfter g d
 
--- the same deed, otherwise written
-pub performed : {g : Gateway} {d e : Deed} {ws ws′ : List ℕ} {r : Outcome} → Performed g d ws ws′ r → d ≡ e → Performed g e ws ws′ r
-performed h e = rw e at h
-
 -- ---- an event that is not refused
 
 pub record Accepted (sound known : Bool) (room : ℕ) : Type 0 where
@@ -71,30 +67,58 @@ taken g i n room e h =
     let t = accepted (consistent g) (ltb i n) room (sym e ∙ h) in
     record { sound-yes = t .sound-yes; within = ltb-true i n (t .known-yes); enough = t .enough; counts = counts-within g (t .sound-yes) }
 
--- ---- from both to what every entry promises
+-- ---- from both to what every method and every entry promises
 
-pub handed-no : (g : Gateway) (k : Kind) {ws : List ℕ} {no : ℕ} → no ≡ refusal g (event k ws) → (no ≡ 0 → ⊥)
-    → Handed g (event k ws) ws ws (record { refusal = no; count = 0; gateway = g })
-unfolding actions next wordsOf
-handed-no g k {ws} {no} e h =
+-- the refusal of an event on the state g, where known says that what it names is in the plan
+abbrev refusalIn : Gateway → Bool → List ℕ → ℕ
+refusalIn g known ws = refusalOf (consistent g) known (length ws)
+
+-- What a method promises of the deed d: the equations of `Handed`.
+pub record Handled (g : Gateway) (known : Bool) (d : Deed) (lent left : List ℕ) (r : Outcome) : Type 0 where
+  pub refused : r .refusal ≡ refusalIn g known lent
+  pub count : r .count ≡ length (cond (eqb (refusalIn g known lent) 0) (actionsOf g d) [])
+  pub state : r .gateway ≡ cond (eqb (refusalIn g known lent) 0) (stateAfter g d) g
+  pub words : left ≡ wordsOf (cond (eqb (refusalIn g known lent) 0) (actionsOf g d) []) ++ drop (4 * length (cond (eqb (refusalIn g known lent) 0) (actionsOf g d) [])) lent
+
+pub handled-no : (g : Gateway) (known : Bool) (d : Deed) {ws : List ℕ} {no : ℕ} → no ≡ refusalIn g known ws → (no ≡ 0 → ⊥)
+    → Handled g known d ws ws (record { refusal = no; count = 0; gateway = g })
+unfolding wordsOf
+handled-no g known d {ws} {no} e h =
     record {
-      room = refl;
       refused = e;
       count = rw (← e, ne-eqb no 0 h);
       state = rw (← e, ne-eqb no 0 h);
       words = rw (← e, ne-eqb no 0 h);
     }
 
-pub handed-yes : (g : Gateway) (k : Kind) {ws ws′ : List ℕ} {d : Deed} {no : ℕ} {r : Outcome}
-    → no ≡ refusal g (event k ws) → no ≡ 0 → d ≡ deedOf g k → Performed g d ws ws′ r
-    → Handed g (event k ws) ws ws′ r
-unfolding actions next
-handed-yes g k {ws} {ws′} {d} {no} {r} e h q p =
-    let t = accepted (consistent g) (inPlan g k) (length ws) (sym e ∙ h) in
+pub handled-yes : (g : Gateway) (known : Bool) (d : Deed) {ws ws′ : List ℕ} {d′ : Deed} {no : ℕ} {r : Outcome}
+    → no ≡ refusalIn g known ws → no ≡ 0 → d′ ≡ d → Performed g d′ ws ws′ r
+    → Handled g known d ws ws′ r
+handled-yes g known d {ws} {ws′} {d′} {no} {r} e h q p =
+    let t = accepted (consistent g) known (length ws) (sym e ∙ h) in
     record {
-      room = refl;
       refused = p .accepted ∙ sym h ∙ e;
       count = rw (← e, eq-eqb no 0 h, ← q) (omega (arith, p .wrote .next));
       state = rw (← e, eq-eqb no 0 h, ← q) (p .state);
-      words = rw (← e, eq-eqb no 0 h, ← q) (p .wrote .words ∙ place-first ws (actionsOf g d) (omega (arith, t .enough, p .few)) ∙ rw (mul-comm (length (actionsOf g d)) 4));
+      words = rw (← e, eq-eqb no 0 h, ← q) (p .wrote .words ∙ place-first ws (actionsOf g d′) (omega (arith, t .enough, p .few)) ∙ rw (mul-comm (length (actionsOf g d′)) 4));
     }
+
+pub handed : (g : Gateway) (k : Kind) {ws ws′ : List ℕ} {d : Deed} {r : Outcome} → deedOf g k ≡ d → Handled g (inPlan g k) d ws ws′ r → Handed g (event k ws) ws ws′ r
+unfolding actions next
+handed g k e h =
+    record {
+      room = refl;
+      refused = h .refused;
+      count = rw e (h .count);
+      state = rw e (h .state);
+      words = rw e (h .words);
+    }
+
+pub handed-no : (g : Gateway) (k : Kind) {ws : List ℕ} {no : ℕ} → no ≡ refusal g (event k ws) → (no ≡ 0 → ⊥)
+    → Handed g (event k ws) ws ws (record { refusal = no; count = 0; gateway = g })
+handed-no g k e h = handed g k refl (handled-no g (inPlan g k) (deedOf g k) e h)
+
+pub handed-yes : (g : Gateway) (k : Kind) {ws ws′ : List ℕ} {d : Deed} {no : ℕ} {r : Outcome}
+    → no ≡ refusal g (event k ws) → no ≡ 0 → d ≡ deedOf g k → Performed g d ws ws′ r
+    → Handed g (event k ws) ws ws′ r
+handed-yes g k e h q p = handed g k refl (handled-yes g (inPlan g k) (deedOf g k) e h q p)

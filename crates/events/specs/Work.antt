@@ -24,6 +24,42 @@ use Rattle.events.specs.Perform.{Performed}
 unfoldable pub firstOf : Work → List Action
 firstOf w = cond (ltb (w .what) 3) (given w) (spread w)
 
+unfoldable pub isTurn : Deed → Bool
+isTurn (say os) = false
+isTurn (turn l v os) = true
+isTurn (change os k named) = false
+
+unfoldable pub isChange : Deed → Bool
+isChange (say os) = false
+isChange (turn l v os) = false
+isChange (change os k named) = true
+
+-- the columns that a change in ASes asks, as a gateway: the rules' definitions are asked of it
+abbrev pub asesView : List ℕ → List ℕ → List ℕ → List ℕ → List ℕ → Gateway
+asesView up member active mode waiting =
+    record {
+      asps = 0;
+      ases = 0;
+      links = 0;
+      aspid = [];
+      up = up;
+      member = member;
+      active = active;
+      mode = mode;
+      waiting = waiting;
+      iid = [];
+      owner = [];
+      state = [];
+    }
+
+-- the deed d done on such columns: the words, and the columns that it changes
+pub record Enacted (v : Gateway) (d : Deed) (ws up active waiting ws′ : List ℕ) (n : ℕ) : Type 0 where
+  pub wrote : Written ws 0 (actionsOf v d) ws′ n
+  pub few : length (actionsOf v d) ≤ 258
+  pub up-is : up ≡ stateAfter v d .up
+  pub active-is : active ≡ stateAfter v d .active
+  pub waiting-is : waiting ≡ stateAfter v d .waiting
+
 -- ---- laws
 
 -- one flag to each of the first two
@@ -111,3 +147,59 @@ performed-change g w q f x y e =
       few = rw length-append (omega (arith, given-short w, allActions-short g (w .change) (w .who) f));
       state = e;
     })
+
+-- ---- which of them it is
+
+pub says : (w : Work) → (w .what ≡ 2 → ⊥) → isTurn (deedIn w) ≡ false → (eqb (w .what) 0 || eqb (w .what) 3) ≡ true
+unfolding isTurn
+says w n h = go (eqb (w .what) 0 || eqb (w .what) 3) refl
+  where
+    go : (u : Bool) → (eqb (w .what) 0 || eqb (w .what) 3) ≡ u → u ≡ true
+    go true e = refl
+    go false e = absurd (false≢true (sym h ∙ ap isTurn (deed-turn w n e)))
+
+pub no-change : (w : Work) → isChange (deedIn w) ≡ false → w .what ≡ 2 → ⊥
+unfolding isChange
+no-change w h e = false≢true (sym h ∙ ap isChange (deed-change w e))
+
+-- ---- over columns, and on the whole state
+
+pub enacted : (member mode : List ℕ) {up active waiting up′ active′ waiting′ ws ws′ : List ℕ} {d : Deed} {n : ℕ}
+    → Performed (asesView up member active mode waiting) d ws ws′ (record { refusal = 0; count = n; gateway = asesView up′ member active′ mode waiting′ })
+    → Enacted (asesView up member active mode waiting) d ws up′ active′ waiting′ ws′ n
+enacted member mode p =
+    record {
+      wrote = p .wrote;
+      few = p .few;
+      up-is = ap (λ (g : Gateway). g .up) (p .state);
+      active-is = ap (λ (g : Gateway). g .active) (p .state);
+      waiting-is = ap (λ (g : Gateway). g .waiting) (p .state);
+    }
+
+-- the gateway with these columns
+abbrev laidIn : Gateway → List ℕ → List ℕ → List ℕ → Gateway
+laidIn g up active waiting =
+    record {
+      asps = g .asps;
+      ases = g .ases;
+      links = g .links;
+      aspid = g .aspid;
+      up = up;
+      member = g .member;
+      active = active;
+      mode = g .mode;
+      waiting = waiting;
+      iid = g .iid;
+      owner = g .owner;
+      state = g .state;
+    }
+
+pub performed-ases : (g : Gateway) (d : Deed) {up active waiting ws ws′ : List ℕ} {n : ℕ} → isTurn d ≡ false
+    → Enacted (asesView (g .up) (g .member) (g .active) (g .mode) (g .waiting)) d ws up active waiting ws′ n
+    → Performed g d ws ws′ (record { refusal = 0; count = n; gateway = laidIn g up active waiting })
+unfolding isTurn moved allActions
+performed-ases g (say os) h e =
+    record { accepted = refl; wrote = e .wrote; few = e .few; state = rw (e .up-is, e .active-is, e .waiting-is) }
+performed-ases g (turn l v os) h e = absurd (false≢true (sym h))
+performed-ases g (change os k named) h e =
+    record { accepted = refl; wrote = e .wrote; few = e .few; state = rw (e .up-is, e .active-is, e .waiting-is) }

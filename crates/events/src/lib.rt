@@ -4,21 +4,22 @@ use message::Reading;
 use rules::Outcome;
 use rules::Work;
 ghost use mathlib.Core.Path.{_≡_};
-ghost use mathlib.Core.Bool.{true};
+ghost use mathlib.Core.Bool.{false};
+ghost use lib.Dec.{ltb};
 ghost use Prim.Native.Nat.{_<_, _≤_};
 ghost use lib.ListN.{length};
 ghost use Rattle.action.specs.Words.{Written};
-ghost use Rattle.gateway.specs.Sound.{consistent, consistentOf};
+ghost use Rattle.gateway.specs.Sound.{consistentOf};
 ghost use Rattle.rules.specs.Event.{message, lost, recovery, linkUp, linkDown, linkMessage};
 ghost use Rattle.rules.specs.Asp.{upDeed, downDeed};
-ghost use Rattle.rules.specs.Rules.{readDeed, messageDeed, refusalOf};
+ghost use Rattle.rules.specs.Rules.{refusalOf};
 ghost use Rattle.decide.specs.Other.{otherDeed};
 ghost use Rattle.links.specs.Side.{passes};
 ghost use Rattle.rules.specs.Entry.{Handed};
 ghost use Rattle.rules.specs.Work.{given, spread, deedIn};
 ghost use Rattle.work.specs.Decides.{aspOf};
-ghost use Rattle.events.specs.Perform.{Performed, event};
-ghost use Rattle.events.specs.Work.{firstOf};
+ghost use Rattle.events.specs.Perform.{Performed, Handled, event};
+ghost use Rattle.events.specs.Work.{isTurn, isChange, firstOf, asesView, Enacted};
 ghost use Rattle.events.specs.Active.{activeOrNot};
 
 // "Refusals in order: 105 board not sound; 102 ..; 101 list under 1,032 words": known is that what the event names is in the plan.
@@ -147,50 +148,74 @@ fn first(w: Work, words: &mut [u32]) -> usize
     spread(w, words)
 }
 
+// What is decided in ASes is done over the columns that it asks and changes, lent: the actions are written, and the columns are those after it.
+fn enact<'a>(
+    w: Work,
+    up: &mut [u8; 16],
+    member: &'a [u8; 256],
+    mode: &'a [u8; 16],
+    active: &mut [u8; 256],
+    waiting: &mut [u8; 16],
+    words: &mut [u32],
+) -> usize
+    requires { ⌜ (1032 ≤ length (now words)) × (aspOf (w .change) < 16) × (isTurn (deedIn w) ≡ false) × (length (now up) ≡ 16) × (length (now active) ≡ 256) × (length (now waiting) ≡ 16) ⌝ }
+    ensures { λ r. ⌜ Enacted (asesView (now (up .entry)) (now (member .entry)) (now (active .entry)) (now (mode .entry)) (now (waiting .entry))) (deedIn w) (now (words .entry)) (now (up .exit)) (now (active .exit)) (now (waiting .exit)) (now (words .exit)) r ⌝ }
+{
+    let n = first(w, words);
+    if w.what == 2 {
+        let k = w.change;
+        let named = w.who;
+        let m = servers::run(up, member, mode, active, waiting, k, named, words, n);
+        servers::mark(up, k);
+        return m;
+    }
+    n
+}
+
 // The board of document 01 with its events as methods. (An `impl` stands in the crate of its type: hence the struct around the state.)
+// Each method asks for the refusals itself, over lent columns, before it decides: a method for that would copy the state once more.
 #[repr(C)]
 pub struct Node {
     pub gateway: Gateway,
 }
 
 impl Node {
-    // What is decided is done: the actions are written, and the next state handed back.
-    fn perform(self, w: Work, words: &mut [u32]) -> Outcome
-        requires { ⌜ (1032 ≤ length (now words)) × (aspOf (w .change) < 16) × (w .link < 128) ⌝ }
+    // ---- what is decided is done
+
+    // A change in ASes, or actions alone.
+    fn change(self, w: Work, words: &mut [u32]) -> Outcome
+        requires { ⌜ (1032 ≤ length (now words)) × (aspOf (w .change) < 16) × (isTurn (deedIn w) ≡ false) ⌝ }
         ensures { λ r. ⌜ Performed (self .gateway) (deedIn w) (now (words .entry)) (now (words .exit)) r ⌝ }
     {
-        let what = w.what;
-        let n = first(w, words);
-        if what == 2 {
-            let k = w.change;
-            let named = w.who;
-            let mut active = self.gateway.active;
-            let mut waiting = self.gateway.waiting;
-            let m = servers::run(
-                &self.gateway.up,
-                &self.gateway.member,
-                &self.gateway.mode,
-                &mut active,
-                &mut waiting,
-                k,
-                named,
-                words,
-                n,
-            );
-            let before = self.gateway.up;
-            let up = servers::up_after(before, k);
-            let mut g = self.gateway;
-            g.up = up;
-            g.active = active;
-            g.waiting = waiting;
-            return Outcome {
-                refusal: 0,
-                count: m,
-                gateway: g,
-            };
-        }
         let mut g = self.gateway;
-        if (what == 0) | (what == 3) {
+        let mut up = g.up;
+        let mut waiting = g.waiting;
+        let n = enact(
+            w,
+            &mut up,
+            &self.gateway.member,
+            &self.gateway.mode,
+            &mut g.active,
+            &mut waiting,
+            words,
+        );
+        g.up = up;
+        g.waiting = waiting;
+        Outcome {
+            refusal: 0,
+            count: n,
+            gateway: g,
+        }
+    }
+
+    // A link that comes to a state, or actions alone.
+    fn turn(self, w: Work, words: &mut [u32]) -> Outcome
+        requires { ⌜ (1032 ≤ length (now words)) × (w .link < 128) × (isChange (deedIn w) ≡ false) ⌝ }
+        ensures { λ r. ⌜ Performed (self .gateway) (deedIn w) (now (words .entry)) (now (words .exit)) r ⌝ }
+    {
+        let mut g = self.gateway;
+        let n = first(w, words);
+        if (w.what == 0) | (w.what == 3) {
             return Outcome {
                 refusal: 0,
                 count: n,
@@ -206,13 +231,39 @@ impl Node {
         }
     }
 
-    // ---- what an ASP asks: each method does what the rules' definition of its name says
+    // ---- messages of ASP p
 
     // "Up: an identifier given and not the plan's: Error 15. Else Ack. .. p is up."
     fn up(self, p: usize, read: Reading, words: &mut [u32]) -> Outcome
-        requires { ⌜ (1032 ≤ length (now words)) × (p < 16) ⌝ }
-        ensures { λ r. ⌜ Performed (self .gateway) (upDeed (self .gateway) p read) (now (words .entry)) (now (words .exit)) r ⌝ }
+        ensures { λ r. ⌜ Handled (self .gateway) (ltb p (self .gateway .asps)) (upDeed (self .gateway) p read) (now (words .entry)) (now (words .exit)) r ⌝ }
     {
+        let asps = self.gateway.asps;
+        let ases = self.gateway.ases;
+        let links = self.gateway.links;
+        let no = refused(
+            asps,
+            ases,
+            links,
+            &self.gateway.aspid,
+            &self.gateway.up,
+            &self.gateway.member,
+            &self.gateway.active,
+            &self.gateway.mode,
+            &self.gateway.waiting,
+            &self.gateway.iid,
+            &self.gateway.owner,
+            &self.gateway.state,
+            p < gateway::wide(asps),
+            words.len(),
+        );
+        if no != 0 {
+            let g = self.gateway;
+            return Outcome {
+                refusal: no,
+                count: 0,
+                gateway: g,
+            };
+        }
         let w = asps::up_work(
             &self.gateway.aspid,
             &self.gateway.member,
@@ -220,24 +271,76 @@ impl Node {
             p,
             read,
         );
-        self.perform(w, words)
+        self.change(w, words)
     }
 
     // "Down: Ack; p down, inactive everywhere."
     fn down(self, p: usize, words: &mut [u32]) -> Outcome
-        requires { ⌜ (1032 ≤ length (now words)) × (p < 16) ⌝ }
-        ensures { λ r. ⌜ Performed (self .gateway) (downDeed (self .gateway) p) (now (words .entry)) (now (words .exit)) r ⌝ }
+        ensures { λ r. ⌜ Handled (self .gateway) (ltb p (self .gateway .asps)) (downDeed (self .gateway) p) (now (words .entry)) (now (words .exit)) r ⌝ }
     {
+        let asps = self.gateway.asps;
+        let ases = self.gateway.ases;
+        let links = self.gateway.links;
+        let no = refused(
+            asps,
+            ases,
+            links,
+            &self.gateway.aspid,
+            &self.gateway.up,
+            &self.gateway.member,
+            &self.gateway.active,
+            &self.gateway.mode,
+            &self.gateway.waiting,
+            &self.gateway.iid,
+            &self.gateway.owner,
+            &self.gateway.state,
+            p < gateway::wide(asps),
+            words.len(),
+        );
+        if no != 0 {
+            let g = self.gateway;
+            return Outcome {
+                refusal: no,
+                count: 0,
+                gateway: g,
+            };
+        }
         let w = asps::down_work(&self.gateway.member, p);
-        self.perform(w, words)
+        self.change(w, words)
     }
 
     // "Active, Inactive: p down: Error 6. .." on says that it is Active.
     fn active(self, on: bool, p: usize, msg: &[u8], read: Reading, words: &mut [u32]) -> Outcome
-        requires { ⌜ (1032 ≤ length (now words)) × (p < 16) × (consistent (self .gateway) ≡ true) ⌝ }
-        ensures { λ r. ⌜ Performed (self .gateway) (activeOrNot (self .gateway) on p (now (msg .entry)) read) (now (words .entry)) (now (words .exit)) r ⌝ }
+        ensures { λ r. ⌜ Handled (self .gateway) (ltb p (self .gateway .asps)) (activeOrNot (self .gateway) on p (now (msg .entry)) read) (now (words .entry)) (now (words .exit)) r ⌝ }
     {
-        let n = gateway::wide(self.gateway.links);
+        let asps = self.gateway.asps;
+        let ases = self.gateway.ases;
+        let links = self.gateway.links;
+        let n = gateway::wide(links);
+        let no = refused(
+            asps,
+            ases,
+            links,
+            &self.gateway.aspid,
+            &self.gateway.up,
+            &self.gateway.member,
+            &self.gateway.active,
+            &self.gateway.mode,
+            &self.gateway.waiting,
+            &self.gateway.iid,
+            &self.gateway.owner,
+            &self.gateway.state,
+            p < gateway::wide(asps),
+            words.len(),
+        );
+        if no != 0 {
+            let g = self.gateway;
+            return Outcome {
+                refusal: no,
+                count: 0,
+                gateway: g,
+            };
+        }
         let w = traffic::traffic_work(
             on,
             msg,
@@ -250,76 +353,18 @@ impl Node {
             p,
             read,
         );
-        self.perform(w, words)
+        self.change(w, words)
     }
 
-    // Beat, Beat Ack, class 6, and any other.
-    fn other(self, p: usize, read: Reading, words: &mut [u32]) -> Outcome
-        requires { ⌜ (1032 ≤ length (now words)) × (p < 16) × (consistent (self .gateway) ≡ true) × (read .class < 256) × (read .kind < 256) ⌝ }
-        ensures { λ r. ⌜ Performed (self .gateway) (otherDeed (self .gateway) p read) (now (words .entry)) (now (words .exit)) r ⌝ }
-    {
-        let n = gateway::wide(self.gateway.links);
-        let w = decide::other_work(
-            n,
-            &self.gateway.up,
-            &self.gateway.member,
-            &self.gateway.active,
-            &self.gateway.iid,
-            &self.gateway.owner,
-            &self.gateway.state,
-            p,
-            read,
-        );
-        self.perform(w, words)
-    }
-
-    // A readable message of ASP p, by its class and type.
-    fn readable(self, p: usize, msg: &[u8], read: Reading, words: &mut [u32]) -> Outcome
-        requires { ⌜ (1032 ≤ length (now words)) × (p < 16) × (consistent (self .gateway) ≡ true) × (read .class < 256) × (read .kind < 256) ⌝ }
-        ensures { λ r. ⌜ Performed (self .gateway) (readDeed (self .gateway) p (now (msg .entry)) read) (now (words .entry)) (now (words .exit)) r ⌝ }
-    {
-        let t = read.class * 256 + read.kind;
-        if t == 769 {
-            return self.up(p, read, words);
-        }
-        if t == 770 {
-            return self.down(p, words);
-        }
-        if t == 1025 {
-            return self.active(true, p, msg, read, words);
-        }
-        if t == 1026 {
-            return self.active(false, p, msg, read, words);
-        }
-        self.other(p, read, words)
-    }
-
-    // Any message of ASP p, where the event is not refused.
-    fn answer(self, p: usize, msg: &[u8], words: &mut [u32]) -> Outcome
-        requires { ⌜ (1032 ≤ length (now words)) × (p < 16) × (consistent (self .gateway) ≡ true) ⌝ }
-        ensures { λ r. ⌜ Performed (self .gateway) (messageDeed (self .gateway) p (now (msg .entry))) (now (words .entry)) (now (words .exit)) r ⌝ }
-    {
-        if decide::is_error(msg) {
-            return self.perform(work::nothing(), words);
-        }
-        let read = message::read(msg);
-        if read.code != 0 {
-            return self.perform(work::error(p, read.code), words);
-        }
-        self.readable(p, msg, read, words)
-    }
-
-    // ---- the entries
-
-    // The association of ASP p is lost.
-    pub fn lost(self, p: usize, words: &mut [u32]) -> Outcome
-        ensures { λ r. ⌜ Handed (self .gateway) (event (lost p) (now (words .entry))) (now (words .entry)) (now (words .exit)) r ⌝ }
+    // Beat, Beat Ack, class 6, any other; error says that it is an Error.
+    fn other(self, p: usize, error: bool, read: Reading, words: &mut [u32]) -> Outcome
+        requires { ⌜ (read .class < 256) × (read .kind < 256) ⌝ }
+        ensures { λ r. ⌜ Handled (self .gateway) (ltb p (self .gateway .asps)) (otherDeed (self .gateway) p error read) (now (words .entry)) (now (words .exit)) r ⌝ }
     {
         let asps = self.gateway.asps;
         let ases = self.gateway.ases;
         let links = self.gateway.links;
-        let room = words.len();
-        let known = p < gateway::wide(asps);
+        let n = gateway::wide(links);
         let no = refused(
             asps,
             ases,
@@ -333,8 +378,75 @@ impl Node {
             &self.gateway.iid,
             &self.gateway.owner,
             &self.gateway.state,
-            known,
-            room,
+            p < gateway::wide(asps),
+            words.len(),
+        );
+        if no != 0 {
+            let g = self.gateway;
+            return Outcome {
+                refusal: no,
+                count: 0,
+                gateway: g,
+            };
+        }
+        let w = decide::other_work(
+            n,
+            &self.gateway.up,
+            &self.gateway.member,
+            &self.gateway.active,
+            &self.gateway.iid,
+            &self.gateway.owner,
+            &self.gateway.state,
+            p,
+            error,
+            read,
+        );
+        self.turn(w, words)
+    }
+
+    // A message of ASP p.
+    pub fn message(self, p: usize, msg: &[u8], words: &mut [u32]) -> Outcome
+        ensures { λ r. ⌜ Handed (self .gateway) (event (message p (now (msg .entry))) (now (words .entry))) (now (words .entry)) (now (words .exit)) r ⌝ }
+    {
+        let read = message::read(msg);
+        let error = decide::is_error(msg);
+        let t = decide::type_of(error, read);
+        if t == 769 {
+            return self.up(p, read, words);
+        }
+        if t == 770 {
+            return self.down(p, words);
+        }
+        if (t == 1025) | (t == 1026) {
+            return self.active(t == 1025, p, msg, read, words);
+        }
+        self.other(p, error, read, words)
+    }
+
+    // ---- the other events
+
+    // The association of ASP p is lost.
+    pub fn lost(self, p: usize, words: &mut [u32]) -> Outcome
+        ensures { λ r. ⌜ Handed (self .gateway) (event (lost p) (now (words .entry))) (now (words .entry)) (now (words .exit)) r ⌝ }
+    {
+        let asps = self.gateway.asps;
+        let ases = self.gateway.ases;
+        let links = self.gateway.links;
+        let no = refused(
+            asps,
+            ases,
+            links,
+            &self.gateway.aspid,
+            &self.gateway.up,
+            &self.gateway.member,
+            &self.gateway.active,
+            &self.gateway.mode,
+            &self.gateway.waiting,
+            &self.gateway.iid,
+            &self.gateway.owner,
+            &self.gateway.state,
+            p < gateway::wide(asps),
+            words.len(),
         );
         if no != 0 {
             let g = self.gateway;
@@ -345,18 +457,17 @@ impl Node {
             };
         }
         let w = asps::lost_work(&self.gateway.member, p);
-        self.perform(w, words)
+        self.change(w, words)
     }
 
-    // The recovery time of AS a is over.
+    // The recovery time of AS a is over. (What `change` does stands here once more: with one caller alone `enact` would be compiled into `change`,
+    // and `change` then called with a copy of the state.)
     pub fn recovery(self, a: usize, words: &mut [u32]) -> Outcome
         ensures { λ r. ⌜ Handed (self .gateway) (event (recovery a) (now (words .entry))) (now (words .entry)) (now (words .exit)) r ⌝ }
     {
         let asps = self.gateway.asps;
         let ases = self.gateway.ases;
         let links = self.gateway.links;
-        let room = words.len();
-        let known = a < gateway::wide(ases);
         let no = refused(
             asps,
             ases,
@@ -370,8 +481,8 @@ impl Node {
             &self.gateway.iid,
             &self.gateway.owner,
             &self.gateway.state,
-            known,
-            room,
+            a < gateway::wide(ases),
+            words.len(),
         );
         if no != 0 {
             let g = self.gateway;
@@ -382,7 +493,25 @@ impl Node {
             };
         }
         let w = asps::recovery_work(a);
-        self.perform(w, words)
+        let mut g = self.gateway;
+        let mut up = g.up;
+        let mut waiting = g.waiting;
+        let m = enact(
+            w,
+            &mut up,
+            &self.gateway.member,
+            &self.gateway.mode,
+            &mut g.active,
+            &mut waiting,
+            words,
+        );
+        g.up = up;
+        g.waiting = waiting;
+        Outcome {
+            refusal: 0,
+            count: m,
+            gateway: g,
+        }
     }
 
     // The link at index l is up.
@@ -392,7 +521,6 @@ impl Node {
         let asps = self.gateway.asps;
         let ases = self.gateway.ases;
         let links = self.gateway.links;
-        let room = words.len();
         let n = gateway::wide(links);
         let no = refused(
             asps,
@@ -408,7 +536,7 @@ impl Node {
             &self.gateway.owner,
             &self.gateway.state,
             l < n,
-            room,
+            words.len(),
         );
         if no != 0 {
             let g = self.gateway;
@@ -427,7 +555,7 @@ impl Node {
             &self.gateway.state,
             l,
         );
-        self.perform(w, words)
+        self.turn(w, words)
     }
 
     // The link at index l is down.
@@ -437,7 +565,6 @@ impl Node {
         let asps = self.gateway.asps;
         let ases = self.gateway.ases;
         let links = self.gateway.links;
-        let room = words.len();
         let n = gateway::wide(links);
         let no = refused(
             asps,
@@ -453,7 +580,7 @@ impl Node {
             &self.gateway.owner,
             &self.gateway.state,
             l < n,
-            room,
+            words.len(),
         );
         if no != 0 {
             let g = self.gateway;
@@ -472,55 +599,18 @@ impl Node {
             &self.gateway.state,
             l,
         );
-        self.perform(w, words)
-    }
-
-    // A message of ASP p.
-    pub fn message(self, p: usize, msg: &[u8], words: &mut [u32]) -> Outcome
-        ensures { λ r. ⌜ Handed (self .gateway) (event (message p (now (msg .entry))) (now (words .entry))) (now (words .entry)) (now (words .exit)) r ⌝ }
-    {
-        let asps = self.gateway.asps;
-        let ases = self.gateway.ases;
-        let links = self.gateway.links;
-        let room = words.len();
-        let known = p < gateway::wide(asps);
-        let no = refused(
-            asps,
-            ases,
-            links,
-            &self.gateway.aspid,
-            &self.gateway.up,
-            &self.gateway.member,
-            &self.gateway.active,
-            &self.gateway.mode,
-            &self.gateway.waiting,
-            &self.gateway.iid,
-            &self.gateway.owner,
-            &self.gateway.state,
-            known,
-            room,
-        );
-        if no != 0 {
-            let g = self.gateway;
-            return Outcome {
-                refusal: no,
-                count: 0,
-                gateway: g,
-            };
-        }
-        self.answer(p, msg, words)
+        self.turn(w, words)
     }
 
     // A message of the link side.
     pub fn link_message(self, msg: &[u8], words: &mut [u32]) -> Outcome
         ensures { λ r. ⌜ Handed (self .gateway) (event (linkMessage (now (msg .entry))) (now (words .entry))) (now (words .entry)) (now (words .exit)) r ⌝ }
     {
+        let read = message::read(msg);
         let asps = self.gateway.asps;
         let ases = self.gateway.ases;
         let links = self.gateway.links;
-        let room = words.len();
         let n = gateway::wide(links);
-        let read = message::read(msg);
         let no = refused_side(
             asps,
             ases,
@@ -535,7 +625,7 @@ impl Node {
             &self.gateway.owner,
             &self.gateway.state,
             read,
-            room,
+            words.len(),
         );
         if no != 0 {
             let g = self.gateway;
@@ -554,6 +644,6 @@ impl Node {
             &self.gateway.state,
             read,
         );
-        self.perform(w, words)
+        self.turn(w, words)
     }
 }

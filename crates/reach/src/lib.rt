@@ -45,12 +45,7 @@ fn owners_par<'a>(
 }
 
 // The ASes that own a known identifier of the message.
-fn owners_named<'a>(
-    s: &[u8],
-    links: usize,
-    iid: &'a [u32; 128],
-    owner: &'a [u8; 128],
-) -> [bool; 16]
+fn owners_named<'a>(s: &[u8], links: usize, iid: &'a [u32; 128], owner: &'a [u8; 128]) -> [bool; 16]
     requires { ⌜ Table (now iid) (now owner) links ⌝ }
     ensures { λ r. ⌜ r ≡ ownersNamed (trafficView links [] [] [] (now (iid .entry)) (now (owner .entry))) (walk (now (s .entry)) 8 .pars) ⌝ }
 {

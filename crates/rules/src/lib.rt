@@ -11,17 +11,19 @@ pub struct Outcome {
     pub gateway: Gateway,
 }
 
-// What an accepted event does, as the code decides it before it does it (the definitions' Deed, by `deedIn`).
+// What an accepted event does, as the code decides it before it does it (the definitions' Deed, by `deedIn`). The large fields come first: so the
+// compiler moves them whole.
 pub struct Work {
-    // 0 actions alone, 1 a link comes to a state, 2 a change in ASes, 3 an action to each ASP of `who`, 4 that with a link's state
-    pub what: u8,
-    // how many actions come first, at most 2, and they
-    pub count: usize,
-    pub first: Action,
-    pub second: Action,
-    pub link: usize,
-    pub state: u8,
-    pub change: Change,
     // the ASes of the change, or the ASPs that get `first`
     pub who: [bool; 16],
+    // the actions that come first; `count` says how many
+    pub first: Action,
+    pub second: Action,
+    pub change: Change,
+    // at most 2
+    pub count: usize,
+    pub link: usize,
+    // 0 actions alone, 1 a link comes to a state, 2 a change in ASes, 3 an action to each ASP of `who`, 4 that with a link's state
+    pub what: u8,
+    pub state: u8,
 }

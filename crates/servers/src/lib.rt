@@ -20,27 +20,27 @@ pub fn column_of(column: &[u8; 256], p: usize) -> [bool; 16]
     r
 }
 
-// The column with x at place p.
-fn put_flag(column: [u8; 16], p: usize, x: u8) -> [u8; 16]
-    ensures { λ r. ⌜ r ≡ flagAt column p x ⌝ }
+// The column gets x at place p.
+fn put_flag(column: &mut [u8; 16], p: usize, x: u8)
+    requires { ⌜ length (now column) ≡ 16 ⌝ }
+    ensures { λ _. ⌜ now (column .exit) ≡ flagAt (now (column .entry)) p x ⌝ }
 {
-    let mut r = column;
     if p < 16 {
-        r[p] = x;
+        column[p] = x;
     }
-    r
 }
 
 // Who is up after the change.
-pub fn up_after(up: [u8; 16], k: server::Change) -> [u8; 16]
-    ensures { λ r. ⌜ r ≡ upAfter k up ⌝ }
+pub fn mark(up: &mut [u8; 16], k: server::Change)
+    requires { ⌜ length (now up) ≡ 16 ⌝ }
+    ensures { λ _. ⌜ now (up .exit) ≡ upAfter k (now (up .entry)) ⌝ }
 {
     match k {
         server::Change::Rise(p) => put_flag(up, p, 1),
         server::Change::Fall(p) => put_flag(up, p, 0),
-        server::Change::Off(_) => up,
-        server::Change::On(_) => up,
-        server::Change::Recover => up,
+        server::Change::Off(_) => {}
+        server::Change::On(_) => {}
+        server::Change::Recover => {}
     }
 }
 

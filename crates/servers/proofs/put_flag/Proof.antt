@@ -1,19 +1,20 @@
 -- `servers::put_flag`: one place, or none. Assumes nothing.
 use mathlib.Core.Path.{sym, _∙_}
+use native.Mathlib.Omega.{arith}
 use borrow.Author.Needs.{needs}
 use lib.Seq.{set-out}
 use Rattle.servers.specs.Moved.{flagAt-set}
 use Rattle.servers.proofs.put_flag.Statement.{statement}
 use Rattle.servers.proofs.put_flag.Tie as tie
 
-array-write-r : tie.Need-array-write-r
-array-write-r c = search needs
+element-write-column : tie.Need-element-write-column
+element-write-column c = search needs
 
 returns : tie.Need-returns
-returns c = flagAt-set _ _ _ (search needs)
+returns c = flagAt-set _ _ _ (c .before .pre)
 
 returns-2 : tie.Need-returns-2
-returns-2 c = sym (set-out _ (c .before .args .p) (c .before .args .x) (search needs)) ∙ flagAt-set _ _ _ (search needs)
+returns-2 c = sym (set-out _ (c .before .args .p) (c .before .args .x) (omega (arith, c .before .pre, c .if1 .left))) ∙ flagAt-set _ _ _ (c .before .pre)
 
 pub put-flag-spec : {M : Type 1} → statement M
-put-flag-spec = tie.close (tie.spec array-write-r returns returns-2)
+put-flag-spec = tie.close (tie.spec element-write-column returns returns-2)

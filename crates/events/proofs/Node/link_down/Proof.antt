@@ -1,16 +1,18 @@
--- `events::Node::link_down`: refused, or what a link that goes down does. Assumes nothing.
+-- `events::Node::link_down`: refused, or what the link's state says. Assumes nothing.
 use Prim.Native.Nat.{_<_, _≤_}
-use mathlib.Core.Path.{_≡_, _∙_}
+use mathlib.Core.Path.{_≡_, refl, sym, ap, _∙_}
 use native.Mathlib.Omega.{arith}
-use borrow.Author.Needs.{needs}
 use lib.Dec.{ltb}
 use lib.ListN.{length}
 use Rattle.gateway.specs.Sound.{consistent}
-use Rattle.rules.specs.Event.{linkDown}
 use Rattle.rules.specs.Rules.{refusalOf}
-use Rattle.events.specs.Perform.{Taken, taken, handed-no, handed-yes}
 use Rattle.ranges.specs.Laws.{table}
+use Rattle.rules.specs.Event.{linkDown}
 use Rattle.links.specs.View.{down-same}
+use Rattle.events.specs.Work.{isChange}
+use Rattle.events.specs.Kinds.{link-down-kind}
+use Rattle.events.specs.Perform.{Taken, taken, handed-no, handed-yes}
+use borrow.Author.Needs.{needs}
 use Rattle.events.proofs.Node.link_down.Statement.{statement}
 use Rattle.events.proofs.Node.link_down.Tie as tie
 
@@ -32,14 +34,23 @@ returns c = handed-no _ (linkDown _) (refusal-is (c .before .before)) (c .before
 link-down-requires : tie.Need-link-down-requires
 link-down-requires c κs = let t = known (c .before .before .before .before .before .before .before) (c .before .before .before .before .before .before .if1 .left) in (rw (c .before .before .before .before .before .before .before .before .before .before .before .before .before .before .before .before .before .before .wide .ensures) (table (c .before .before .before .before .before .before .before .before .before .before .before .before .before .before .before .before .before .before .before .before .args .t1 .gateway) (t .sound-yes)), rw (c .before .before .before .before .before .before .before .before .before .before .before .before .before .before .before .before .before .before .wide .ensures) (t .within))
 
-perform-requires : tie.Need-perform-requires
-perform-requires c κs = (known (c .before .before .before .before .before .before .before .before .before) (c .before .before .before .before .before .before .before .before .if1 .left) .enough, c .before .link-down .ensures .asp, c .before .link-down .ensures .place)
+turn-requires : tie.Need-turn-requires
+turn-requires c κs = (known (c .before .before .before .before .before .before .before .before .before) (c .before .before .before .before .before .before .before .before .if1 .left) .enough, c .before .link-down .ensures .place, ap isChange (c .before .link-down .ensures .is) ∙ link-down-kind _ _)
 
 same-length : tie.Need-same-length
 same-length c = search needs
 
 returns-2 : tie.Need-returns-2
-returns-2 c = handed-yes _ (linkDown _) (refusal-is (c .before .before .before .before .before .before .before .before .before .before .before .before)) (c .before .before .before .before .before .before .before .before .before .before .before .if1 .left) (c .before .before .before .before .link-down .ensures .is ∙ rw (c .before .before .before .before .before .before .before .before .before .before .before .before .before .before .before .before .before .before .before .before .before .before .before .wide .ensures) (down-same (c .before .before .before .before .before .before .before .before .before .before .before .before .before .before .before .before .before .before .before .before .before .before .before .before .before .args .t1 .gateway) (c .before .before .before .before .before .before .before .before .before .before .before .before .before .before .before .before .before .before .before .before .before .before .before .before .before .args .l))) (c .before .before .perform .ensures)
+returns-2 c = handed-yes _ (linkDown _) (refusal-is (c .before .before .before .before .before .before .before .before .before .before .before .before)) (c .before .before .before .before .before .before .before .before .before .before .before .if1 .left) (c .before .before .before .before .link-down .ensures .is ∙ rw (c .before .before .before .before .before .before .before .before .before .before .before .before .before .before .before .before .before .before .before .before .before .before .before .wide .ensures) (down-same (c .before .before .before .before .before .before .before .before .before .before .before .before .before .before .before .before .before .before .before .before .before .before .before .before .before .args .t1 .gateway) _)) (c .before .before .turn .ensures)
 
 pub link-down-spec : {M : Type 1} → statement M
-link-down-spec = tie.close (tie.spec wide-requires refused-requires returns link-down-requires perform-requires same-length returns-2)
+link-down-spec =
+    tie.close
+    (tie.spec
+    wide-requires
+    refused-requires
+    returns
+    link-down-requires
+    turn-requires
+    same-length
+    returns-2)

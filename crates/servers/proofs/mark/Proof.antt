@@ -1,7 +1,7 @@
--- `servers::up_after`: by the change. Assumes nothing.
+-- `servers::mark`: by the change. Assumes nothing.
 use borrow.Author.Needs.{needs}
-use Rattle.servers.proofs.up_after.Statement.{statement}
-use Rattle.servers.proofs.up_after.Tie as tie
+use Rattle.servers.proofs.mark.Statement.{statement}
+use Rattle.servers.proofs.mark.Tie as tie
 
 enum-known-k : tie.Need-enum-known-k
 enum-known-k c = search needs
@@ -25,10 +25,10 @@ enum-told-3 : tie.Need-enum-told-3
 enum-told-3 c = search needs
 
 returns : tie.Need-returns
-returns c = rw (c .before .before .k .given .1) (c .put-flag .ensures)
+returns c = rw (c .before .before .before .k .given .1) (c .put-flag .ensures)
 
 returns-2 : tie.Need-returns-2
-returns-2 c = rw (c .before .before .k2 .given .1) (c .put-flag2 .ensures)
+returns-2 c = rw (c .before .before .before .k2 .given .1) (c .put-flag2 .ensures)
 
 returns-3 : tie.Need-returns-3
 returns-3 c = search needs
@@ -39,8 +39,8 @@ returns-4 c = search needs
 returns-5 : tie.Need-returns-5
 returns-5 c = search needs
 
-pub up-after-spec : {M : Type 1} → statement M
-up-after-spec =
+pub mark-spec : {M : Type 1} → statement M
+mark-spec =
     tie.close
     (tie.spec
     enum-known-k
