@@ -5,6 +5,7 @@ use mathlib.Core.Path.{_≡_, refl, ap, _∙_, sym}
 use mathlib.Core.Bool.{Bool, true, false, cond, not, _&&_, _||_, false≢true}
 use mathlib.Core.List.{List, [], _∷_, _++_}
 use native.Mathlib.Omega.{arith}
+use native.Mathlib.Decide.{ℕ-discrete}
 use lib.Dec.{eqb, ltb, leb}
 use lib.ListN.{length, length-append}
 use borrow.Author.Tests.{ne-eqb, eqb-true, eqb-false, le-ltb}
@@ -94,6 +95,21 @@ pub performed-say : (g : Gateway) (w : Work) {ws ws′ : List ℕ} {n : ℕ} →
     → Performed g (deedIn w) ws ws′ (record { refusal = 0; count = n; gateway = g })
 performed-say g w h x =
     rw (deed-say w h) (record { accepted = refl; wrote = x; few = omega (arith, first-short w); state = refl })
+
+abbrev isSay : Deed → Bool
+isSay (say os) = true
+isSay (turn l v os) = false
+isSay (change os k named) = false
+
+-- a deed of actions alone, however the work says it
+pub performed-said : (g : Gateway) (w : Work) {ws ws′ : List ℕ} {n : ℕ} (os : List Action) → deedIn w ≡ say os → Written ws 0 (firstOf w) ws′ n
+    → Performed g (deedIn w) ws ws′ (record { refusal = 0; count = n; gateway = g })
+performed-said g w os e x = performed-say g w (go (eqb (w .what) 0 || eqb (w .what) 3) refl (ℕ-discrete (w .what) 2)) x
+  where
+    go : (u : Bool) → (eqb (w .what) 0 || eqb (w .what) 3) ≡ u → Dec (w .what ≡ 2) → (eqb (w .what) 0 || eqb (w .what) 3) ≡ true
+    go true h d = h
+    go false h (yes z) = absurd (false≢true (ap isSay (sym (deed-change w z) ∙ e)))
+    go false h (no z) = absurd (false≢true (ap isSay (sym (deed-turn w z h) ∙ e)))
 
 pub performed-turn : (g : Gateway) (w : Work) {ws ws′ : List ℕ} {n : ℕ} {g′ : Gateway} → (w .what ≡ 2 → ⊥) → (eqb (w .what) 0 || eqb (w .what) 3) ≡ false → Written ws 0 (firstOf w) ws′ n
     → g′ ≡ withState g (w .link) (w .state) → Performed g (deedIn w) ws ws′ (record { refusal = 0; count = n; gateway = g′ })

@@ -366,33 +366,33 @@ impl Node {
         self.perform(w, words)
     }
 
-    // A message of ASP p.
+    // A message of ASP p. What `perform` does stands here once more: a call would copy the state three times.
     pub fn message(self, p: usize, msg: &[u8], words: &mut [u32]) -> Outcome
         ensures { λ r. ⌜ Handed (self .gateway) (event (message p (now (msg .entry))) (now (words .entry))) (now (words .entry)) (now (words .exit)) r ⌝ }
     {
-        let asps = self.gateway.asps;
-        let ases = self.gateway.ases;
-        let links = self.gateway.links;
+        let mut g = self.gateway;
+        let asps = g.asps;
+        let ases = g.ases;
+        let links = g.links;
         let room = words.len();
         let known = p < gateway::wide(asps);
         let no = refused(
             asps,
             ases,
             links,
-            &self.gateway.aspid,
-            &self.gateway.up,
-            &self.gateway.member,
-            &self.gateway.active,
-            &self.gateway.mode,
-            &self.gateway.waiting,
-            &self.gateway.iid,
-            &self.gateway.owner,
-            &self.gateway.state,
+            &g.aspid,
+            &g.up,
+            &g.member,
+            &g.active,
+            &g.mode,
+            &g.waiting,
+            &g.iid,
+            &g.owner,
+            &g.state,
             known,
             room,
         );
         if no != 0 {
-            let g = self.gateway;
             return Outcome {
                 refusal: no,
                 count: 0,
@@ -402,27 +402,70 @@ impl Node {
         let n = gateway::wide(links);
         let w = decide::message_work(
             n,
-            &self.gateway.aspid,
-            &self.gateway.up,
-            &self.gateway.member,
-            &self.gateway.active,
-            &self.gateway.mode,
-            &self.gateway.iid,
-            &self.gateway.owner,
-            &self.gateway.state,
+            &g.aspid,
+            &g.up,
+            &g.member,
+            &g.active,
+            &g.mode,
+            &g.iid,
+            &g.owner,
+            &g.state,
             p,
             msg,
         );
-        self.perform(w, words)
+        let what = w.what;
+        let k = first(w, words);
+        if what == 2 {
+            let change = w.change;
+            let named = w.who;
+            let mut acts = g.active;
+            let mut waiting = g.waiting;
+            let last = servers::run(
+                &g.up,
+                &g.member,
+                &g.mode,
+                &mut acts,
+                &mut waiting,
+                change,
+                named,
+                words,
+                k,
+            );
+            let before = g.up;
+            let up = servers::up_after(before, change);
+            g.up = up;
+            g.active = acts;
+            g.waiting = waiting;
+            return Outcome {
+                refusal: 0,
+                count: last,
+                gateway: g,
+            };
+        }
+        if (what == 0) | (what == 3) {
+            return Outcome {
+                refusal: 0,
+                count: k,
+                gateway: g,
+            };
+        }
+        let l = w.link;
+        g.state[l] = w.state;
+        Outcome {
+            refusal: 0,
+            count: k,
+            gateway: g,
+        }
     }
 
-    // A message of the link side.
+    // A message of the link side. It changes nothing, so its actions are all there is to do.
     pub fn link_message(self, msg: &[u8], words: &mut [u32]) -> Outcome
         ensures { λ r. ⌜ Handed (self .gateway) (event (linkMessage (now (msg .entry))) (now (words .entry))) (now (words .entry)) (now (words .exit)) r ⌝ }
     {
-        let asps = self.gateway.asps;
-        let ases = self.gateway.ases;
-        let links = self.gateway.links;
+        let g = self.gateway;
+        let asps = g.asps;
+        let ases = g.ases;
+        let links = g.links;
         let room = words.len();
         let n = gateway::wide(links);
         let read = message::read(msg);
@@ -430,35 +473,31 @@ impl Node {
             asps,
             ases,
             links,
-            &self.gateway.aspid,
-            &self.gateway.up,
-            &self.gateway.member,
-            &self.gateway.active,
-            &self.gateway.mode,
-            &self.gateway.waiting,
-            &self.gateway.iid,
-            &self.gateway.owner,
-            &self.gateway.state,
+            &g.aspid,
+            &g.up,
+            &g.member,
+            &g.active,
+            &g.mode,
+            &g.waiting,
+            &g.iid,
+            &g.owner,
+            &g.state,
             read,
             room,
         );
         if no != 0 {
-            let g = self.gateway;
             return Outcome {
                 refusal: no,
                 count: 0,
                 gateway: g,
             };
         }
-        let w = links::link_message(
-            n,
-            &self.gateway.active,
-            &self.gateway.mode,
-            &self.gateway.iid,
-            &self.gateway.owner,
-            &self.gateway.state,
-            read,
-        );
-        self.perform(w, words)
+        let w = links::link_message(n, &g.active, &g.mode, &g.iid, &g.owner, &g.state, read);
+        let m = first(w, words);
+        Outcome {
+            refusal: 0,
+            count: m,
+            gateway: g,
+        }
     }
 }
