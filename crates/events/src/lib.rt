@@ -366,7 +366,7 @@ impl Node {
         self.perform(w, words)
     }
 
-    // A message of ASP p. What `perform` does stands here once more: a call would copy the state three times.
+    // A message of ASP p. What `perform` does stands here once more: a call would copy the state twice more.
     pub fn message(self, p: usize, msg: &[u8], words: &mut [u32]) -> Outcome
         ensures { λ r. ⌜ Handed (self .gateway) (event (message p (now (msg .entry))) (now (words .entry))) (now (words .entry)) (now (words .exit)) r ⌝ }
     {
