@@ -4,6 +4,7 @@ ghost use mathlib.Core.Bool.{true};
 ghost use Prim.Native.Nat.{_<_, _≤_};
 ghost use lib.ListN.{length};
 ghost use Rattle.laws.specs.Below.{one, allBelow};
+ghost use Rattle.gateway.specs.Rows.{rowIf};
 ghost use Rattle.gateway.specs.Sound.{countsIn, blankFrom, differs, upAt, soundAsps, soundRow, activeIn, modeAt, waitingAt, overrideAt, soundAs, ascends, allUnder, soundLinks, consistentOf, consistent, zeros};
 
 // Index of a pair: as * 16 + asp. Flags are 0 or 1. Traffic modes: 1 override, 2 load-share, 3 broadcast. States of a link:
@@ -113,13 +114,12 @@ fn row_ok<'a>(
     member: &'a [u8; 256],
     active: &'a [u8; 256],
     asps: usize,
-    ases: usize,
+    inside: bool,
     a: usize,
 ) -> bool
     requires { ⌜ a < 16 ⌝ }
-    ensures { λ r. ⌜ r ≡ soundRow (now (up .entry)) (now (member .entry)) (now (active .entry)) asps ases a ⌝ }
+    ensures { λ r. ⌜ r ≡ rowIf (now (up .entry)) (now (member .entry)) (now (active .entry)) asps inside a ⌝ }
 {
-    let inside = a < ases;
     let mut ok = true;
     for q in 0..16usize {
         let m = member[a * 16 + q];
@@ -161,6 +161,7 @@ fn override_ok(mode: u8, n: usize) -> bool
     (mode != 1) | (n <= 1)
 }
 
+// An AS of the plan has a mode: so whether it has one stands for that. (With a test of a the compiler makes slower code.)
 fn as_ok<'a>(
     up: &'a [u8; 16],
     member: &'a [u8; 256],
@@ -171,13 +172,14 @@ fn as_ok<'a>(
     ases: usize,
     a: usize,
 ) -> bool
-    requires { ⌜ a < 16 ⌝ }
+    requires { ⌜ (a < 16) × (a < ases) ⌝ }
     ensures { λ r. ⌜ r ≡ soundAs (now (up .entry)) (now (member .entry)) (now (active .entry)) (now (mode .entry)) (now (waiting .entry)) asps ases a ⌝ }
 {
+    let inside = mode[a] != 0;
     let n = count_active(active, a);
-    let row = row_ok(up, member, active, asps, ases, a);
+    let row = row_ok(up, member, active, asps, inside, a);
     let traffic = mode_ok(mode[a], a < ases);
-    let wait = waiting_ok(waiting[a], n, a < ases);
+    let wait = waiting_ok(waiting[a], n, inside);
     let alone = override_ok(mode[a], n);
     row & ((traffic & wait) & alone)
 }
@@ -191,13 +193,18 @@ fn ases_ok<'a>(
     asps: usize,
     ases: usize,
 ) -> bool
+    requires { ⌜ ases ≤ 16 ⌝ }
     ensures { λ r. ⌜ r ≡ allBelow (soundAs (now (up .entry)) (now (member .entry)) (now (active .entry)) (now (mode .entry)) (now (waiting .entry)) asps ases) 16 ⌝ }
 {
     let mut ok = true;
-    for a in 0..16usize {
+    for a in 0..ases {
         ok = ok & as_ok(up, member, active, mode, waiting, asps, ases, a);
     }
-    ok
+    let x = blank(member, ases * 16, 256);
+    let y = blank(active, ases * 16, 256);
+    let z = blank(mode, ases, 16);
+    let w = blank(waiting, ases, 16);
+    ok & ((x & y) & (z & w))
 }
 
 pub fn ascending(iid: &[u32; 128], n: usize) -> bool

@@ -5,7 +5,8 @@ ghost use lib.ListN.{length};
 ghost use Rattle.laws.specs.Below.{one};
 ghost use Rattle.action.specs.Words.{Written};
 ghost use Rattle.server.specs.Record.{row, membersUp, recordFrom, some, stateIn, laid};
-ghost use Rattle.server.specs.Change.{without, joined, turned, overtaken, settle, after, overtakenIn};
+ghost use Rattle.server.specs.Change.{settle, after, overtakenIn};
+ghost use Rattle.server.specs.Flag.{flagged, flagOf, less, more, turnedBy, overtakenBy};
 ghost use Rattle.server.specs.Notify.{announced, spoken};
 
 // Its members that are up, those active in it, whether it waits, its traffic mode.
@@ -103,46 +104,70 @@ pub fn put_row(column: &mut [u8; 256], a: usize, x: [bool; 16])
 
 // ---- the changes
 
-// x without p
-fn minus(x: [bool; 16], p: usize) -> [bool; 16]
-    ensures { λ r. ⌜ r ≡ without x p ⌝ }
+// ASP p alone.
+fn alone(p: usize) -> [bool; 16]
+    ensures { λ r. ⌜ r ≡ flagged p ⌝ }
 {
     let mut r = [false; 16];
-    for q in 0..16usize {
-        r[q] = x[q] & (q != p);
+    if p < 16 {
+        r[p] = true;
     }
     r
 }
 
-// x with p
-fn plus(x: [bool; 16], p: usize) -> [bool; 16]
-    ensures { λ r. ⌜ r ≡ joined x p ⌝ }
+// The ASP of a change, as a flag: found once, for all ASes. (A test of each place against p is the slower by far.)
+pub fn flag_of(k: Change) -> [bool; 16]
+    ensures { λ r. ⌜ r ≡ flagOf k ⌝ }
+{
+    match k {
+        Change::Rise(p) => alone(p),
+        Change::Fall(p) => alone(p),
+        Change::Off(p) => alone(p),
+        Change::On(p) => alone(p),
+        Change::Recover => [false; 16],
+    }
+}
+
+// x without those of y
+fn minus(x: [bool; 16], y: [bool; 16]) -> [bool; 16]
+    ensures { λ r. ⌜ r ≡ less x y ⌝ }
 {
     let mut r = [false; 16];
     for q in 0..16usize {
-        r[q] = x[q] | (q == p);
+        r[q] = x[q] & !y[q];
     }
     r
 }
 
-// The active members once p is, in override it alone.
-fn turn_on(x: [bool; 16], mode: u8, p: usize) -> [bool; 16]
-    ensures { λ r. ⌜ r ≡ turned x mode p ⌝ }
+// x with those of y
+fn plus(x: [bool; 16], y: [bool; 16]) -> [bool; 16]
+    ensures { λ r. ⌜ r ≡ more x y ⌝ }
 {
     let mut r = [false; 16];
     for q in 0..16usize {
-        r[q] = (x[q] & (mode != 1)) | (q == p);
+        r[q] = x[q] | y[q];
     }
     r
 }
 
-// Those whom p overtakes in override.
-fn overtake(x: [bool; 16], mode: u8, p: usize) -> [bool; 16]
-    ensures { λ r. ⌜ r ≡ overtaken x mode p ⌝ }
+// The active members once those of y are, in override they alone.
+fn turn_on(x: [bool; 16], mode: u8, y: [bool; 16]) -> [bool; 16]
+    ensures { λ r. ⌜ r ≡ turnedBy x mode y ⌝ }
 {
     let mut r = [false; 16];
     for q in 0..16usize {
-        r[q] = (x[q] & (mode == 1)) & (q != p);
+        r[q] = (x[q] & (mode != 1)) | y[q];
+    }
+    r
+}
+
+// Those whom they overtake in override.
+fn overtake(x: [bool; 16], mode: u8, y: [bool; 16]) -> [bool; 16]
+    ensures { λ r. ⌜ r ≡ overtakenBy x mode y ⌝ }
+{
+    let mut r = [false; 16];
+    for q in 0..16usize {
+        r[q] = (x[q] & (mode == 1)) & !y[q];
     }
     r
 }
@@ -162,16 +187,17 @@ fn settled(s: AsRecord, ups: [bool; 16], acts: [bool; 16]) -> AsRecord
     }
 }
 
-pub fn changed(s: AsRecord, k: Change) -> AsRecord
+pub fn changed(s: AsRecord, k: Change, me: [bool; 16]) -> AsRecord
+    requires { ⌜ me ≡ flagOf k ⌝ }
     ensures { λ r. ⌜ r ≡ after k s ⌝ }
 {
     let ups = s.ups;
     let acts = s.acts;
     match k {
-        Change::Rise(p) => settled(s, plus(ups, p), minus(acts, p)),
-        Change::Fall(p) => settled(s, minus(ups, p), minus(acts, p)),
-        Change::Off(p) => settled(s, ups, minus(acts, p)),
-        Change::On(p) => settled(s, ups, turn_on(acts, s.mode, p)),
+        Change::Rise(_) => settled(s, plus(ups, me), minus(acts, me)),
+        Change::Fall(_) => settled(s, minus(ups, me), minus(acts, me)),
+        Change::Off(_) => settled(s, ups, minus(acts, me)),
+        Change::On(_) => settled(s, ups, turn_on(acts, s.mode, me)),
         Change::Recover => AsRecord {
             ups: ups,
             acts: acts,
@@ -182,12 +208,13 @@ pub fn changed(s: AsRecord, k: Change) -> AsRecord
 }
 
 // Those whom the change overtakes.
-pub fn overtaken_in(s: AsRecord, k: Change) -> [bool; 16]
+pub fn overtaken_in(s: AsRecord, k: Change, me: [bool; 16]) -> [bool; 16]
+    requires { ⌜ me ≡ flagOf k ⌝ }
     ensures { λ r. ⌜ r ≡ overtakenIn k s ⌝ }
 {
     let acts = s.acts;
     match k {
-        Change::On(p) => overtake(acts, s.mode, p),
+        Change::On(_) => overtake(acts, s.mode, me),
         Change::Rise(_) => [false; 16],
         Change::Fall(_) => [false; 16],
         Change::Off(_) => [false; 16],

@@ -5,6 +5,7 @@ ghost use Prim.Native.Nat.{_+_, _*_, _<_, _≤_};
 ghost use lib.ListN.{length};
 ghost use Rattle.server.specs.Record.{recordFrom};
 ghost use Rattle.server.specs.Change.{fits};
+ghost use Rattle.server.specs.Flag.{flagOf};
 ghost use Rattle.servers.specs.Moved.{flagAt, upAfter, columnOf};
 ghost use Rattle.servers.specs.Run.{Stepped, Ran};
 
@@ -52,20 +53,21 @@ fn step(
     active: &mut [u8; 256],
     waiting: &mut [u8; 16],
     k: server::Change,
+    me: [bool; 16],
     named: bool,
     a: usize,
     words: &mut [u32],
     n: usize,
 ) -> usize
-    requires { ⌜ (a < 16) × (n * 4 + 64 ≤ length (now words)) × (length (now active) ≡ 256) × (fits k ≡ true) ⌝ }
+    requires { ⌜ (a < 16) × (n * 4 + 64 ≤ length (now words)) × (length (now active) ≡ 256) × (fits k ≡ true) × (me ≡ flagOf k) ⌝ }
     ensures { λ r. ⌜ Stepped k named a (recordFrom (now (up .entry)) (now (member .entry)) (now (active .entry)) (now (waiting .entry)) (now (mode .entry)) a) (now (active .entry)) (now (waiting .entry)) (now (words .entry)) n (now (active .exit)) (now (waiting .exit)) (now (words .exit)) r ⌝ }
 {
     if !named {
         return n;
     }
     let s = server::record_of(up, member, active, waiting, mode, a);
-    let t = server::changed(s, k);
-    let lost = server::overtaken_in(s, k);
+    let t = server::changed(s, k, me);
+    let lost = server::overtaken_in(s, k, me);
     let acts = t.acts;
     server::put_row(active, a, acts);
     waiting[a] = server::bit(t.waiting);
@@ -87,9 +89,22 @@ pub fn run<'a>(
     requires { ⌜ (n * 4 + 1024 ≤ length (now words)) × (length (now active) ≡ 256) × (length (now waiting) ≡ 16) × (fits k ≡ true) ⌝ }
     ensures { λ r. ⌜ Ran k named (recordFrom (now (up .entry)) (now (member .entry)) (now (active .entry)) (now (waiting .entry)) (now (mode .entry))) (now (active .entry)) (now (waiting .entry)) (now (words .entry)) n (now (active .exit)) (now (waiting .exit)) (now (words .exit)) r ⌝ }
 {
+    let me = server::flag_of(k);
     let mut m = n;
     for a in 0..16usize {
-        m = step(up, member, mode, active, waiting, k, named[a], a, words, m);
+        m = step(
+            up,
+            member,
+            mode,
+            active,
+            waiting,
+            k,
+            me,
+            named[a],
+            a,
+            words,
+            m,
+        );
     }
     m
 }

@@ -15,12 +15,13 @@ ghost use Rattle.wire.specs.Walk.{walk};
 ghost use Rattle.action.specs.Words.{action};
 ghost use Rattle.ranges.specs.Laws.{Table};
 ghost use Rattle.naming.specs.Names.{Names};
+ghost use Rattle.servers.specs.Moved.{columnOf};
 ghost use Rattle.server.specs.declared.Change.the-variants.{On};
 ghost use Rattle.rules.specs.Deed.{say, change};
 ghost use Rattle.rules.specs.Identifiers.{firstRefused, ownersNamed};
 ghost use Rattle.rules.specs.Asp.{otherMode, activeDeed, inactiveDeed, trafficDeed};
 ghost use Rattle.work.specs.Decides.{Decides};
-ghost use Rattle.traffic.specs.View.{trafficView, act, namedDeed, allDeed};
+ghost use Rattle.traffic.specs.View.{trafficView, act, Aims};
 ghost use Rattle.traffic.specs.Named.{refusedPar, withPar};
 
 // ---- the identifiers of a message
@@ -136,61 +137,27 @@ fn act_in(on: bool, mode: &[u8; 16], p: usize, m: u32, named: [bool; 16]) -> Wor
     inactive_work(p, named)
 }
 
-// "A named identifier not in the plan or owned by an AS without p: Error 2."
-fn named_work<'a>(
-    on: bool,
+// What a message names: by its identifiers, and without any all of p's ASes.
+fn aim<'a>(
+    ids: bool,
     s: &[u8],
     links: usize,
-    up: &'a [u8; 16],
     member: &'a [u8; 256],
-    mode: &'a [u8; 16],
     iid: &'a [u32; 128],
     owner: &'a [u8; 128],
     p: usize,
-    m: u32,
-) -> Work
+) -> Named
     requires { ⌜ Table (now iid) (now owner) links × (p < 16) ⌝ }
-    ensures { λ w. ⌜ Decides w (namedDeed (trafficView links (now (up .entry)) (now (member .entry)) (now (mode .entry)) (now (iid .entry)) (now (owner .entry))) p (walk (now (s .entry)) 8 .pars) on m) ⌝ }
+    ensures { λ r. ⌜ Aims r ids (firstRefused (trafficView links [] (now (member .entry)) [] (now (iid .entry)) (now (owner .entry))) p (walk (now (s .entry)) 8 .pars)) (ownersNamed (trafficView links [] [] [] (now (iid .entry)) (now (owner .entry))) (walk (now (s .entry)) 8 .pars)) (columnOf (now (member .entry)) p) ⌝ }
 {
-    let e = named_of(s, links, member, iid, owner, p);
-    let f = e.refused;
-    if f.found {
-        return work::error_two(p, f.id);
+    if ids {
+        return named_of(s, links, member, iid, owner, p);
     }
-    let named = e.set;
-    act_in(on, mode, p, m, named)
+    naming::passes(servers::column_of(member, p))
 }
 
-// "No identifiers name all of p's ASes; if none, Error 6.": these, and whether there are any, are given.
-fn all_at(some: bool, on: bool, mode: &[u8; 16], p: usize, m: u32, mine: [bool; 16]) -> Work
-    requires { ⌜ p < 16 ⌝ }
-    ensures { λ w. ⌜ Decides w (cond some (act (trafficView 0 [] [] (now (mode .entry)) [] []) p on m mine) (say (action p 0 0 6 ∷ []))) ⌝ }
-{
-    if some {
-        return act_in(on, mode, p, m, mine);
-    }
-    work::error(p, 6)
-}
-
-fn all_work<'a>(
-    on: bool,
-    links: usize,
-    up: &'a [u8; 16],
-    member: &'a [u8; 256],
-    mode: &'a [u8; 16],
-    iid: &'a [u32; 128],
-    owner: &'a [u8; 128],
-    p: usize,
-    m: u32,
-) -> Work
-    requires { ⌜ p < 16 ⌝ }
-    ensures { λ w. ⌜ Decides w (allDeed (trafficView links (now (up .entry)) (now (member .entry)) (now (mode .entry)) (now (iid .entry)) (now (owner .entry))) p on m) ⌝ }
-{
-    let mine = servers::column_of(member, p);
-    all_at(server::has_some(mine), on, mode, p, m, mine)
-}
-
-// "Active, Inactive: p down: Error 6. .." on says that it is Active.
+// "Active, Inactive: p down: Error 6. A named identifier not in the plan or owned by an AS without p: Error 2. .. No identifiers name all of p's ASes; if none,
+// Error 6." on says that it is Active.
 pub fn traffic_work<'a>(
     on: bool,
     s: &[u8],
@@ -206,11 +173,18 @@ pub fn traffic_work<'a>(
     requires { ⌜ Table (now iid) (now owner) links × (p < 16) ⌝ }
     ensures { λ w. ⌜ Decides w (trafficDeed (trafficView links (now (up .entry)) (now (member .entry)) (now (mode .entry)) (now (iid .entry)) (now (owner .entry))) p r (walk (now (s .entry)) 8 .pars) (act (trafficView links (now (up .entry)) (now (member .entry)) (now (mode .entry)) (now (iid .entry)) (now (owner .entry))) p on (r .mode))) ⌝ }
 {
-    if up[p] == 1 {
-        if r.ids == 1 {
-            return named_work(on, s, links, up, member, mode, iid, owner, p, r.mode);
-        }
-        return all_work(on, links, up, member, mode, iid, owner, p, r.mode);
+    if up[p] != 1 {
+        return work::error(p, 6);
     }
-    work::error(p, 6)
+    let ids = r.ids == 1;
+    let e = aim(ids, s, links, member, iid, owner, p);
+    let f = e.refused;
+    if f.found {
+        return work::error_two(p, f.id);
+    }
+    let named = e.set;
+    if !ids & !server::has_some(named) {
+        return work::error(p, 6);
+    }
+    act_in(on, mode, p, r.mode, named)
 }

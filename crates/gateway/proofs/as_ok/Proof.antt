@@ -1,8 +1,11 @@
 -- `gateway::as_ok`: the conditions of one AS. Assumes nothing.
 use borrow.Author.Needs.{needs}
-use Rattle.gateway.specs.Sound.{soundAs}
+use Rattle.gateway.specs.Rows.{as-inside}
 use Rattle.gateway.proofs.as_ok.Statement.{statement}
 use Rattle.gateway.proofs.as_ok.Tie as tie
+
+element-copy-out-inside : tie.Need-element-copy-out-inside
+element-copy-out-inside c = search needs
 
 count-active-requires : tie.Need-count-active-requires
 count-active-requires c κs = search needs
@@ -29,13 +32,13 @@ override-ok-requires : tie.Need-override-ok-requires
 override-ok-requires c κs = search needs
 
 returns : tie.Need-returns
-unfolding soundAs
-returns c = cc
+returns c = rw (c .override-ok .ensures, c .before .before .waiting-ok .ensures, c .before .before .before .before .mode-ok .ensures, c .before .before .before .before .before .before .row-ok .ensures, c .before .before .before .before .before .before .before .count-active .ensures) (as-inside _ _ _ _ _ _ _ _ (c .before .before .before .before .before .before .before .before .before .pre .1))
 
 pub as-ok-spec : {M : Type 1} → statement M
 as-ok-spec =
     tie.close
     (tie.spec
+    element-copy-out-inside
     count-active-requires
     row-ok-requires
     element-copy-out-mode-ok

@@ -31,7 +31,7 @@ asps-ok-requires : tie.Need-asps-ok-requires
 asps-ok-requires c κs = rw (c .before .before .wide .ensures) (limits _ _ _ (counted _ (c .before .before .before .before .counts-ok .ensures) (c .before .before .before .if1 .left)) .asps)
 
 ases-ok-requires : tie.Need-ases-ok-requires
-ases-ok-requires c κs = search needs
+ases-ok-requires c κs = rw (c .before .before .wide2 .ensures) (limits _ _ _ (counted _ (c .before .before .before .before .before .counts-ok .ensures) (c .before .before .before .before .if1 .left)) .ases)
 
 links-ok-requires : tie.Need-links-ok-requires
 links-ok-requires c κs = rw (c .before .before .wide3 .ensures) (limits _ _ _ (counted _ (c .before .before .before .before .before .before .counts-ok .ensures) (c .before .before .before .before .before .if1 .left)) .links)

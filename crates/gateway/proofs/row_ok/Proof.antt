@@ -1,22 +1,24 @@
 -- `gateway::row_ok`: the pairs passed are in order. Assumes nothing.
 use Prim.Native.Nat.{_≤_, _<_, _-_}
-use mathlib.Core.Path.{_≡_, refl, sym}
+use mathlib.Core.Path.{_≡_, sym}
 use mathlib.Core.Bool.{_&&_}
 use borrow.Author.Needs.{needs}
 use lib.Dec.{ltb}
-use Rattle.gateway.specs.Sound.{memberAt, activeAt, soundRow}
+use Rattle.laws.specs.Tab.{col}
+use Rattle.gateway.specs.Sound.{pair, flagIf, activeAt}
+use Rattle.gateway.specs.Rows.{rowIf}
 use Rattle.laws.specs.Below.{allBelow, all-none, all-more, at-end}
 use Rattle.gateway.proofs.row_ok.Statement.{statement}
 use Rattle.gateway.proofs.row_ok.Tie as tie
 
 abbrev Inv-loop : tie.InvT-loop
-Inv-loop up member active asps ases a inside ok₀ q₀ ok q = (ok ≡ allBelow (λ i. memberAt member asps ases a i && activeAt up member active a i) q) × (q ≤ 16) × (a < 16) × (inside ≡ ltb a ases)
+Inv-loop up member active asps inside a ok₀ q₀ ok q = (ok ≡ allBelow (λ i. flagIf (col member (pair a i)) (ltb i asps && inside) && activeAt up member active a i) q) × (q ≤ 16) × (a < 16)
 
 abbrev μ-loop : tie.MeasureT-loop
-μ-loop up member active asps ases a inside ok₀ q₀ ok q = 16 - q
+μ-loop up member active asps inside a ok₀ q₀ ok q = 16 - q
 
 loop-holds : tie.Need-loop-holds Inv-loop μ-loop
-loop-holds c = (sym (all-none _), search needs, search needs, refl)
+loop-holds c = (sym (all-none _), search needs, search needs)
 
 mul-m : tie.Need-mul-m Inv-loop μ-loop
 mul-m c = search needs
@@ -46,11 +48,11 @@ loop-less : tie.Need-loop-less Inv-loop μ-loop
 loop-less c = search needs
 
 loop-again : tie.Need-loop-again Inv-loop μ-loop
-unfolding memberAt activeAt
-loop-again c = (rw all-more (rw (c .before .before .before .before .loop .inv .0)), search needs, search needs, search needs)
+unfolding activeAt
+loop-again c = (rw all-more (rw (c .before .before .before .before .loop .inv .0)), search needs, search needs)
 
 returns : tie.Need-returns Inv-loop μ-loop
-unfolding soundRow
+unfolding rowIf
 returns c = at-end (allBelow _) (c .before .loop .inv .0) (c .loop-test .left) (c .before .loop .inv .1)
 
 pub row-ok-spec : {M : Type 1} → statement M

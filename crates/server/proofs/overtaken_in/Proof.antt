@@ -2,17 +2,15 @@
 use borrow.Author.Needs.{needs}
 use Rattle.laws.specs.Tab.{tab}
 use Rattle.server.specs.Change.{nobody}
+use Rattle.server.specs.Flag.{overtaken-one}
 use Rattle.server.proofs.overtaken_in.Statement.{statement}
 use Rattle.server.proofs.overtaken_in.Tie as tie
 
-enum-known-k : tie.Need-enum-known-k
-enum-known-k c = search needs
+enum-told : tie.Need-enum-told
+enum-told c = search needs
 
 overtake-requires : tie.Need-overtake-requires
 overtake-requires c κs = search needs
-
-enum-told : tie.Need-enum-told
-enum-told c = search needs
 
 enum-told-2 : tie.Need-enum-told-2
 enum-told-2 c = search needs
@@ -23,35 +21,38 @@ enum-told-3 c = search needs
 enum-told-4 : tie.Need-enum-told-4
 enum-told-4 c = search needs
 
+enum-told-5 : tie.Need-enum-told-5
+enum-told-5 c = search needs
+
 returns : tie.Need-returns
-returns c = rw (c .before .before .k .given .1) (c .overtake .ensures)
+returns c = let k = c .before .enum-told .given in rw (k .1) (overtaken-one _ (rw (k .1) at (c .before .before .before .before .pre)) _ _ (c .overtake .ensures))
 
 returns-2 : tie.Need-returns-2
 unfolding nobody tab
-returns-2 c = rw (c .enum-told .given .1)
+returns-2 c = rw (c .enum-told2 .given .1)
 
 returns-3 : tie.Need-returns-3
 unfolding nobody tab
-returns-3 c = rw (c .enum-told2 .given .1)
+returns-3 c = rw (c .enum-told3 .given .1)
 
 returns-4 : tie.Need-returns-4
 unfolding nobody tab
-returns-4 c = rw (c .enum-told3 .given .1)
+returns-4 c = rw (c .enum-told4 .given .1)
 
 returns-5 : tie.Need-returns-5
 unfolding nobody tab
-returns-5 c = rw (c .enum-told4 .given .1)
+returns-5 c = rw (c .enum-told5 .given .1)
 
 pub overtaken-in-spec : {M : Type 1} → statement M
 overtaken-in-spec =
     tie.close
     (tie.spec
-    enum-known-k
-    overtake-requires
     enum-told
+    overtake-requires
     enum-told-2
     enum-told-3
     enum-told-4
+    enum-told-5
     returns
     returns-2
     returns-3

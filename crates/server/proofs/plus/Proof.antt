@@ -6,21 +6,24 @@ use native.Mathlib.Omega.{arith}
 use lib.Dec.{eqb}
 use borrow.Author.Needs.{needs}
 use Rattle.laws.specs.Tab.{Half, at, half-end, half-more, half-none}
-use Rattle.server.specs.Change.{joined}
+use Rattle.server.specs.Flag.{more}
 use Rattle.server.proofs.plus.Statement.{statement}
 use Rattle.server.proofs.plus.Tie as tie
 
 abbrev Inv-loop : tie.InvT-loop
-Inv-loop p x r₀ q₀ r q = Half (λ i. at x i || eqb i p) (at r₀) 16 q r × (q ≤ 16)
+Inv-loop x y r₀ q₀ r q = Half (λ i. at x i || at y i) (at r₀) 16 q r × (q ≤ 16)
 
 abbrev μ-loop : tie.MeasureT-loop
-μ-loop p x r₀ q₀ r q = 16 - q
+μ-loop x y r₀ q₀ r q = 16 - q
 
 loop-holds : tie.Need-loop-holds Inv-loop μ-loop
 loop-holds c = (half-none _ 16 _ refl, omega arith)
 
 array-read-r : tie.Need-array-read-r Inv-loop μ-loop
 array-read-r c = search needs
+
+array-read-r-2 : tie.Need-array-read-r-2 Inv-loop μ-loop
+array-read-r-2 c = search needs
 
 array-write-r : tie.Need-array-write-r Inv-loop μ-loop
 array-write-r c = search needs
@@ -35,7 +38,7 @@ loop-again : tie.Need-loop-again Inv-loop μ-loop
 loop-again c = (half-more _ (c .before .loop .inv .0) (omega arith) refl, search needs)
 
 returns : tie.Need-returns Inv-loop μ-loop
-unfolding joined
+unfolding more
 returns c = half-end (c .before .loop .inv .0) (c .loop-test .left)
 
 pub plus-spec : {M : Type 1} → statement M
@@ -46,6 +49,7 @@ plus-spec =
     μ-loop
     loop-holds
     array-read-r
+    array-read-r-2
     array-write-r
     add-q
     loop-less

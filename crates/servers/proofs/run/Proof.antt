@@ -11,19 +11,22 @@ use Rattle.servers.proofs.run.Statement.{statement}
 use Rattle.servers.proofs.run.Tie as tie
 
 abbrev Inv-loop : tie.InvT-loop
-Inv-loop up member mode active₀ waiting₀ k words₀ n named m₀ a₀ active waiting words m a = Running k named (recordFrom up member active₀ waiting₀ mode) active₀ waiting₀ words₀ n a active waiting words m × (a ≤ 16)
+Inv-loop up member mode active₀ waiting₀ k words₀ n named me m₀ a₀ active waiting words m a = Running k named (recordFrom up member active₀ waiting₀ mode) active₀ waiting₀ words₀ n a active waiting words m × (a ≤ 16)
 
 abbrev μ-loop : tie.MeasureT-loop
-μ-loop up member mode active₀ waiting₀ k words₀ n named m₀ a₀ active waiting words m a = 16 - a
+μ-loop up member mode active₀ waiting₀ k words₀ n named me m₀ a₀ active waiting words m a = 16 - a
+
+flag-of-requires : tie.Need-flag-of-requires Inv-loop μ-loop
+flag-of-requires c κs = search needs
 
 loop-holds : tie.Need-loop-holds Inv-loop μ-loop
-loop-holds c = (run-none _ _ _ _ _ _ _ _ _ (c .before .pre .1) (c .before .pre .2), omega arith)
+loop-holds c = (run-none _ _ _ _ _ _ _ _ _ (c .before .before .pre .1) (c .before .before .pre .2), omega arith)
 
 array-read-step : tie.Need-array-read-step Inv-loop μ-loop
 array-read-step c = search needs
 
 step-requires : tie.Need-step-requires Inv-loop μ-loop
-step-requires c κs = let h = c .before .before .before .before .loop .inv .0 in (omega arith, omega (arith, written-length (h .wrote .wrote), emit-bound 16 (actionsAt-short _ _ _ (c .before .before .before .before .before .before .pre .3)) (h .wrote)), h .acts .long, c .before .before .before .before .before .before .pre .3)
+step-requires c κs = let h = c .before .before .before .before .loop .inv .0 in (omega arith, omega (arith, written-length (h .wrote .wrote), emit-bound 16 (actionsAt-short _ _ _ (c .before .before .before .before .before .before .before .pre .3)) (h .wrote)), h .acts .long, c .before .before .before .before .before .before .before .pre .3, c .before .before .before .before .before .flag-of .ensures)
 
 add-a : tie.Need-add-a Inv-loop μ-loop
 add-a c = search needs
@@ -46,6 +49,7 @@ run-spec =
     (tie.spec
     Inv-loop
     μ-loop
+    flag-of-requires
     loop-holds
     array-read-step
     step-requires
