@@ -182,7 +182,7 @@ pub struct Node {
 impl Node {
     // ---- what is decided is done
 
-    // A change in ASes, or actions alone.
+    // A change in ASes, or actions alone. (What is asked is copied: 272 bytes. Lent from the state itself, the whole of it would be copied.)
     fn change(self, w: Work, words: &mut [u32]) -> Outcome
         requires { ⌜ (1032 ≤ length (now words)) × (aspOf (w .change) < 16) × (isTurn (deedIn w) ≡ false) ⌝ }
         ensures { λ r. ⌜ Performed (self .gateway) (deedIn w) (now (words .entry)) (now (words .exit)) r ⌝ }
@@ -190,11 +190,13 @@ impl Node {
         let mut g = self.gateway;
         let mut up = g.up;
         let mut waiting = g.waiting;
+        let member = g.member;
+        let mode = g.mode;
         let n = enact(
             w,
             &mut up,
-            &self.gateway.member,
-            &self.gateway.mode,
+            &member,
+            &mode,
             &mut g.active,
             &mut waiting,
             words,
