@@ -1,11 +1,11 @@
 -- What the parts of a `Work` are, by `what`.
 -- Assumes nothing.
-use Prim.Native.Nat.{ℕ, _+_, _*_, _≤_, _<_}
+use Prim.Native.Nat.{ℕ, _+_, _≤_}
 use mathlib.Core.Path.{_≡_, refl, ap, _∙_, sym}
 use mathlib.Core.Bool.{Bool, true, false, cond, not, _&&_, _||_, false≢true}
 use mathlib.Core.List.{List, [], _∷_, _++_}
 use native.Mathlib.Omega.{arith}
-use lib.Dec.{eqb, ltb, leb}
+use lib.Dec.{eqb, ltb}
 use lib.ListN.{length, length-append}
 use borrow.Author.Tests.{ne-eqb, eqb-true, eqb-false, le-ltb}
 use Rattle.laws.specs.Below.{when}
@@ -14,7 +14,6 @@ use Rattle.action.specs.Words.{Written, toAll-short, written-append}
 use Rattle.gateway.specs.declared.Gateway.{Gateway}
 use Rattle.server.specs.Change.{fits}
 use Rattle.servers.specs.Moved.{moved, linked, allActions, allActions-short}
-use Rattle.rules.specs.declared.Outcome.{Outcome}
 use Rattle.rules.specs.declared.Work.{Work}
 use Rattle.rules.specs.Deed.{Deed, say, turn, change, actionsOf, stateAfter}
 use Rattle.rules.specs.Work.{given, spread, deedIn}

@@ -1,13 +1,13 @@
 -- The identifiers that a message names, one parameter after the other.
 -- Assumes nothing.
 use mathlib.Core.Path.{_≡_, refl, ap, _∙_, sym}
-use mathlib.Core.Bool.{Bool, true, false, cond, not, _&&_, _||_, false≢true}
+use mathlib.Core.Bool.{Bool, true, false, cond, _&&_, _||_, false≢true}
 use mathlib.Core.List.{List, [], _∷_}
 use Prim.Native.Nat.{ℕ, _<_}
 use lib.Dec.{eqb}
 use borrow.Author.Tests.{eqb-true}
 use lib.ListN.{length, replicate, getD-replicate}
-use Rattle.laws.specs.Tab.{at, tab, tab-ext, getD-tab, is-tab, length-tab}
+use Rattle.laws.specs.Tab.{at, tab, getD-tab, is-tab, length-tab}
 use Rattle.wire.specs.Walk.{Par}
 use Rattle.gateway.specs.declared.Gateway.{Gateway}
 use Rattle.ranges.specs.Named.{isRefused, isOf, nothing, refusedIn, someOf}

@@ -1,12 +1,11 @@
 -- `events::enact`: the first actions, then the change in its ASes. Assumes nothing.
-use Prim.Native.Nat.{_+_, _*_, _≤_}
-use mathlib.Core.Path.{_≡_, ap, _∙_}
+use mathlib.Core.Path.{ap}
 use native.Mathlib.Omega.{arith}
 use lib.ListN.{length}
 use Rattle.action.specs.Words.{written-length}
 use Rattle.servers.specs.Run.{ran-actions, ran-moved}
 use Rattle.work.specs.Decides.{fits-asp}
-use Rattle.events.specs.Work.{given-short, first-change, says, performed-say, performed-change, enacted, asesView}
+use Rattle.events.specs.Work.{given-short, first-change, says, performed-say, performed-change, enacted}
 use borrow.Author.Needs.{needs}
 use Rattle.events.proofs.enact.Statement.{statement}
 use Rattle.events.proofs.enact.Tie as tie

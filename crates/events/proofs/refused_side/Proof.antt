@@ -1,5 +1,5 @@
 -- `events::refused_side`: an unsound state is refused before the identifier is looked up. Assumes nothing.
-use mathlib.Core.Path.{_≡_, refl, sym, _∙_}
+use mathlib.Core.Path.{refl, sym, _∙_}
 use borrow.Author.Tests.{not-true, not-false}
 use Rattle.gateway.specs.declared.Gateway.{Gateway}
 use Rattle.ranges.specs.Laws.{table}

@@ -1,5 +1,4 @@
 -- `naming::rank_near`: the place where x stands is its rank. Assumes nothing.
-use native.Mathlib.Omega.{arith}
 use borrow.Author.Needs.{needs}
 use Rattle.naming.specs.Laws.{rank-here}
 use Rattle.naming.proofs.rank_near.Statement.{statement}

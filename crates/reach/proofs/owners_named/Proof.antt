@@ -6,8 +6,8 @@ use Rattle.wire.specs.declared.Step.the-variants.{Param}
 use Rattle.wire.specs.Walk.{stepAt, walk}
 use lib.ListN.{length}
 use mathlib.Core.List.{[]}
-use mathlib.Core.Path.{_≡_, refl, sym, ap, _∙_}
-use Prim.Native.Nat.{_<_, _-_}
+use mathlib.Core.Path.{_≡_, sym, _∙_}
+use Prim.Native.Nat.{_-_}
 use native.Mathlib.Omega.{arith}
 use borrow.Author.Needs.{needs}
 use Rattle.reach.proofs.owners_named.Statement.{statement}

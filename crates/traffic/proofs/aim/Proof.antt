@@ -1,7 +1,6 @@
 use mathlib.Core.Path.{_∙_, sym}
 use mathlib.Core.Bool.{false≢true}
 use borrow.Author.Needs.{needs}
-use Rattle.traffic.specs.View.{Aims}
 use Rattle.traffic.proofs.aim.Statement.{statement}
 use Rattle.traffic.proofs.aim.Tie as tie
 

@@ -1,13 +1,11 @@
 -- `events::Node::active`: refused, or Active or Inactive is decided and done. Assumes nothing.
-use Prim.Native.Nat.{_<_, _≤_}
-use mathlib.Core.Path.{_≡_, refl, sym, ap, _∙_}
+use mathlib.Core.Path.{_≡_, ap, _∙_}
 use native.Mathlib.Omega.{arith}
 use lib.Dec.{ltb}
 use lib.ListN.{length}
 use Rattle.gateway.specs.Sound.{consistent}
 use Rattle.rules.specs.Rules.{refusalOf}
 use Rattle.ranges.specs.Laws.{table}
-use Rattle.rules.specs.Deed.{Deed}
 use Rattle.rules.specs.Work.{deedIn}
 use Rattle.events.specs.Active.{activeOrNot, active-is}
 use Rattle.events.specs.Work.{isTurn}

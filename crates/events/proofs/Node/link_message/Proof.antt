@@ -1,5 +1,5 @@
 -- `events::Node::link_message`: refused, or what a message of the link side does. Assumes nothing.
-use mathlib.Core.Path.{_≡_, refl, sym, ap, _∙_}
+use mathlib.Core.Path.{_≡_, sym, ap, _∙_}
 use mathlib.Core.Bool.{Bool}
 use lib.ListN.{length}
 use Rattle.message.specs.Meaning.{readingOf}
