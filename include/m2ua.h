@@ -1,4 +1,4 @@
-/* The M2UA gateway library: the entries that `rt staticlib host` and `rt staticlib host_events` export (crates/host, crates/host_events). Link
+/* The M2UA gateway library (what it does is in docs/RULES.md): the entries that `rt staticlib host` and `rt staticlib host_events` export (crates/host, crates/host_events). Link
  * target/staticlib/libhost.a and libhost_events.a.
  * Nothing checks this header against the Rattle source; examples/c tries each entry. */
 #ifndef M2UA_H
@@ -6,7 +6,7 @@
 #include <stddef.h>
 #include <stdint.h>
 
-/* What reading a message gives. A refused message has its number in `code`, and zeros. */
+/* What reading a message gives (Rule 2.18). A refused message has its number in `code`, and zeros. */
 typedef struct {
     uint32_t code;        /* 0, or the number of the refusal */
     uint32_t class_;      /* message class */
@@ -22,14 +22,14 @@ typedef struct {
     uint32_t action;      /* of a Retrieval Request or Confirm */
 } m2ua_reading;
 
-/* What a write did: 0 and the bytes written, or the number of the refusal and 0. */
+/* What a write did (Rule 3.5): 0 and the bytes written, or the number of the refusal and 0. */
 typedef struct {
     uint32_t code;
     size_t length;
 } m2ua_written;
 
-/* Writes the message of a class, a type and a list of tags and values: the tags, the lengths of the values, and the values one after the other.
- * A refusal (the reader's number for that message, then 103 where `out` is short) changes no byte of `out`; bytes behind the message stay. */
+/* Writes the message of a class, a type and a list of parameters (Rule 3.2): the tags, the lengths of the values, and the values one behind the other.
+ * A refusal (Rule 3.3: 7 for a list that is not whole, then the reader's number, then 103 where `out` is short) changes no byte of `out`. */
 m2ua_written m2ua_write(uint8_t class_, uint8_t kind, const uint16_t *tags, size_t tag_count, const uint32_t *lens, size_t len_count,
                         const uint8_t *values, size_t value_bytes, uint8_t *out, size_t out_bytes);
 
@@ -52,24 +52,24 @@ typedef struct {
     m2ua_gateway gateway;
 } m2ua_loaded;
 
-/* Loads a plan file of any bytes. */
+/* Loads a plan file of any bytes (section 4 of the rules). */
 m2ua_loaded m2ua_load(const uint8_t *file, size_t len);
 
-/* 1 where the state is consistent (document 01: a sound board), else 0. */
+/* 1 where the state is sound (Rule 5.4), else 0. */
 uint32_t m2ua_is_consistent(m2ua_gateway g);
 
-/* Reads a message of any bytes. It keeps no state and touches nothing but its result. */
+/* Reads a message of any bytes (Rule 2.9). It keeps no state and touches nothing but its result. */
 m2ua_reading m2ua_read(const uint8_t *msg, size_t len);
 
-/* What an event hands back: 0, the number of orders and the next state; or the refusal (105, 102, 101), 0 and the state given. */
+/* What an event hands back (Rule 6.2): 0, the number of actions and the next state; or the refusal (105, 102, 101), 0 and the state as it was given. */
 typedef struct {
     uint32_t refusal;
     size_t count;
     m2ua_gateway gateway;
 } m2ua_outcome;
 
-/* The events. Orders go to `words`, four words each: addressee (ASP number; 255 the link side), class * 256 + type, subject, value. Words behind the orders
- * stay; a list under 1,032 words is refused with 101. */
+/* The six events (Rule 6.1). Actions are written to `words`, four words each (Rule 8.1): the number of an ASP, or 255 for the link side; class * 256 + type; subject;
+ * value. The words behind them are left alone; a list of fewer than 1,032 words is refused with 101. */
 m2ua_outcome m2ua_message(m2ua_gateway g, size_t asp, const uint8_t *msg, size_t len, uint32_t *words, size_t count);
 m2ua_outcome m2ua_lost(m2ua_gateway g, size_t asp, uint32_t *words, size_t count);
 m2ua_outcome m2ua_recovery(m2ua_gateway g, size_t as, uint32_t *words, size_t count);
