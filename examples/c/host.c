@@ -1,4 +1,4 @@
-/* Reads sample M of document 01, whole and with a traffic mode that there is not, and loads a plan. */
+/* Reads message M (Rule 11.2), whole and with a traffic mode that there is not, and loads a plan. */
 #include <stdio.h>
 #include <string.h>
 #include "m2ua.h"

@@ -5,7 +5,7 @@ use crate::gateway::Gateway;
 use crate::wire::*;
 use crate::write::{put_header, put_param, Written, SHORT_BUFFER};
 
-/// A place beyond the orders, or an order to the link side.
+/// No order stands at that place, or it is one for the link side.
 pub const NO_SUCH_ORDER: u32 = 104;
 
 /// Takes the parameters of a message one after the other: first to count
@@ -65,7 +65,7 @@ fn links_of(gateway: &Gateway, server: u32) -> impl Iterator<Item = u32> + '_ {
 }
 
 impl Gateway {
-    /// Writes the order at a place, from 0, of an event on this board.
+    /// Writes the order at a place, from 0, of an event on this state.
     pub fn order_bytes(&self, event: Event, place: u32, out: &mut [u8]) -> Written {
         let mut list = [0; LIST_WORDS];
         let next = self.event(event, &mut list);

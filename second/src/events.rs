@@ -1,4 +1,4 @@
-//! The six kinds of event: each takes the board by value and hands the next
+//! The six kinds of event: each takes the state by value and hands the next
 //! one back, with orders in a lent list.
 
 use crate::gateway::*;
@@ -9,7 +9,7 @@ use crate::wire::*;
 pub const SHORT_LIST: u32 = 101;
 /// An index beyond the plan, or a link-side message that is none.
 pub const BAD_EVENT: u32 = 102;
-/// The board is not sound.
+/// The state is not sound.
 pub const NOT_SOUND: u32 = 105;
 
 /// Room for the most orders an event can give, four words each.
@@ -193,7 +193,7 @@ impl Gateway {
         }
     }
 
-    /// Whether an event is refused for the board or for its index, which must
+    /// Whether an event is refused for the state or for its index, which must
     /// be below the count.
     #[inline(always)]
     fn refusal(&self, index: u32, count: u8) -> u32 {
@@ -377,7 +377,7 @@ impl Gateway {
     }
 
     /// The owners of the identifiers a message names, as bits, or the first
-    /// identifier that is not in the plan or owned by an AS without p.
+    /// of these that is unknown or whose AS p has no part in.
     fn named_ases(&self, p: usize, message: &[u8]) -> Result<u16, u32> {
         let ids = self.link_ids();
         let allowed = self.ases_of(p);

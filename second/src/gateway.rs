@@ -1,4 +1,4 @@
-//! The board: what the gateway knows of ASPs, ASes and links.
+//! The state: what the gateway knows of ASPs, ASes and links.
 
 /// Most ASPs and most ASes.
 pub const MAX_ASPS: usize = 16;
@@ -16,7 +16,7 @@ pub const STARTING: u8 = 1;
 pub const IN_SERVICE: u8 = 2;
 pub const STOPPING: u8 = 3;
 
-/// The board with its plan. The place of a pair is 16 times the AS plus the
+/// The state with its plan. The place of a pair is 16 times the AS plus the
 /// ASP, so that the ASPs of one AS are 16 bytes in a row.
 #[repr(C)]
 #[derive(Clone, Copy, PartialEq, Eq, Debug)]
@@ -88,7 +88,7 @@ fn row(table: &[u8; 256], a: usize) -> Asps {
 }
 
 impl Gateway {
-    /// The board of zeros, which no plan gives.
+    /// The state of zeros, which no plan gives.
     pub const ZERO: Gateway = Gateway {
         asps: 0,
         ases: 0,
@@ -184,7 +184,7 @@ impl Gateway {
         chosen & chosen.wrapping_neg()
     }
 
-    /// Whether the board is sound: what every event asks first. No exit inside
+    /// Whether the state is sound: what every event asks first. No exit inside
     /// the loops, so that they take many places at a time.
     pub fn is_sound(&self) -> bool {
         let asps = self.asps as usize;
@@ -262,7 +262,7 @@ impl Gateway {
     }
 }
 
-/// Whether the board is sound.
+/// Whether the state is sound.
 pub fn is_sound(gateway: &Gateway) -> bool {
     gateway.is_sound()
 }

@@ -19,13 +19,13 @@ const LINK_ROW: usize = 8;
 pub struct Loaded {
     /// 0, or the refusal.
     pub code: u32,
-    /// The fresh board; of a refused plan the board of zeros.
+    /// The fresh state; of a refused plan the state of zeros.
     pub gateway: Gateway,
 }
 
 /// Loads a plan file.
 pub fn load(file: &[u8]) -> Loaded {
-    // Filled where it will be handed back: the board is too large to be moved
+    // Filled where it will be handed back: the state is too large to be moved
     // about.
     let mut loaded = Loaded {
         code: 0,
@@ -40,7 +40,7 @@ pub fn load(file: &[u8]) -> Loaded {
     loaded
 }
 
-/// Makes a board of zeros the fresh board of a plan.
+/// Makes a state of zeros the fresh state of a plan.
 #[inline(always)]
 fn fill(file: &[u8], gateway: &mut Gateway) -> Result<(), u32> {
     let Some((contents, bodies)) = file.split_first_chunk::<CONTENTS>() else {

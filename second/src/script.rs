@@ -27,7 +27,7 @@ pub struct Session {
     bytes: Vec<u8>,
     tags: Vec<u16>,
     lens: Vec<u32>,
-    /// The current board.
+    /// The current state.
     gateway: Gateway,
     /// The list lent to events.
     list: Vec<u32>,
@@ -53,7 +53,7 @@ impl Session {
         }
     }
 
-    /// The current board.
+    /// The current state.
     pub fn gateway(&self) -> &Gateway {
         &self.gateway
     }

@@ -1,4 +1,4 @@
-//! The six events: samples of document 01, rule by rule, and a plain model
+//! The six events: the samples, rule by rule, and a plain model
 //! that generated histories are compared with.
 
 use second::events::{bits, Event};
@@ -104,7 +104,7 @@ fn samples() {
 
 #[test]
 fn refusals_in_order() {
-    // The board of zeros is not sound: 105 before all else.
+    // The state of zeros is not sound: 105 before all else.
     let script = format!("msg 99 0 {M}\nlost 0 0\nrecovery 0 1032\nup 0 1032\ndown 0 1032\nlinkmsg 0 -\nbytes 0 0 lost 0 0\nreach lost 0 1032\n");
     assert_eq!(
         run(script.as_bytes()),

@@ -1,5 +1,5 @@
 //! Lines of the kinds `event` and `bytes`: long histories, each over one
-//! board.
+//! state.
 
 use super::message::{self, Message, Piece};
 use super::plans::{self, Plan};
@@ -61,7 +61,7 @@ pub struct History {
     session: Session,
     /// Lines that come next.
     queue: VecDeque<Vec<u8>>,
-    /// Events left on this board.
+    /// Events left on this state.
     left: u64,
     /// Whether `bytes` lines are made.
     bytes: bool,
@@ -73,7 +73,7 @@ impl History {
         History {
             session: Session::new(),
             queue: VecDeque::new(),
-            // A few events on the board of zeros come first.
+            // A few events on the state of zeros come first.
             left: 3,
             bytes,
             results: Vec::new(),

@@ -1,4 +1,4 @@
-//! The plan file and the soundness of boards.
+//! The plan file and the soundness of states.
 
 use second::generate::{generate, Kind};
 use second::script::run;
@@ -199,7 +199,7 @@ fn plainly_sound(g: &Gateway) -> bool {
     true
 }
 
-/// A board with everything in use that can be.
+/// A state with everything in use that can be.
 fn busy(file: &[u8]) -> Gateway {
     let mut g = load(file).gateway;
     for a in 0..g.ases as usize {
@@ -219,8 +219,8 @@ fn busy(file: &[u8]) -> Gateway {
 }
 
 #[test]
-fn every_byte_of_a_board() {
-    let boards = [
+fn every_byte_of_a_state() {
+    let states = [
         load(&plan_s()).gateway,
         busy(&plan_s()),
         busy(&full()),
@@ -232,11 +232,11 @@ fn every_byte_of_a_board() {
         )),
     ];
     let mut sound = 0;
-    for board in &boards {
-        assert!(is_sound(board) && plainly_sound(board));
+    for state in &states {
+        assert!(is_sound(state) && plainly_sound(state));
         let mut check = |change: &dyn Fn(&mut Gateway, u8)| {
             for byte in [0, 1, 2, 3, 4, 15, 16, 17, 127, 128, 129, 254, 255] {
-                let mut g = *board;
+                let mut g = *state;
                 change(&mut g, byte);
                 assert_eq!(is_sound(&g), plainly_sound(&g), "{g:?}");
                 sound += is_sound(&g) as u32;

@@ -48,7 +48,7 @@ const BREAKS: &[Break] = &[
     ("a link state beyond the links", |g| g.state[17] = 1),
 ];
 
-/// Each leaves the board sound.
+/// Each leaves the state sound.
 const KEEPS: &[Break] = &[
     ("nothing", |_| {}),
     ("waiting with none active", |g| g.waiting[1] = 1),
@@ -114,7 +114,7 @@ fn main() {
         }
     }
     println!(
-        "boards: {} single conditions and {tried} single bytes tried, {failures} failures",
+        "states: {} single conditions and {tried} single bytes tried, {failures} failures",
         BREAKS.len() + KEEPS.len()
     );
     std::process::exit((failures > 0) as i32);
