@@ -146,7 +146,7 @@ fresh-consistent s h g =
     (all-of _ 16 (fresh-as n m k (aspIds s) (masks s) (spares s) (modes s) (linkIds s) (owners s) r (column-blank 16 n _) (column-blank 16 m _)))
     (fresh-links n m k (aspIds s) (masks s) (spares s) (modes s) (linkIds s) (owners s) r (l .links) (column-blank 128 k _) (column-blank 128 k _))
 
--- a loaded plan gives a sound board
+-- a loaded plan gives a sound state
 pub loaded-consistent : (s : List ℕ) → loadOf s .code ≡ 0 → consistent (loadOf s .gateway) ≡ true
 unfolding loadOf built
 loaded-consistent s = outer (laidOut s) refl

@@ -1,4 +1,4 @@
--- The configuration file (document 01's plan file): what it says, and which files are refused.
+-- The plan file: what it says, and which files are refused (Rules 4.1 to 4.7).
 -- Assumes nothing.
 use Prim.Native.Nat.{ℕ, _+_, _*_, _/_, _%_, _^_}
 use mathlib.Core.Bool.{Bool, _&&_, cond}
@@ -12,14 +12,12 @@ use Rattle.gateway.specs.Sound.{zeros, differs, ascends, allUnder}
 use Rattle.gateway.specs.declared.Gateway.{Gateway}
 use Rattle.config.specs.declared.Loaded.{Loaded}
 
--- A body: the size of its rows, its least and its most rows.
+-- A body (Rule 4.2): the size of its rows, its least and its most rows.
 pub record Body : Type 0 where
   pub row : ℕ
   pub least : ℕ
   pub most : ℕ
 
--- "Rows: ASP 8 bytes (identifier, 16-bit membership mask with bit a for AS a, two zero bytes); AS 4 bytes (mode); link 8 bytes
--- (identifier, owning AS). Counts: 1 to 16, 1 to 16, 0 to 128."
 abbrev pub aspBody : Body
 aspBody = record { row = 8; least = 1; most = 16 }
 
@@ -32,25 +30,25 @@ linkBody = record { row = 8; least = 0; most = 128 }
 abbrev pub bodies : List Body
 bodies = aspBody ∷ asBody ∷ linkBody ∷ []
 
--- "24 bytes of contents"
+-- the bytes before the bodies (Rule 4.1)
 abbrev pub contents : ℕ
 contents = 24
 
--- "for ASPs, ASes, links in turn a 32-bit offset and a 32-bit count": those of body i
+-- where body i starts, and how many rows it has
 unfoldable pub offset : List ℕ → ℕ → ℕ
 offset s i = be 4 s (i * 8)
 
 unfoldable pub count : List ℕ → ℕ → ℕ
 count s i = be 4 s (i * 8 + 4)
 
--- "Bodies follow in that order without gaps, from 24 to the file's end": the bodies from number i on, which start at a position
+-- the bodies from number i on lie one behind the other from a position to the file's end (Rule 4.2)
 unfoldable pub follow : List Body → List ℕ → ℕ → ℕ → Bool
 follow [] s i at = eqb at (length s)
 follow (b ∷ bs) s i at =
     (eqb (offset s i) at && (leb (b .least) (count s i) && leb (count s i) (b .most)))
     && follow bs s (i + 1) (at + b .row * count s i)
 
--- "201 a count, offset or the file length is wrong"
+-- what must hold, or else 201 (Rule 4.4)
 unfoldable pub laidOut : List ℕ → Bool
 laidOut s = leb contents (length s) && follow bodies s 0 contents
 
@@ -71,7 +69,7 @@ asWords s at n = column 16 n (λ a. be 4 s (at + asBody .row * a))
 abbrev pub linkWords : List ℕ → ℕ → ℕ → List ℕ
 linkWords s at n = column 128 n (λ l. be 4 s (at + linkBody .row * l))
 
--- "ASP 8 bytes (identifier, 16-bit membership mask with bit a for AS a, two zero bytes)"
+-- a row of an ASP: identifier, mask, spare
 unfoldable pub aspIds : List ℕ → List ℕ
 aspIds s = aspWords s (offset s 0) (count s 0)
 
@@ -81,37 +79,37 @@ masks s = aspHalves s (offset s 0 + 4) (count s 0)
 unfoldable pub spares : List ℕ → List ℕ
 spares s = aspHalves s (offset s 0 + 6) (count s 0)
 
--- "AS 4 bytes (mode)"
+-- a row of an AS: its traffic mode
 unfoldable pub modes : List ℕ → List ℕ
 modes s = asWords s (offset s 1) (count s 1)
 
--- "link 8 bytes (identifier, owning AS)"
+-- a row of a link: identifier, owner
 unfoldable pub linkIds : List ℕ → List ℕ
 linkIds s = linkWords s (offset s 2) (count s 2)
 
 unfoldable pub owners : List ℕ → List ℕ
 owners s = linkWords s (offset s 2 + 4) (count s 2)
 
--- bit a of a mask, 0 or 1, and the bits from a on as one number
+-- bit a of a mask, 0 or 1, and the bits from a on as one number (Rule 4.3)
 abbrev pub bit : ℕ → ℕ → ℕ
 bit mask a = mask / 2 ^ a % 2
 
 abbrev pub bitsFrom : ℕ → ℕ → ℕ
 bitsFrom mask a = mask / 2 ^ a
 
--- "a mode outside 1 to 3"
+-- every AS has one of the three traffic modes
 unfoldable pub modesOk : List ℕ → ℕ → Bool
 modesOk mode ases = allBelow (λ a. leb 1 (col mode a) && leb (col mode a) 3) ases
 
--- "a mask bit beyond the ASes"
+-- no mask has a bit for an AS that is not there
 unfoldable pub masksOk : List ℕ → ℕ → ℕ → Bool
 masksOk mask asps ases = allBelow (λ p. eqb (bitsFrom (col mask p) ases) 0) asps
 
--- "a nonzero spare"
+-- the spares are zero
 unfoldable pub sparesOk : List ℕ → ℕ → Bool
 sparesOk spare asps = allBelow (λ p. eqb (col spare p) 0) asps
 
--- "202 a row is": then "two equal ASP identifiers, link identifiers not strictly ascending, an owner beyond the ASes"
+-- what must hold of the rows, or else 202 (Rule 4.5)
 unfoldable pub rowsOk : ℕ → ℕ → ℕ → List ℕ → List ℕ → List ℕ → List ℕ → List ℕ → List ℕ → Bool
 rowsOk asps ases links aspid mask spare mode iid owner =
     ((modesOk mode ases && masksOk mask asps ases) && (sparesOk spare asps && allBelow (differs aspid) asps))
@@ -121,7 +119,7 @@ rowsOk asps ases links aspid mask spare mode iid owner =
 unfoldable pub members : List ℕ → List ℕ
 members mask = tab 256 (λ i. bit (col mask (i % 16)) (i / 16))
 
--- "all ASPs down, no pair active, no AS waiting, all links idle, places beyond the counts zero"
+-- the fresh state of a plan (Rule 4.6)
 unfoldable pub fresh : ℕ → ℕ → ℕ → List ℕ → List ℕ → List ℕ → List ℕ → List ℕ → Gateway
 fresh asps ases links aspid mask mode iid owner =
     record {

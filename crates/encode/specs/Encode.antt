@@ -8,16 +8,15 @@ use lib.Dec.{eqb}
 use Rattle.wire.specs.Walk.{Par}
 use Rattle.put.specs.Bytes.{par, headBytes, parsBytes}
 
--- "32-bit length that counts header and padding"
+-- what the header's length field says (Rule 1.2)
 unfoldable pub sizeOf : List Par → ℕ
 sizeOf ps = 8 + length (parsBytes ps)
 
--- "Given class, type and a list of tags and values, the writer keeps their order and writes spare and padding as zero."
--- It is defined for every list: one with a value that a 16-bit length cannot say is over 2,048 bytes long, which the reader's check 1 refuses.
+-- Rule 3.1. It is defined for every list: one with a value that a 16-bit length cannot say takes more than 2,048 bytes, and is refused (Rule 3.4).
 unfoldable pub encode : ℕ → ℕ → List Par → List ℕ
 encode c t ps = headBytes c t (sizeOf ps) ++ parsBytes ps
 
--- ---- the list as it is lent: the tags, the lengths of the values, and the values one after the other
+-- ---- the list as it is lent (Rule 3.2): the tags, the lengths of the values, and the values one after the other
 
 unfoldable pub total : List ℕ → ℕ
 total [] = 0

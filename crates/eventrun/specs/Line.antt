@@ -1,4 +1,4 @@
--- Which event of document 01 a script's event line says.
+-- Which event (Rule 6.1) a script's event line says.
 -- Assumes nothing.
 use Prim.Native.Nat.{ℕ}
 use mathlib.Core.List.{List}

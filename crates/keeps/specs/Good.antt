@@ -17,8 +17,7 @@ use Rattle.server.specs.declared.Change.the-variants.{Rise, Fall, Off, On, Reco
 use Rattle.server.specs.Record.{some}
 use Rattle.server.specs.Change.{without, joined, turned, settle, after, some-some}
 
--- `inside` is whether the AS is in the plan: "activity only of members that are up, at most one active member in override, waiting only where
--- none is active", and a member or a waiting mark only in an AS of the plan
+-- Rules 5.8, 5.9, 5.11 and 5.12 of a record; `inside` is whether the AS is one of the plan
 pub record Good (inside : Bool) (s : AsRecord) : Type 0 where
   pub placed : (q : ℕ) → q < 16 → at (s .ups) q ≡ true → inside ≡ true
   pub lives : (q : ℕ) → q < 16 → at (s .acts) q ≡ true → at (s .ups) q ≡ true

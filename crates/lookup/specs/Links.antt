@@ -1,4 +1,4 @@
--- The links by identifier.
+-- The links by identifier (Rule 5.16).
 -- Assumes nothing.
 use Prim.Native.Nat.{ℕ, _<_, _≤_}
 use mathlib.Core.Path.{_≡_, refl, ap, _∙_, sym}

@@ -13,8 +13,7 @@ use Rattle.laws.specs.Every.{and-left}
 use Rattle.laws.specs.Rank.{rank-one}
 use Rattle.gateway.specs.Sound.{pair, activeIn}
 
--- "AS state: active if some member is active; else pending if waiting; else inactive if some member is up; else down."
--- The numbers are the information that Notify gives: 2 inactive, 3 active, 4 pending; down has none, and is 0 here.
+-- Rule 5.2. The numbers are those that Notify tells: 3 active, 4 pending, 2 inactive; down is 0.
 unfoldable pub stateOf : List ℕ → List ℕ → List ℕ → List ℕ → ℕ → ℕ
 stateOf up member active waiting a =
     cond (anyBelow (λ q. on active (pair a q)) 16) 3
@@ -25,8 +24,7 @@ stateOf up member active waiting a =
 unfoldable pub before : List ℕ → ℕ → ℕ → ℕ
 before active a q = countBelow (λ r. on active (pair a r)) q
 
--- "override, the active member; broadcast, all active, ascending; load-share with k active, the one at place (identifier mod k), from 0,
--- ascending. None active: none." x is the number used in place of the identifier: mode 2 is load-share.
+-- Rule 5.15: the active members, and in load-share (mode 2) only the one that the number x chooses among them; x is the link's identifier.
 unfoldable pub receives : List ℕ → ℕ → ℕ → ℕ → ℕ → Bool
 receives active mode a x q =
     on active (pair a q) && (not (eqb mode 2) || eqb (before active a q) (x % activeIn active a))

@@ -1,4 +1,4 @@
--- What reading a message gives.
+-- What reading a message gives (Rule 2.18).
 -- Assumes nothing.
 use Prim.Native.Nat.{ℕ}
 use mathlib.Core.Bool.{Bool, true, false, cond, _||_}
@@ -63,6 +63,6 @@ unfoldable pub bodyIn : ℕ → List Par → List ℕ
 bodyIn t [] = []
 bodyIn t (p ∷ ps) = cond (eqb (key (p .tag)) (key t)) (p .body) (bodyIn t ps)
 
--- "The protocol data is handed back as that part of the lent message": the value of 0x300 or 0x301; nothing where there is none
+-- the protocol data: the value of the first 0x300 or 0x301; nothing where there is none (Rule 1.7)
 unfoldable pub dataOf : List ℕ → List ℕ
 dataOf s = bodyIn 0x300 (walk s 8 .pars)

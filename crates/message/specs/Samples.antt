@@ -1,11 +1,11 @@
--- Document 01, "Samples": those of the reader that are starred, as a claim. The claim on all starred samples will hold this one.
+-- The reader's samples as a claim (Rule 11.3); rules/specs/Samples has them all.
 -- Assumes nothing.
 use mathlib.Core.Path.{_≡_}
 use mathlib.Core.List.{List, [], _∷_}
 use Prim.Native.Nat.{ℕ}
 use Rattle.message.specs.Verdict.{verdict}
 
--- Message M, with its mode, start and stop
+-- message M (Rule 11.2), with its mode, start and stop
 unfoldable pub active : ℕ → ℕ → ℕ → List ℕ
 active mode start stop =
     0x01 ∷ 0x00 ∷ 0x04 ∷ 0x01 ∷ 0x00 ∷ 0x00 ∷ 0x00 ∷ 0x1c
@@ -18,11 +18,11 @@ unfoldable pub up : ℕ → ℕ → List ℕ
 up version len = version ∷ 0x00 ∷ 0x03 ∷ 0x01 ∷ 0x00 ∷ 0x00 ∷ 0x00 ∷ len ∷ []
 
 pub record ReaderSamples : Type 0 where
-  -- M reads. With start and stop traded: 17. With mode 4: 5.
+  -- message M, its range turned around, its mode 4
   pub m-reads : verdict (active 1 0x64 0x73) ≡ 0
   pub traded : verdict (active 1 0x73 0x64) ≡ 17
   pub mode-4 : verdict (active 4 0x64 0x73) ≡ 5
-  -- 0 bytes: 7. Up of 8 bytes reads; its length field 12: 7; version 2 and that length: 1.
+  -- no bytes; a bare Up, with a wrong length field, and with a wrong version as well
   pub no-bytes : verdict [] ≡ 7
   pub up-reads : verdict (up 1 8) ≡ 0
   pub up-length-12 : verdict (up 1 12) ≡ 7

@@ -1,4 +1,4 @@
--- What one pass over the identifiers of a message finds.
+-- What one pass over the identifiers of a message finds (Rule 7.8).
 -- Assumes nothing.
 use mathlib.Core.Path.{_≡_}
 use mathlib.Core.Bool.{Bool, false}

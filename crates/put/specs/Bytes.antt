@@ -1,4 +1,4 @@
--- Numbers, parameters and the message header as bytes. "All numbers are big-endian."
+-- Numbers, parameters and the message header as bytes (Rules 1.1 to 1.4).
 -- Assumes nothing.
 use mathlib.Core.Path.{_≡_}
 use Prim.Native.Nat.{ℕ, _+_, _-_, _/_, _%_, _≤_}
@@ -26,8 +26,7 @@ par t v = record { tag = t; body = v }
 abbrev pub room : ℕ → ℕ
 room n = padded (4 + n)
 
--- "16-bit tag, 16-bit length that counts these 4 bytes and the value but no padding, then 0 to 3 padding bytes .. to a multiple of 4";
--- "writes spare and padding as zero"
+-- a parameter: tag, length, value, and zeros as padding (Rules 1.3, 1.4, 3.1)
 unfoldable pub parBytes : Par → List ℕ
 parBytes p =
     two (p .tag)
@@ -35,12 +34,12 @@ parBytes p =
     ++ (p .body
     ++ replicate (room (length (p .body)) - (4 + length (p .body))) 0))
 
--- parameters one after the other: "the writer keeps their order"
+-- parameters one after the other, in the list's order
 unfoldable pub parsBytes : List Par → List ℕ
 parsBytes [] = []
 parsBytes (p ∷ ps) = parBytes p ++ parsBytes ps
 
--- "Header: version 1, a spare byte, class, type, 32-bit length"; "writes spare .. as zero"
+-- the header of a message of n bytes, its spare byte 0 (Rules 1.2, 3.1)
 abbrev pub headBytes : ℕ → ℕ → ℕ → List ℕ
 headBytes c t n = 1 ∷ 0 ∷ c ∷ t ∷ four n
 

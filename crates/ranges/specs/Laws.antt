@@ -112,7 +112,7 @@ module _ (bad : ℕ → Bool) (start x : ℕ) (b : start ≤ x) (h : Good bad st
 pub good-none : (bad : ℕ → Bool) (start : ℕ) → Good bad start start
 good-none bad start = let z : start - start ≡ 0 = omega arith in record { none = rw z (first-none (λ i. bad (start + i))) }
 
--- both ends meant: nothing is refused once stop itself is good
+-- stop is included: nothing is refused once stop itself is good
 pub none-refused : (bad : ℕ → Bool) (start x stop : ℕ) → x ≡ stop → Good bad start (x + 1) → nothing ≡ firstIn bad start stop
 unfolding firstIn
 none-refused bad start x stop e h =

@@ -1,4 +1,4 @@
--- The identifiers that a message names: which is refused first, and which ASes own those that are known.
+-- The identifiers that a message names: which is refused first, and which ASes own the known ones (Rules 2.11, 5.16, 7.8).
 -- Assumes nothing.
 use Prim.Native.Nat.{ℕ, zero, suc, _+_, _*_, _-_, _/_}
 use mathlib.Core.Bool.{Bool, true, false, _&&_, cond, not}
@@ -17,15 +17,15 @@ use Rattle.ranges.specs.declared.Refused.{Refused}
 unfoldable pub ownerOf : List ℕ → List ℕ → ℕ → ℕ → ℕ
 ownerOf iid owner links x = col owner (indexOf iid links x)
 
--- "A named identifier not in the plan or owned by an AS without p"
+-- it is unknown, or p is no member of its AS
 unfoldable pub isRefused : List ℕ → List ℕ → List ℕ → ℕ → ℕ → ℕ → Bool
 isRefused iid owner member links p x = not (known iid links x && on member (pair (ownerOf iid owner links x) p))
 
--- "the owners of those known"
+-- it is known, and AS a owns it
 unfoldable pub isOf : List ℕ → List ℕ → ℕ → ℕ → ℕ → Bool
 isOf iid owner links a x = known iid links x && eqb (ownerOf iid owner links x) a
 
--- ---- a range: "pairs start, stop, both ends meant"
+-- ---- a range: from start to stop, both included
 
 -- how many identifiers it names
 abbrev pub span : ℕ → ℕ → ℕ
@@ -48,7 +48,7 @@ firstIn bad start stop =
 unfoldable pub someIn : (ℕ → Bool) → ℕ → ℕ → Bool
 someIn good start stop = anyBelow (λ i. good (start + i)) (span start stop)
 
--- ---- the value of a parameter: "ids are tags 0x1 (length 4+4n) and 0x8 (4+8n, pairs start, stop, both ends meant)"
+-- ---- the value of a parameter: identifiers of four bytes (0x1), or ranges of eight (0x8)
 
 -- pairs says that the tag is 0x8. An identifier alone is a range of one.
 abbrev pub width : Bool → ℕ

@@ -1,4 +1,4 @@
--- Document 01, "Reach", as the row of flags that the code hands back.
+-- Reach (Rule 9.1) as the row of flags that the code hands back.
 -- Assumes nothing.
 use Prim.Native.Nat.{ℕ}
 use mathlib.Core.Bool.{Bool}

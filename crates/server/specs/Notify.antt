@@ -18,19 +18,19 @@ use Rattle.server.specs.declared.AsRecord.{AsRecord}
 use Rattle.server.specs.declared.Change.{Change}
 use Rattle.server.specs.declared.Change.the-variants.{Rise, Fall, Off, On, Recover}
 
--- "Notify has subject the AS, value type times 65,536 plus information"
+-- a Notify to ASP q about AS a (Rule 8.5)
 abbrev pub notify : ℕ → ℕ → ℕ → ℕ → Action
 notify a type information q = action q 1 a (type * 65536 + information)
 
--- "when an AS state changes to inactive (1, 2), active (1, 3) or pending (1, 4)": not to down, which is 0
+-- whether the members are told: the state is another one, and not down, which is 0
 unfoldable pub isTold : AsRecord → AsRecord → Bool
 isTold s t = not (eqb (stateIn t) 0) && not (eqb (stateIn s) (stateIn t))
 
--- what ASP q gets: (2, 2) where it is overtaken, and the new state where it is told, "to every member that is up after the event"
+-- what ASP q gets: (2, 2) where it is overtaken, and the new state where that is told and q is up after the event
 unfoldable pub notifiesTo : List Bool → AsRecord → AsRecord → ℕ → ℕ → List Action
 notifiesTo lost s t a q = when (at lost q) (notify a 2 2 q) ++ when (isTold s t && at (t .ups) q) (notify a 1 (stateIn t) q)
 
--- "in each the addressees ascending"
+-- to one ASP after the other, upwards (Rule 8.3)
 unfoldable pub notifies : List Bool → AsRecord → AsRecord → ℕ → List Action
 notifies lost s t a = concatBelow (notifiesTo lost s t a) 16
 

@@ -1,4 +1,4 @@
--- The gateway after an event that names some ASes, and the event's actions there, from the state before it.
+-- The state after a change in some ASes, and the actions there, from the state before it (Rules 7.1, 8.3).
 -- Assumes nothing.
 use Prim.Native.Nat.{ℕ, _/_, _%_, _≤_, _<_}
 use mathlib.Core.Path.{_≡_, _∙_}
@@ -30,7 +30,7 @@ columnOf c p = tab 16 (λ a. on c (pair a p))
 unfoldable pub flagAt : List ℕ → ℕ → ℕ → List ℕ
 flagAt c p x = tab 16 (λ q. cond (eqb q p) x (col c q))
 
--- Up: "p is up." Down, lost: "p down". Nothing else changes it.
+-- Up brings p up, Down and lost bring it down; nothing else changes an up flag
 abbrev pub upAfter : Change → List ℕ → List ℕ
 upAfter (Rise p) up = flagAt up p 1
 upAfter (Fall p) up = flagAt up p 0
@@ -84,7 +84,7 @@ linked g l v =
 unfoldable pub actionsAt : Change → List Bool → (ℕ → AsRecord) → ℕ → List Action
 actionsAt k named records a = actionsIn (at named a) k a (records a)
 
--- "then ASes ascending, in each the addressees ascending"
+-- AS by AS upwards (Rule 8.3)
 unfoldable pub allActions : Gateway → Change → List Bool → List Action
 allActions g k named = concatBelow (actionsAt k named (recordOf g)) 16
 

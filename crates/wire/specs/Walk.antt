@@ -1,4 +1,4 @@
--- What the walk over a message's parameters finds.
+-- What the walk over a message's parameters finds (Rules 1.3 to 1.6).
 -- Assumes nothing.
 use Prim.Native.Nat.{ℕ, zero, suc, _+_, _-_, _*_, _/_}
 use mathlib.Core.Bool.{cond}
@@ -9,12 +9,12 @@ use Rattle.wire.specs.Number.{be}
 use Rattle.wire.specs.declared.Step.{Step}
 use Rattle.wire.specs.declared.Step.the-variants.{Param, End, Fault}
 
--- "0 to 3 padding bytes (ignored) to a multiple of 4": a length with its padding
+-- a length with its padding, a multiple of 4 (Rule 1.4)
 abbrev pub padded : ℕ → ℕ
 padded n = (n + 3) / 4 * 4
 
--- What stands at a position. "16-bit tag, 16-bit length that counts these 4 bytes and the value but no padding": a parameter, with the position
--- after its padding. Nothing left: the end. "a length below 4, or a padded end beyond the message", or fewer than 4 bytes left: a fault.
+-- What stands at a position (Rule 1.5): nothing is left, the end; a parameter that is whole with its padding, and the position behind it; else a
+-- fault.
 unfoldable pub stepAt : List ℕ → ℕ → Step
 stepAt s at =
     cond (leb (length s) at) End
@@ -29,25 +29,25 @@ pub record Par : Type 0 where
   pub tag : ℕ
   pub body : List ℕ
 
--- document 01's number for each case of a reading: "a length below 4, or a padded end beyond the message: 18"
+-- the number of each case (Rule 1.5)
 abbrev pub stepCode : Step → ℕ
 stepCode (Param t l n) = 0
 stepCode End = 0
 stepCode Fault = 18
 
--- "the first reading that isn't a parameter ends the walk": the parameters before it, and the number of that reading
+-- the parameters up to where the walk stops, and the number of what stopped it
 pub record Walk : Type 0 where
   pub pars : List Par
   pub code : ℕ
 
--- one reading, and the walk from the next position on. "The value of a parameter is read as a part of the message that starts at its fifth byte."
+-- one step, and the walk from the next position on; a value is a part of the message (Rule 1.6)
 abbrev pub onStep : List ℕ → ℕ → Step → (ℕ → Walk) → Walk
 onStep s at (Param t l n) rest =
     record { pars = record { tag = t; body = take (l - 4) (drop (at + 4) s) } ∷ rest n .pars; code = rest n .code }
 onStep s at End rest = record { pars = []; code = stepCode End }
 onStep s at Fault rest = record { pars = []; code = stepCode Fault }
 
--- the walk in at most so many readings
+-- the walk in at most so many steps
 unfoldable pub walkF : ℕ → List ℕ → ℕ → Walk
 walkF zero s at = record { pars = []; code = stepCode Fault }
 walkF (suc f) s at = onStep s at (stepAt s at) (walkF f s)
