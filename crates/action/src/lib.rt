@@ -1,11 +1,11 @@
-// Actions (document 01's orders) and how they are written, four words to an action.
+// Actions and how they are written, four words to an action.
 ghost use mathlib.Core.Path.{_≡_};
 ghost use Prim.Native.Nat.{_+_, _*_, _≤_};
 ghost use lib.ListN.{length};
 ghost use Rattle.laws.specs.Below.{when};
 ghost use Rattle.action.specs.Words.{putAt, Written, toAll};
 
-// "four to an order: addressee (ASP number; 255 the link side), class times 256 plus type, subject, value"
+// Rule 8.1: to whom (an ASP, or 255 for the link side), which message (class * 256 + type), its subject and value.
 pub struct Action {
     pub to: u32,
     pub kind: u32,

@@ -1,4 +1,4 @@
-// The configuration file (document 01's plan file): a fresh state of the gateway, or a refusal.
+// The plan file: a fresh state of the gateway, or a refusal (Rules 4.4 to 4.7).
 ghost use mathlib.Core.Path.{_≡_};
 ghost use mathlib.Core.Bool.{true, _&&_};
 ghost use Prim.Native.Nat.{_+_, _*_, _<_, _≤_};
@@ -226,7 +226,7 @@ fn link_owners(s: &[u8], at: usize, ases: usize, n: usize) -> [u8; 128]
     r
 }
 
-// "all ASPs down, no pair active, no AS waiting, all links idle, places beyond the counts zero"
+// The fresh state (Rule 4.6).
 fn build<'a>(
     s: &[u8],
     t: Places,

@@ -51,7 +51,7 @@ keeps g e ok =
     (λ l. keeps-deed g (Reaches g (e .kind)) (fromController (e .kind)) ok (λ a r. and-left (ltb a (g .ases)) (kindReach g (e .kind) a) r) (deedOf g (e .kind)) (within g ok (e .kind) (live-plan g e l)))
     (λ l. ok)
 
--- "105 board not sound": and so it stays, since a refused event changes nothing
+-- an unsound state refuses every event (Rule 6.4): and so it stays, since a refused event changes nothing
 pub refused-unsound : (g : Gateway) (e : Event) → consistent g ≡ false → refusal g e ≡ 105
 unfolding refusalOf
 refused-unsound g e n = ap (λ (t : Bool). refusalOf t (inPlan g (e .kind)) (e .room)) n

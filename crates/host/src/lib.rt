@@ -49,7 +49,7 @@ pub extern "C" fn m2ua_load(file: &[u8]) -> Loaded
     config::load(file)
 }
 
-// 1 where the state is consistent (document 01: a sound board), else 0.
+// 1 where the state is sound (Rule 5.4), else 0.
 #[no_mangle]
 pub extern "C" fn m2ua_is_consistent(g: Gateway) -> u32
     ensures { λ r. ⌜ r ≡ cond (consistent g) 1 0 ⌝ }

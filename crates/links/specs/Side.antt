@@ -18,7 +18,7 @@ use Rattle.rules.specs.Event.{linkMessage}
 use Rattle.rules.specs.Identifiers.{isKnown}
 use Rattle.rules.specs.Rules.{fromLink, inPlan}
 
--- "not readable, of a type other than 6.1, 6.8, 6.9, 6.11 to 6.14, or of an unknown identifier": none of these
+-- a message of the link side that is not refused with 102 (Rule 6.5)
 unfoldable pub passes : List ℕ → ℕ → Reading → Bool
 passes iid links r = eqb (r .code) 0 && (eqb (r .class) 6 && (fromLink (r .kind) && known iid links (r .id)))
 

@@ -50,7 +50,7 @@ fn rank_near(iid: &[u32; 128], links: usize, x: u32, near: usize) -> usize
     lookup::rank_of(iid, links, x)
 }
 
-// Whether x, that stands at l or nowhere, is not in the plan or owned by an AS without p.
+// Whether x, that stands at l or nowhere, is unknown or p no member of its AS.
 fn is_refused<'a>(
     iid: &'a [u32; 128],
     owner: &'a [u8; 128],

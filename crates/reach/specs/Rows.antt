@@ -26,7 +26,7 @@ use Rattle.reach.specs.Reached.{reached}
 
 -- ---- what the code makes, test for test
 
--- Active and Inactive: "without identifiers: all ASes of p. With identifiers: the owners of those known."
+-- Active and Inactive (Rule 9.2): the ASes of p, or the owners of the known identifiers
 unfoldable pub namedRow : Gateway → ℕ → List ℕ → ℕ → List Bool
 namedRow g p s ids =
     cond (eqb ids 1) (ownersNamed (trafficView (g .links) [] [] [] (g .iid) (g .owner)) (walk s 8 .pars)) (columnOf (g .member) p)
@@ -124,7 +124,7 @@ module _ (g : Gateway) (p : ℕ) (s : List ℕ) where
 
 -- ---- what every entry promises
 
--- "events refused by the table above: none"
+-- a refused event reaches none (Rule 9.1)
 pub reached-no : (g : Gateway) (e : Event) {no : ℕ} → no ≡ refusal g e → (no ≡ 0 → ⊥) → replicate 16 false ≡ reached g e
 unfolding reached reach
 reached-no g e {no} q h = none-row (reach g e) (λ a. rw (← q, ne-eqb no 0 h))

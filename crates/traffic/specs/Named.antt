@@ -50,7 +50,7 @@ refused-par g p t v rest = go (eqb t 0x1) refl (eqb t 0x8) refl
     go false e true f = refl
     go false e false f = refl
 
--- "parameters in received order": the first that refuses decides
+-- the parameters as received: the first that refuses decides
 pub refused-next : (g : Gateway) (p : ℕ) (x : Par) (ps : List Par) → firstRefused g p (x ∷ ps) ≡ cond (refusedPar g p (x .tag) (x .body) .found) (refusedPar g p (x .tag) (x .body)) (firstRefused g p ps)
 unfolding firstRefused
 refused-next g p x ps = refused-par g p (x .tag) (x .body) (firstRefused g p ps)

@@ -91,7 +91,7 @@ pub fn reply(p: usize, kind: u32, subject: u32, value: u32) -> Work
     say_one(to_asp(p, kind, subject, value))
 }
 
-// "An Error order has value its code, and subject the first refused identifier for code 2, else 0."
+// An Error: its value is the code; only one of code 2 has a subject (Rule 8.4).
 pub fn error(p: usize, code: u32) -> Work
     requires { ⌜ p < 16 ⌝ }
     ensures { λ r. ⌜ Decides r (say (action p 0 0 code ∷ [])) ⌝ }
