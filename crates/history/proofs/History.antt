@@ -22,7 +22,7 @@ use Rattle.rules.specs.Reach.{reach, messageReach, readReach}
 use Rattle.rules.specs.Entry.{actions, next, Handed}
 use Rattle.history.specs.Trade.{swaps, outs, last, Commute, traded-outs, traded-last}
 use Rattle.history.specs.History.{Call, events, Calls, none, call, given, ruled, reaches, Free, Untouched, Outside, Statement, isUp, ReachOfUp, Rooms, Made}
-use Rattle.history.proofs.Frame.{Plan, planOf, plan, wait, act, line, up, untouched, not-mine, reach-next, free-commute}
+use Rattle.history.proofs.Frame.{Plan, planOf, plan, wait, act, line, up, untouched, not-mine, not-reached, reach-next, free-commute}
 use Rattle.history.proofs.Keeps.{keeps}
 
 ruled-commute : (g : Gateway) (e f : Event) → Free g e f → Commute ruled next g e f
@@ -68,6 +68,7 @@ one-outside g e =
       active = λ a q b c r. untouched keeps g e (act a q b c) r;
       state = λ l r. untouched keeps g e (line l) r;
       up = λ q b n. untouched keeps g e (up q b) (not-mine g e q b n);
+      ups = λ a q d b n m. untouched keeps g e (up q b) (not-reached g e a q d b n m);
     }
   where
     same : planOf (next g e) ≡ planOf g

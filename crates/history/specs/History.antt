@@ -60,7 +60,7 @@ abbrev pub reaches : Gateway → Event → ℕ → Bool
 reaches g e a = reach g e a
 
 abbrev pub reachesLink : Gateway → Event → ℕ → Bool
-reachesLink g e l = reaches g e (col (g .owner) l)
+reachesLink g e l = ltb l (g .links) && reaches g e (col (g .owner) l)
 
 -- "Controllers are ASPs, servers ASes": two neighbours may trade places if they are not both of one controller, and no server is reached by both.
 pub record Free (g : Gateway) (e f : Event) : Type 0 where
@@ -83,6 +83,8 @@ pub record Untouched (g : Gateway) (e : Event) (c : Gateway) : Type 0 where
   pub state : (l : ℕ) → reachesLink g e l ≡ false → col (c .state) l ≡ col (g .state) l
   -- an ASP comes up or goes down by its own events alone
   pub up : (q : ℕ) → q < 16 → fromController (e .kind) q ≡ false → col (c .up) q ≡ col (g .up) q
+  -- and the members of an AS out of reach stay up, or down, whoever's event it is
+  pub ups : (a q : ℕ) → a < 16 → q < 16 → reaches g e a ≡ false → isMember g a q ≡ true → col (c .up) q ≡ col (g .up) q
 
 -- at every call of a history
 abbrev pub Outside : Gateway → List Call → Type 0
