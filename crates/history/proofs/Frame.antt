@@ -9,7 +9,7 @@ use native.Mathlib.Omega.{arith}
 use lib.Dec.{eqb, ltb}
 use lib.ListN.{length, drop, length-set}
 use lib.Seq.{ext-getD, getD-set-other}
-use borrow.Author.Tests.{ltb-true, lt-ltb}
+use borrow.Author.Tests.{ltb-true, lt-ltb, eqb-true}
 use Rattle.laws.specs.Below.{anyBelow, any-at, any-in, one}
 use Rattle.laws.specs.Every.{and-left, and-right, and-both}
 use Rattle.laws.specs.Tab.{at, col}
@@ -28,6 +28,7 @@ use Rattle.rules.specs.Deed.{Deed, say, turn, change, actionsOf, stateAfter}
 use Rattle.rules.specs.Rules.{deedOf, inPlan, refusalOf, refusal}
 use Rattle.rules.specs.Reach.{kindReach, reach, fromController}
 use Rattle.rules.specs.Entry.{actions, next}
+use Rattle.rules.specs.Inner.Accepted.{accepted}
 use Rattle.history.specs.Trade.{Commute}
 use Rattle.history.specs.Local.{false-of, Local, Agree, Apart, commutes}
 use Rattle.history.specs.History.{ruled, Free}
@@ -194,18 +195,12 @@ ext g h e s = λ j. record {
 
 -- ---- accepted events
 
-pub accepted : (s k : Bool) (n : ℕ) → eqb (refusalOf s k n) 0 ≡ true → (s ≡ true) × (k ≡ true)
-unfolding refusalOf
-accepted true true n h = (refl, refl)
-accepted true false n h = clash false refl h
-accepted false k n h = clash false refl h
-
 module _ (g : Gateway) (e : Event) where
   pub live-sound : live g e ≡ true → consistent g ≡ true
-  live-sound l = accepted (consistent g) (inPlan g (e .kind)) (e .room) l .0
+  live-sound l = accepted (consistent g) (inPlan g (e .kind)) (e .room) (eqb-true (refusal g e) 0 l) .sound-yes
 
   pub live-plan : live g e ≡ true → inPlan g (e .kind) ≡ true
-  live-plan l = accepted (consistent g) (inPlan g (e .kind)) (e .room) l .1
+  live-plan l = accepted (consistent g) (inPlan g (e .kind)) (e .room) (eqb-true (refusal g e) 0 l) .known-yes
 
   pub next-live : live g e ≡ true → next g e ≡ stateAfter g (deedOf g (e .kind))
   unfolding next
@@ -591,7 +586,7 @@ module _ (keeps : (b : Gateway) (e : Event) → consistent b ≡ true → consis
         reshape-trade = reshape-trade;
       }
 
--- ---- the customer's condition
+-- ---- the condition for a trade (Rule 10.4)
 
 apart : (b : Gateway) (e f : Event) → Free b e f → Apart get reads writes b e f
 apart b e f d plan v r = clash false refl v
