@@ -27,7 +27,7 @@ pub fn plan(asps: &[(u32, u16)], ases: &[u32], links: &[(u32, u32)]) -> Vec<u8> 
     f
 }
 
-/// Plan S of document 01.
+/// Plan S (Rule 11.1).
 pub fn plan_s() -> Vec<u8> {
     let mut links: Vec<(u32, u32)> = (100..=115).map(|id| (id, 0)).collect();
     links.push((200, 1));
