@@ -21,7 +21,7 @@ pub fn message(class: u8, kind: u8, params: &[Vec<u8>]) -> Vec<u8> {
     m
 }
 
-/// Message M (Rule 11.2): an Active of links 100 up to 115 in override.
+/// Message M (Rule 11.2): Active, override, links 100 to 115.
 pub fn sample_m() -> Vec<u8> {
     let range = bytes(0x8, &[0, 0, 0, 100, 0, 0, 0, 115]);
     message(4, 1, &[number(0xb, 1), range])

@@ -5,7 +5,7 @@ use crate::gateway::Gateway;
 use crate::wire::*;
 use crate::write::{put_header, put_param, Written, SHORT_BUFFER};
 
-/// No order stands at that place, or it is one for the link side.
+/// Either there are not so many orders, or the order goes to the link side.
 pub const NO_SUCH_ORDER: u32 = 104;
 
 /// Takes the parameters of a message one after the other: first to count

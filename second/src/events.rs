@@ -376,8 +376,9 @@ impl Gateway {
         ases
     }
 
-    /// The owners of the identifiers a message names, as bits, or the first
-    /// of these that is unknown or whose AS p has no part in.
+    /// The owners of the identifiers that a message names, as bits; or the
+    /// first one that is refused, because no link has it or p has no part in
+    /// its AS (Rule 7.8).
     fn named_ases(&self, p: usize, message: &[u8]) -> Result<u16, u32> {
         let ids = self.link_ids();
         let allowed = self.ases_of(p);

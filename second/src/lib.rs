@@ -1,4 +1,4 @@
-//! The rules of the M2UA gateway (docs/RULES.md, RFC 3331), written a second
+//! The rules of the M2UA gateway (RFC 3331, docs/RULES.md), written a second
 //! time in plain Rust: the proved program is compared with this one, and its
 //! speed is measured against it. No function of the rules uses the heap.
 

@@ -1,4 +1,4 @@
-//! The six events: the samples, rule by rule, and a plain model
+//! The six events: the samples (Rule 11.4), rule by rule, and a plain model
 //! that generated histories are compared with.
 
 use second::events::{bits, Event};

@@ -1,4 +1,4 @@
-//! The reader: the samples, each check, and the generator's reach.
+//! The reader: the samples (Rule 11.3), each check, and the generator's reach.
 
 use second::generate::{generate, Kind};
 use second::script::run;

@@ -142,7 +142,7 @@ fn rows() {
     assert_eq!(two(&asp, &[1, 1], &[(5, 1)]), 0);
 }
 
-/// Soundness in the words of the document, place by place.
+/// Soundness as the rules say it (5.5 to 5.13), place by place.
 fn plainly_sound(g: &Gateway) -> bool {
     let (n, m, l) = (g.asps as usize, g.ases as usize, g.links as usize);
     if !(1..=16).contains(&n) || !(1..=16).contains(&m) || l > 128 {

@@ -48,7 +48,8 @@ fn may_trade(a: &Call, b: &Call, state: &Gateway) -> bool {
     !one && reach(a, state) & reach(b, state) == 0
 }
 
-/// What lies outside an event's reach is as it was: the plan, the other ASes with their links, other ASPs.
+/// What lies outside an event's reach is as it was: the plan, the other ASes with their links and the up flags of their members, link places beyond
+/// the plan, other ASPs.
 fn untouched(call: &Call, before: &Gateway, after: &Gateway) -> bool {
     let reached = reach(call, before);
     let outside = |a: usize| reached >> a & 1 == 0;
@@ -59,8 +60,10 @@ fn untouched(call: &Call, before: &Gateway, after: &Gateway) -> bool {
         )
     };
     let ases = (0..16).filter(|a| outside(*a));
-    let mut links = (0..128).filter(|l| outside(before.owner[*l] as usize));
+    let mut links =
+        (0..128).filter(|l| *l >= before.links as usize || outside(before.owner[*l] as usize));
     let mut asps = (0..16).filter(|p| call.controller() != Some(*p as u32));
+    let mut members = (0..256).filter(|i| outside(*i / 16) && before.member[*i] != 0);
     plan(before) == plan(after)
         && ases.clone().all(|a| before.waiting[a] == after.waiting[a])
         && ases
@@ -68,6 +71,7 @@ fn untouched(call: &Call, before: &Gateway, after: &Gateway) -> bool {
             .all(|i| before.active[i] == after.active[i])
         && links.all(|l| before.state[l] == after.state[l])
         && asps.all(|p| before.up[p] == after.up[p])
+        && members.all(|i| before.up[i % 16] == after.up[i % 16])
 }
 
 #[derive(Default)]

@@ -9,7 +9,7 @@ use native.Mathlib.Omega.{arith}
 use lib.Dec.{eqb, ltb}
 use lib.ListN.{length, drop, length-set}
 use lib.Seq.{ext-getD, getD-set-other}
-use borrow.Author.Tests.{ltb-true}
+use borrow.Author.Tests.{ltb-true, lt-ltb, eqb-true}
 use Rattle.laws.specs.Below.{anyBelow, any-at, any-in, one}
 use Rattle.laws.specs.Every.{and-left, and-right, and-both}
 use Rattle.laws.specs.Tab.{at, col}
@@ -28,6 +28,7 @@ use Rattle.rules.specs.Deed.{Deed, say, turn, change, actionsOf, stateAfter}
 use Rattle.rules.specs.Rules.{deedOf, inPlan, refusalOf, refusal}
 use Rattle.rules.specs.Reach.{kindReach, reach, fromController}
 use Rattle.rules.specs.Entry.{actions, next}
+use Rattle.rules.specs.Inner.Accepted.{accepted}
 use Rattle.history.specs.Trade.{Commute}
 use Rattle.history.specs.Local.{false-of, Local, Agree, Apart, commutes}
 use Rattle.history.specs.History.{ruled, Free}
@@ -154,7 +155,7 @@ abbrev pub writes : Gateway → Event → Key → Bool
 writes g e plan = false
 writes g e sizes = false
 writes g e sound = false
-writes g e (line l) = reach g e (ownerAt g l)
+writes g e (line l) = ltb l (g .links) && reach g e (ownerAt g l)
 writes g e (up q b) = live g e && movesIn (deedOf g (e .kind)) q
 writes g e (act a q b c) = reach g e a
 writes g e (wait a b) = reach g e a
@@ -194,18 +195,12 @@ ext g h e s = λ j. record {
 
 -- ---- accepted events
 
-pub accepted : (s k : Bool) (n : ℕ) → eqb (refusalOf s k n) 0 ≡ true → (s ≡ true) × (k ≡ true)
-unfolding refusalOf
-accepted true true n h = (refl, refl)
-accepted true false n h = clash false refl h
-accepted false k n h = clash false refl h
-
 module _ (g : Gateway) (e : Event) where
   pub live-sound : live g e ≡ true → consistent g ≡ true
-  live-sound l = accepted (consistent g) (inPlan g (e .kind)) (e .room) l .0
+  live-sound l = accepted (consistent g) (inPlan g (e .kind)) (e .room) (eqb-true (refusal g e) 0 l) .sound-yes
 
   pub live-plan : live g e ≡ true → inPlan g (e .kind) ≡ true
-  live-plan l = accepted (consistent g) (inPlan g (e .kind)) (e .room) l .1
+  live-plan l = accepted (consistent g) (inPlan g (e .kind)) (e .room) (eqb-true (refusal g e) 0 l) .known-yes
 
   pub next-live : live g e ≡ true → next g e ≡ stateAfter g (deedOf g (e .kind))
   unfolding next
@@ -244,7 +239,7 @@ writes-live : (b : Gateway) (e : Event) (k : Key) → writes b e k ≡ true → 
 writes-live b e plan v = clash false refl v
 writes-live b e sizes v = clash false refl v
 writes-live b e sound v = clash false refl v
-writes-live b e (line i) v = reach-live b e (ownerAt b i) v
+writes-live b e (line i) v = reach-live b e (ownerAt b i) (and-right (ltb i (b .links)) _ v)
 writes-live b e (up q c) v = and-left (live b e) _ v
 writes-live b e (act a q c d) v = reach-live b e a v
 writes-live b e (wait a c) v = reach-live b e a v
@@ -306,9 +301,9 @@ module _ (g : Gateway) (R own : ℕ → Bool) where
   kept-wait (turn l v os) w a b r = refl
   kept-wait (change os k named) w a b r = waiting-kept g k named a b (unnamed w a b r)
 
-  kept-line : (d : Deed) → Within g R own d → (l : ℕ) → R (ownerAt g l) ≡ false → col (stateAfter g d .state) l ≡ col (g .state) l
+  kept-line : (d : Deed) → Within g R own d → (l : ℕ) → (ltb l (g .links) && R (ownerAt g l)) ≡ false → col (stateAfter g d .state) l ≡ col (g .state) l
   kept-line (say os) w l r = refl
-  kept-line (turn m v os) w l r = getD-set-other (g .state) m l v 0 (λ z. clash (R (ownerAt g l)) r (rw z (w .2)))
+  kept-line (turn m v os) w l r = getD-set-other (g .state) m l v 0 (λ z. clash (ltb l (g .links) && R (ownerAt g l)) r (rw z (and-both (ltb m (g .links)) (R (ownerAt g m)) (lt-ltb m (g .links) (w .0)) (w .2))))
   kept-line (change os k named) w l r = ap (λ (c : List ℕ). col c l) (moved-state g k named)
 
 -- ---- the same deed in states that are alike
@@ -452,7 +447,7 @@ module _ (b b′ : Gateway) (e : Event) (h : Agree get reads writes b b′ e) wh
         go plan v = clash false refl v
         go sizes v = clash false refl v
         go sound v = clash false refl v
-        go (line i) v = alike-line b R own (b′ .up) (b′ .active) (b′ .waiting) (b′ .state) alike (h sizes refl) d i (reach-in b e (ownerAt b i) v)
+        go (line i) v = alike-line b R own (b′ .up) (b′ .active) (b′ .waiting) (b′ .state) alike (h sizes refl) d i (reach-in b e (ownerAt b i) (and-right (ltb i (b .links)) _ v))
         go (up q c) v =
             alike-up b R own (b′ .up) (b′ .active) (b′ .waiting) (b′ .state) alike d q c
             (alike .mine q c (moves-own b R own d in-reach q (and-right (live b e) (movesIn d q) v)))
@@ -481,7 +476,8 @@ module _ (b b′ : Gateway) (e : Event) (h : Agree get reads writes b b′ e) wh
   same-writes (up q c) =
       by-test (λ l j. same-live j && movesIn (same-deed l j) q)
       (λ l. ap (λ (t : Bool). t && movesIn (deedOf b′ (e .kind)) q) (same-live ∙ l) ∙ sym (ap (λ (t : Bool). t && movesIn (deedOf b (e .kind)) q) l))
-  same-writes (line i) = ap (λ (p : Plan). reach b′ e (col (p .owner) i)) (h plan refl) ∙ same-reach (ownerAt b i)
+  same-writes (line i) =
+      ap (λ (p : Plan). ltb i (p .links) && reach b′ e (col (p .owner) i)) (h plan refl) ∙ ap (λ (t : Bool). ltb i (b .links) && t) (same-reach (ownerAt b i))
   same-writes (act a q c d) = same-reach a
   same-writes (wait a c) = same-reach a
 
@@ -507,13 +503,23 @@ covers b e plan v = refl
 covers b e sizes v = refl
 covers b e sound v = refl
 covers b e (up q c) v = or-left _ (writes-mine b e q v)
-covers b e (line i) v = v
+covers b e (line i) v = and-right (ltb i (b .links)) _ v
 covers b e (act a q c d) v = v
 covers b e (wait a c) v = v
 
 -- an up flag of another ASP
 pub not-mine : (b : Gateway) (e : Event) (q : ℕ) (c : q < 16) → fromController (e .kind) q ≡ false → writes b e (up q c) ≡ false
 not-mine b e q c n = false-of (writes b e (up q c)) (λ v. clash (fromController (e .kind) q) n (writes-mine b e q v))
+
+-- an up flag of a member of an AS out of reach: who sets q up or down reaches all ASes of q
+pub not-reached : (b : Gateway) (e : Event) (a q : ℕ) → a < 16 → (c : q < 16) → reach b e a ≡ false → isMember b a q ≡ true → writes b e (up q c) ≡ false
+not-reached b e a q d c n m =
+    false-of (writes b e (up q c))
+    (λ v.
+    let l = and-left (live b e) (movesIn (deedOf b (e .kind)) q) v in
+    let w = within b (live-sound b e l) (e .kind) (live-plan b e l) in
+    clash (reach b e a) n
+    (reach-of b e a l (moves-whole b (Reaches b (e .kind)) (fromController (e .kind)) (deedOf b (e .kind)) w q a d (and-right (live b e) (movesIn (deedOf b (e .kind)) q) v) m)))
 
 reshaped : (b : Gateway) (e : Event) → shape (next b e) ≡ reshape (shapes b e) (shape b)
 reshaped b e =
@@ -552,7 +558,7 @@ module _ (keeps : (b : Gateway) (e : Event) → consistent b ≡ true → consis
   untouched b e (line i) v =
       by-live b e (λ (x : Gateway). col (x .state) i ≡ col (b .state) i)
       (λ l. kept-line b (Reaches b (e .kind)) (fromController (e .kind)) (deedOf b (e .kind)) (within b (live-sound b e l) (e .kind) (live-plan b e l)) i
-      (false-of (Reaches b (e .kind) (ownerAt b i)) (λ r. clash (reach b e (ownerAt b i)) v (reach-of b e (ownerAt b i) l r)))) (λ l. refl)
+      (false-of (ltb i (b .links) && Reaches b (e .kind) (ownerAt b i)) (λ r. clash (writes b e (line i)) v (and-both (ltb i (b .links)) (reach b e (ownerAt b i)) (and-left (ltb i (b .links)) _ r) (reach-of b e (ownerAt b i) l (and-right (ltb i (b .links)) _ r)))))) (λ l. refl)
   untouched b e (act a q c d) v =
       by-live b e (λ (x : Gateway). col (x .active) (pair a q) ≡ col (b .active) (pair a q))
       (λ l. kept-act b (Reaches b (e .kind)) (fromController (e .kind)) (deedOf b (e .kind)) (within b (live-sound b e l) (e .kind) (live-plan b e l)) a q c d
@@ -580,7 +586,7 @@ module _ (keeps : (b : Gateway) (e : Event) → consistent b ≡ true → consis
         reshape-trade = reshape-trade;
       }
 
--- ---- the customer's condition
+-- ---- the condition for a trade (Rule 10.4)
 
 apart : (b : Gateway) (e f : Event) → Free b e f → Apart get reads writes b e f
 apart b e f d plan v r = clash false refl v
@@ -604,7 +610,7 @@ apart b e f d (up q c) v r =
         d .servers (t .0)
         (reach-of b e (t .0) l (moves-whole b (Reaches b (e .kind)) (fromController (e .kind)) (deedOf b (e .kind)) w q (t .0) (t .1) m (and-right (reach b f (t .0)) (isMember b (t .0) q) (t .2))))
         (and-left (reach b f (t .0)) (isMember b (t .0) q) (t .2))
-apart b e f d (line i) v r = d .servers (ownerAt b i) v r
+apart b e f d (line i) v r = d .servers (ownerAt b i) (and-right (ltb i (b .links)) _ v) r
 apart b e f d (act a q c i) v r = d .servers a v r
 apart b e f d (wait a c) v r = d .servers a v r
 

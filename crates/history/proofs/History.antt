@@ -1,14 +1,14 @@
 -- Demand 3, proved.
 -- Assumes nothing.
 use mathlib.Core.Path.{_≡_, refl, sym, ap, _∙_, subst}
-use mathlib.Core.Bool.{_&&_, not}
+use mathlib.Core.Bool.{true, _&&_, not, false≢true}
 use mathlib.Core.List.{List, [], _∷_, _++_, map}
-use Prim.Native.Nat.{ℕ, _*_}
+use Prim.Native.Nat.{ℕ, zero, suc, _*_}
 use native.Mathlib.Omega.{arith}
 use lib.Dec.{eqb, ltb}
 use lib.ListN.{length, take, drop, replicate, length-replicate}
 use lib.Seq.{take-at}
-use borrow.Author.Tests.{not-true, eq-eqb}
+use borrow.Author.Tests.{not-true, eq-eqb, eqb-true, ltb-true}
 use Rattle.laws.specs.Every.{and-left, and-right}
 use Rattle.action.specs.declared.Action.{Action}
 use Rattle.action.specs.Words.{wordsOf, length-wordsOf}
@@ -20,9 +20,12 @@ use Rattle.rules.specs.Identifiers.{isMember}
 use Rattle.rules.specs.Rules.{isError, typeOf, refusal}
 use Rattle.rules.specs.Reach.{reach, messageReach, readReach}
 use Rattle.rules.specs.Entry.{actions, next, Handed}
+use Rattle.rules.specs.Inner.Few.{few-actions}
+use Rattle.rules.specs.Samples.{g₁, takes, rises}
+use Rattle.rules.proofs.Samples.{reach-apart}
 use Rattle.history.specs.Trade.{swaps, outs, last, Commute, traded-outs, traded-last}
-use Rattle.history.specs.History.{Call, events, Calls, none, call, given, ruled, reaches, Free, Untouched, Outside, Statement, isUp, ReachOfUp, Rooms, Made}
-use Rattle.history.proofs.Frame.{Plan, planOf, plan, wait, act, line, up, untouched, not-mine, reach-next, free-commute}
+use Rattle.history.specs.History.{Call, events, Calls, none, call, given, ruled, reaches, Free, Untouched, Outside, Statement, isUp, ReachOfUp, Rooms, Made, TradesExist}
+use Rattle.history.proofs.Frame.{Plan, planOf, plan, wait, act, line, up, untouched, not-mine, not-reached, reach-next, free-commute}
 use Rattle.history.proofs.Keeps.{keeps}
 
 ruled-commute : (g : Gateway) (e f : Event) → Free g e f → Commute ruled next g e f
@@ -68,6 +71,7 @@ one-outside g e =
       active = λ a q b c r. untouched keeps g e (act a q b c) r;
       state = λ l r. untouched keeps g e (line l) r;
       up = λ q b n. untouched keeps g e (up q b) (not-mine g e q b n);
+      ups = λ a q d b n m. untouched keeps g e (up q b) (not-reached g e a q d b n m);
     }
   where
     same : planOf (next g e) ≡ planOf g
@@ -101,7 +105,7 @@ made g e l =
     }
 
 made-handed : (g : Gateway) (e : Event) (l : List ℕ) → length l ≡ e .room → Handed g e l (made g e l .left) (made g e l .outcome)
-made-handed g e l r = record { room = r; refused = refl; count = refl; state = refl; words = refl }
+made-handed g e l r = record { room = r; refused = refl; count = refl; few = few-actions g e; state = refl; words = refl }
 
 pub some-calls : (g : Gateway) (h : List Event) (ls : List (List ℕ)) → Rooms h ls → Made g h ls
 some-calls g [] [] r = record { list = []; end = g; are = none; of = refl; lend = refl }
@@ -124,6 +128,34 @@ blanks h = map (λ (e : Event). replicate (e .room) 0) h
 pub some-rooms : (h : List Event) → Rooms h (blanks h)
 some-rooms [] = tt
 some-rooms (e ∷ h) = (length-replicate (e .room) 0, some-rooms h)
+
+-- ---- and trades exist
+
+-- ASP 0 takes AS 0 over, ASP 2 comes up in AS 1
+apart-events : Free g₁ takes rises
+unfolding takes rises reach
+apart-events =
+    record { controllers = λ q x y. let z : ⊥ = omega (arith, eqb-true 0 q x, eqb-true 2 q y) in absurd z; servers = go }
+  where
+    go : (a : ℕ) → reaches g₁ takes a ≡ true → reaches g₁ rises a ≡ true → ⊥
+    go zero x y = false≢true (sym (reach-apart .second .0) ∙ y)
+    go (suc zero) x y = false≢true (sym (reach-apart .first .1) ∙ x)
+    go (suc (suc a)) x y =
+        let w = ltb-true (suc (suc a)) (g₁ .ases) (and-left _ _ (and-right (eqb (refusal g₁ takes) 0) _ x)) in
+        let z : ⊥ = omega (arith, w, reach-apart .ases) in
+        absurd z
+
+pub trades-exist : TradesExist
+unfolding takes rises
+trades-exist =
+    record {
+      calls = some-calls g₁ (takes ∷ rises ∷ []) _ (some-rooms (takes ∷ rises ∷ []));
+      traded = some-calls g₁ (rises ∷ takes ∷ []) _ (some-rooms (rises ∷ takes ∷ []));
+      trades = (apart-events, tt);
+      events-trade = refl;
+      first = reach-apart .first .0;
+      second = reach-apart .second .1;
+    }
 
 -- ---- reach
 

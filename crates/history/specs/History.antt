@@ -1,11 +1,11 @@
--- Demand 3: what is said of entire histories. "Demand 3 is one statement on entire histories, not one per event."
+-- Demand 3: what is said of entire histories, as one statement (Rules 10.1 to 10.7).
 -- Assumes nothing.
 use mathlib.Core.Path.{_≡_}
 use mathlib.Core.Bool.{Bool, true, false, _&&_, not}
 use mathlib.Core.List.{List, [], _∷_, map}
 use Prim.Native.Nat.{ℕ, _*_, _<_}
 use lib.Dec.{eqb, ltb}
-use lib.ListN.{length, take}
+use lib.ListN.{length, take, replicate}
 use Rattle.laws.specs.Tab.{col}
 use Rattle.action.specs.Words.{wordsOf}
 use Rattle.gateway.specs.Sound.{pair}
@@ -18,10 +18,10 @@ use Rattle.rules.specs.Identifiers.{isMember}
 use Rattle.rules.specs.Rules.{refusal, isError, typeOf}
 use Rattle.rules.specs.Reach.{reach, fromController}
 use Rattle.rules.specs.Entry.{actions, next, Handed}
+use Rattle.rules.specs.Samples.{g₁, takes, rises}
 use Rattle.history.specs.Trade.{swaps, Trades, outs, last}
 
--- One call of an entry: its event ("An event keeps its message and its list's length"), the lent list of words as it comes and as it is
--- handed back, and what is returned.
+-- One call of an entry: its event, the lent list of words as it comes and as it is handed back, and what is returned.
 pub record Call : Type 0 where
   pub event : Event
   pub lent : List ℕ
@@ -31,13 +31,12 @@ pub record Call : Type 0 where
 abbrev pub events : List Call → List Event
 events cs = map (λ (d : Call). d .event) cs
 
--- A history of calls: "each event takes the board by value and hands the next board back". Each call keeps what the entries promise
--- (`Handed`), and the next one gets the state that it hands back.
+-- A history of calls (Rule 10.2): each call keeps what the entries promise (`Handed`), and the next one gets the state that it hands back.
 pub data Calls : Gateway → List Call → Gateway → Type 0 where
   none : {g : Gateway} → Calls g [] g
   call : {g c : Gateway} {d : Call} {ds : List Call} → Handed g (d .event) (d .lent) (d .left) (d .outcome) → Calls (d .outcome .gateway) ds c → Calls g (d ∷ ds) c
 
--- What a call gives: the refusal, or 0, "the order count", and the orders word for word, "four to an order".
+-- What a call gives (Rule 10.3): the refusal, or 0, the number of actions, and the actions, four words each.
 pub record Given : Type 0 where
   pub refusal : ℕ
   pub count : ℕ
@@ -55,20 +54,20 @@ given d =
 abbrev pub ruled : Gateway → Event → Given
 ruled g e = record { refusal = refusal g e; count = length (actions g e); words = wordsOf (actions g e) }
 
--- "Reach": AS a is reached by the event e on the state g; and "A link is reached with its owner."
+-- AS a is reached by the event e on the state g; a link of the plan is reached with its owner (Rule 9.4).
 abbrev pub reaches : Gateway → Event → ℕ → Bool
 reaches g e a = reach g e a
 
 abbrev pub reachesLink : Gateway → Event → ℕ → Bool
-reachesLink g e l = reaches g e (col (g .owner) l)
+reachesLink g e l = ltb l (g .links) && reaches g e (col (g .owner) l)
 
--- "Controllers are ASPs, servers ASes": two neighbours may trade places if they are not both of one controller, and no server is reached by both.
+-- Rule 10.4: two neighbours may trade places if they are not both of one controller (ASP), and no server (AS) is reached by both.
 pub record Free (g : Gateway) (e f : Event) : Type 0 where
   pub controllers : (q : ℕ) → fromController (e .kind) q ≡ true → fromController (f .kind) q ≡ true → ⊥
   pub servers : (a : ℕ) → reaches g e a ≡ true → reaches g f a ≡ true → ⊥
 
--- What an event leaves as it was, number by number. The plan: no event changes it. "Its record, or an AS's, is all the board keeps of it,
--- activity in that AS too": the waiting mark and the activity of an AS out of reach, the state of a link out of reach.
+-- What an event leaves as it was, number by number (Rules 9.5, 10.5): the plan; the waiting mark and the activity of an AS out of reach; the state of a
+-- link out of reach.
 pub record Untouched (g : Gateway) (e : Event) (c : Gateway) : Type 0 where
   pub asps : c .asps ≡ g .asps
   pub ases : c .ases ≡ g .ases
@@ -83,6 +82,8 @@ pub record Untouched (g : Gateway) (e : Event) (c : Gateway) : Type 0 where
   pub state : (l : ℕ) → reachesLink g e l ≡ false → col (c .state) l ≡ col (g .state) l
   -- an ASP comes up or goes down by its own events alone
   pub up : (q : ℕ) → q < 16 → fromController (e .kind) q ≡ false → col (c .up) q ≡ col (g .up) q
+  -- and the members of an AS out of reach stay up, or down, whoever's event it is
+  pub ups : (a q : ℕ) → a < 16 → q < 16 → reaches g e a ≡ false → isMember g a q ≡ true → col (c .up) q ≡ col (g .up) q
 
 -- at every call of a history
 abbrev pub Outside : Gateway → List Call → Type 0
@@ -105,7 +106,7 @@ abbrev pub Statement : Type 0
 Statement = (g c c′ : Gateway) (cs ds : List Call) (ts : List ℕ) → Calls g cs c → Calls g ds c′
     → Trades next Free g (events cs) ts → events ds ≡ swaps ts (events cs) → Demand3 g cs ds c c′ ts
 
--- "Reach: Up ..: all ASes of p": stated beside it, of a readable Up that is not refused.
+-- Stated beside it: a readable Up that is not refused reaches the ASes of its ASP, and no others (Rule 10.7).
 unfoldable pub isUp : List ℕ → Bool
 isUp s = not (isError s) && (eqb (verdict s) 0 && eqb (typeOf (readingOf s)) 769)
 
@@ -127,3 +128,13 @@ pub record Made (g : Gateway) (h : List Event) (ls : List (List ℕ)) : Type 0 w
   pub are : Calls g list end
   pub of : events list ≡ h
   pub lend : map (λ (d : Call). d .lent) list ≡ ls
+
+-- Trades exist: everything that the statement asks for is there in a history of plan S, where ASP 0 takes AS 0 over and ASP 2 comes up, and the two
+-- trade places. Each reaches an AS.
+pub record TradesExist : Type 0 where
+  pub calls : Made g₁ (takes ∷ rises ∷ []) (replicate 1032 0 ∷ replicate 1032 0 ∷ [])
+  pub traded : Made g₁ (rises ∷ takes ∷ []) (replicate 1032 0 ∷ replicate 1032 0 ∷ [])
+  pub trades : Trades next Free g₁ (takes ∷ rises ∷ []) (0 ∷ [])
+  pub events-trade : rises ∷ takes ∷ [] ≡ swaps (0 ∷ []) (takes ∷ rises ∷ [])
+  pub first : reaches g₁ takes 0 ≡ true
+  pub second : reaches g₁ rises 1 ≡ true

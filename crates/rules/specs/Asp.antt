@@ -1,4 +1,4 @@
--- Document 01: the messages by which an ASP comes up, goes down, and takes traffic.
+-- The messages by which an ASP comes up, goes down, and takes traffic (Rules 7.4 to 7.10).
 -- Assumes nothing.
 use Prim.Native.Nat.{ℕ, _+_, _*_}
 use mathlib.Core.Bool.{Bool, true, false, cond, not, _&&_, _||_}
@@ -23,32 +23,31 @@ asesOf g p = columnOf (g .member) p
 abbrev pub activeIn : Gateway → ℕ → List Bool
 activeIn g p = columnOf (g .active) p
 
--- "Up: an identifier given and not the plan's: Error 15. Else Ack. If p was active anywhere: also Error 6, and p is inactive everywhere. p is up."
+-- Rule 7.4: an identifier of its own that is not the plan's is refused; an ASP that was active somewhere is told so by a second reply
 unfoldable pub upDeed : Gateway → ℕ → Reading → Deed
 upDeed g p r =
     cond (eqb (r .identified) 1 && not (eqb (r .aspid) (col (g .aspid) p))) (say (error p 15))
     (change (sent p 772 0 0 ++ cond (some (activeIn g p)) (error p 6) []) (Rise p) (asesOf g p))
 
--- "Down: Ack; p down, inactive everywhere. Lost: the same without Ack."
+-- Rules 7.5 and 7.6: the loss of the association is a Down without an Ack
 unfoldable pub downDeed : Gateway → ℕ → Deed
 downDeed g p = change (sent p 773 0 0) (Fall p) (asesOf g p)
 
 unfoldable pub lostDeed : Gateway → ℕ → Deed
 lostDeed g p = change [] (Fall p) (asesOf g p)
 
--- "In Active, a mode given that differs from a named AS's": mode 0 stands for none given
+-- whether a named AS has another traffic mode than the one given; mode 0 stands for none given (Rule 7.9)
 unfoldable pub otherMode : Gateway → ℕ → List Bool → Bool
 otherMode g mode named = not (eqb mode 0) && anyBelow (λ a. at named a && not (eqb (col (g .mode) a) mode)) 16
 
--- "Active, Inactive: .. Else Ack, and p becomes active or inactive in each owner AS."
+-- Rules 7.9 and 7.10: an Ack, and p is active, or no longer active, in the ASes named
 unfoldable pub activeDeed : Gateway → ℕ → ℕ → List Bool → Deed
 activeDeed g p mode named = cond (otherMode g mode named) (say (error p 5)) (change (sent p 1027 0 0) (On p) named)
 
 unfoldable pub inactiveDeed : ℕ → List Bool → Deed
 inactiveDeed p named = change (sent p 1028 0 0) (Off p) named
 
--- "p down: Error 6. A named identifier not in the plan or owned by an AS without p: Error 2. No identifiers name all of p's ASes; if none,
--- Error 6." What is done with the ASes named is given.
+-- Rule 7.8: the ASes that the message names, by identifiers or, without any, all of p's; what is done with them is given.
 unfoldable pub trafficDeed : Gateway → ℕ → Reading → List Par → (List Bool → Deed) → Deed
 trafficDeed g p r ps act =
     cond (not (on (g .up) p)) (say (error p 6))

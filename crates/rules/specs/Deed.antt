@@ -1,4 +1,4 @@
--- What an accepted event does: its actions (document 01's orders), and the next state.
+-- What an accepted event does: its actions, and the next state (Rule 7.1).
 -- Assumes nothing.
 use Prim.Native.Nat.{ℕ}
 use mathlib.Core.Bool.{Bool}
@@ -17,7 +17,7 @@ pub data Deed : Type 0 where
   -- replies, then a change in each of the flagged ASes, ascending, with its Notifies
   change : List Action → Change → List Bool → Deed
 
--- "Replies to p come first .., then ASes ascending, in each the addressees ascending."
+-- replies first, then AS by AS upwards (Rule 8.3)
 abbrev pub actionsOf : Gateway → Deed → List Action
 actionsOf g (say os) = os
 actionsOf g (turn l v os) = os
@@ -32,7 +32,7 @@ stateAfter g (change os k named) = moved g k named
 abbrev pub sent : ℕ → ℕ → ℕ → ℕ → List Action
 sent q k s v = action q k s v ∷ []
 
--- "An Error order has value its code, and subject the first refused identifier for code 2, else 0."
+-- An Error with its code; that of code 2 says which identifier was refused (Rule 8.4).
 abbrev pub error : ℕ → ℕ → List Action
 error p n = sent p 0 0 n
 

@@ -1,7 +1,7 @@
--- What an event gives, refused or not, and what every entry promises.
+-- What an event gives, refused or not, and what every entry promises (Rule 6.2).
 -- Assumes nothing.
 use mathlib.Core.Path.{_≡_}
-use Prim.Native.Nat.{ℕ, _*_}
+use Prim.Native.Nat.{ℕ, _*_, _≤_}
 use mathlib.Core.Bool.{cond}
 use mathlib.Core.List.{List, [], _∷_, _++_}
 use lib.ListN.{length, drop}
@@ -14,7 +14,7 @@ use Rattle.rules.specs.Event.{Event}
 use Rattle.rules.specs.Deed.{actionsOf, stateAfter}
 use Rattle.rules.specs.Rules.{deedOf, refusal}
 
--- refused: "count 0, the board given"
+-- a refused event has no actions and leaves the state (Rule 6.3)
 unfoldable pub actions : Gateway → Event → List Action
 actions g e = cond (eqb (refusal g e) 0) (actionsOf g (deedOf g (e .kind))) []
 
@@ -22,10 +22,12 @@ unfoldable pub next : Gateway → Event → Gateway
 next g e = cond (eqb (refusal g e) 0) (stateAfter g (deedOf g (e .kind))) g
 
 -- What every entry promises of the event e on the state g: `lent` is the list of words as it comes, `left` as it is handed back.
--- "Success returns the order count; words after the orders stay".
+-- Words behind the actions' words stay as they came (Rule 8.6).
 pub record Handed (g : Gateway) (e : Event) (lent left : List ℕ) (r : Outcome) : Type 0 where
   pub room : length lent ≡ e .room
   pub refused : r .refusal ≡ refusal g e
   pub count : r .count ≡ length (actions g e)
+  -- so 1,032 words are enough (Rule 8.7)
+  pub few : r .count ≤ 258
   pub state : r .gateway ≡ next g e
   pub words : left ≡ wordsOf (actions g e) ++ drop (4 * length (actions g e)) lent

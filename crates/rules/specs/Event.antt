@@ -1,9 +1,9 @@
--- Document 01, "Events and orders": the six kinds of event.
+-- The six kinds of event (Rule 6.1).
 -- Assumes nothing.
 use Prim.Native.Nat.{ℕ}
 use mathlib.Core.List.{List}
 
--- "Events are: message of ASP p, association of p lost, recovery time of AS a over, link up, link down, message of the link side."
+-- an ASP with its message, an ASP, an AS, a link, a link, the message: each by its number
 pub data Kind : Type 0 where
   message : ℕ → List ℕ → Kind
   lost : ℕ → Kind
@@ -12,7 +12,7 @@ pub data Kind : Type 0 where
   linkDown : ℕ → Kind
   linkMessage : List ℕ → Kind
 
--- "An event keeps its message and its list's length when it trades places": room is that length, in words.
+-- An event takes its message and the length of its list along when it trades places (Rule 10.4): room is that length, in words.
 pub record Event : Type 0 where
   pub kind : Kind
   pub room : ℕ

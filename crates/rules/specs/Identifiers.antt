@@ -1,4 +1,4 @@
--- The identifiers that a message names, parameter by parameter in received order.
+-- The identifiers that a message names, parameter by parameter in received order (Rule 7.8).
 -- Assumes nothing.
 use Prim.Native.Nat.{ℕ}
 use mathlib.Core.Bool.{Bool, true, false, cond, not, _&&_, _||_}
@@ -12,11 +12,11 @@ use Rattle.lookup.specs.Links.{indexOf, known}
 use Rattle.ranges.specs.Named.{isRefused, isOf, nothing, refusedIn, someOf}
 use Rattle.ranges.specs.declared.Refused.{Refused}
 
--- "ids are tags 0x1 .. and 0x8"
+-- the tags of identifiers and of ranges (Rule 2.11)
 abbrev pub isIds : ℕ → Bool
 isIds t = eqb t 0x1 || eqb t 0x8
 
--- "the first refused identifier": parameters in received order, entries in order, ranges ascending
+-- the first one that is unknown, or of an AS without p: parameters as received, in each its entries, in each range upwards
 unfoldable pub firstRefused : Gateway → ℕ → List Par → Refused
 firstRefused g p [] = nothing
 firstRefused g p (x ∷ ps) =
@@ -29,11 +29,11 @@ ownsNamed g [] a = false
 ownsNamed g (x ∷ ps) a =
     (isIds (x .tag) && someOf (isOf (g .iid) (g .owner) (g .links) a) (eqb (x .tag) 0x8) (x .body)) || ownsNamed g ps a
 
--- "the owners of those known"
+-- the owners of the known ones
 unfoldable pub ownersNamed : Gateway → List Par → List Bool
 ownersNamed g ps = tab 16 (ownsNamed g ps)
 
--- ---- one identifier, as in class 6
+-- ---- one identifier, as in class 6 (Rule 5.16)
 
 unfoldable pub isKnown : Gateway → ℕ → Bool
 isKnown g x = known (g .iid) (g .links) x

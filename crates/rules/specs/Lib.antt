@@ -8,3 +8,4 @@ pub mod Rules
 pub mod Reach
 pub mod Entry
 pub mod Samples
+pub mod Inner

@@ -1,4 +1,4 @@
--- Document 01: "Reach", the ASes that an event may read and change.
+-- Reach: the ASes that an event may look into and change (Rules 9.1 to 9.3).
 -- Assumes nothing.
 use Prim.Native.Nat.{ℕ}
 use mathlib.Core.Bool.{Bool, true, false, cond, not, _&&_, _||_}
@@ -17,19 +17,18 @@ use Rattle.rules.specs.Rules.{isError, typeOf, refusal}
 unfoldable pub ownsId : Gateway → ℕ → ℕ → Bool
 ownsId g x a = isKnown g x && eqb (ownerAt g (linkOf g x)) a
 
--- "Up, Down, .. and Active or Inactive without identifiers: all ASes of p. With identifiers: the owners of those known. Class 6 ..: the owner.
--- All else ..: none."
+-- Rule 9.2, of a message that reads: all ASes of p, the owners of the identifiers named, the owner of the one identifier, or none
 unfoldable pub readReach : Gateway → ℕ → List ℕ → Reading → ℕ → Bool
 readReach g p s r a =
     cond (eqb (typeOf r) 769 || eqb (typeOf r) 770) (isMember g a p)
     (cond (eqb (typeOf r) 1025 || eqb (typeOf r) 1026) (cond (eqb (r .ids) 1) (ownsNamed g (walk s 8 .pars) a) (isMember g a p))
     (cond (eqb (r .class) 6) (ownsId g (r .id) a) false))
 
--- "unreadable messages ..: none"
+-- a message that does not read, or an Error, reaches none
 unfoldable pub messageReach : Gateway → ℕ → List ℕ → ℕ → Bool
 messageReach g p s a = cond (isError s || not (eqb (verdict s) 0)) false (readReach g p s (readingOf s) a)
 
--- "lost ..: all ASes of p"; "link events: the owner. Recovery: that AS."
+-- the other kinds (Rule 9.3)
 abbrev pub kindReach : Gateway → Kind → ℕ → Bool
 kindReach g (message p s) a = messageReach g p s a
 kindReach g (lost p) a = isMember g a p
@@ -38,11 +37,11 @@ kindReach g (linkUp l) a = eqb (ownerAt g l) a
 kindReach g (linkDown l) a = eqb (ownerAt g l) a
 kindReach g (linkMessage s) a = ownsId g (readingOf s .id) a
 
--- "events refused by the table above: none"
+-- a refused event reaches none, and no event an AS beyond the plan (Rule 9.1)
 unfoldable pub reach : Gateway → Event → ℕ → Bool
 reach g e a = eqb (refusal g e) 0 && (ltb a (g .ases) && kindReach g (e .kind) a)
 
--- the controller whose event it is; "the loss of an association counts as its controller's event"
+-- the ASP whose event it is: a message and the loss of its association; the other kinds are nobody's (Rule 10.1)
 abbrev pub fromController : Kind → ℕ → Bool
 fromController (message p s) q = eqb p q
 fromController (lost p) q = eqb p q

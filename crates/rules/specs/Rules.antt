@@ -1,4 +1,4 @@
--- Document 01, "Events and orders": what each event does, and which are refused.
+-- What each event does (Rules 7.1 to 7.23), and which are refused (Rules 6.3 to 6.6).
 -- Assumes nothing.
 use Prim.Native.Nat.{ℕ, _+_, _*_}
 use mathlib.Core.Bool.{Bool, true, false, cond, not, _&&_, _||_}
@@ -22,7 +22,7 @@ use Rattle.rules.specs.Link.{classSixDeed, linkUpDeed, linkDownDeed, lin
 
 -- ---- a message of ASP p
 
--- "Bytes 2 and 3, from 0, both 0 in 4 or more bytes (an Error): no order and no change, readable or not."
+-- Rule 7.2: an Error from p, whether it reads or not, is not answered
 unfoldable pub isError : List ℕ → Bool
 isError s = leb 4 (length s) && (eqb (getD s 2 0) 0 && eqb (getD s 3 0) 0)
 
@@ -30,11 +30,11 @@ isError s = leb 4 (length s) && (eqb (getD s 2 0) 0 && eqb (getD s 3 0) 0)
 abbrev pub typeOf : Reading → ℕ
 typeOf r = r .class * 256 + r .kind
 
--- 6.1, 6.2, 6.4, 6.7, 6.10, 6.15
+-- the types of class 6 that an ASP may send (Rule 7.14)
 unfoldable pub fromAsp : ℕ → Bool
 fromAsp k = eqb k 1 || eqb k 2 || eqb k 4 || eqb k 7 || eqb k 10 || eqb k 15
 
--- A readable message. "Beat: Beat Ack. Beat Ack: nothing." "Any other message: Error 6."
+-- a readable message, by class and type: Up, Down, Beat, Beat Ack, Active, Inactive, class 6; any other is Error 6 (Rules 7.4 to 7.23)
 unfoldable pub readDeed : Gateway → ℕ → List ℕ → Reading → Deed
 readDeed g p s r =
     cond (eqb (typeOf r) 769) (upDeed g p r)
@@ -46,7 +46,7 @@ readDeed g p s r =
     (cond (eqb (r .class) 6 && fromAsp (r .kind)) (classSixDeed g p r)
     (say (error p 6))))))))
 
--- "A message the reader refuses: an Error, no change."
+-- Rule 7.3: a message that the reader refuses is answered by an Error with the reader's number
 unfoldable pub messageDeed : Gateway → ℕ → List ℕ → Deed
 messageDeed g p s =
     cond (isError s) (say [])
@@ -58,7 +58,7 @@ messageDeed g p s =
 abbrev pub deedOf : Gateway → Kind → Deed
 deedOf g (message p s) = messageDeed g p s
 deedOf g (lost p) = lostDeed g p
--- "Recovery over: waiting ends."
+-- Rule 7.13
 deedOf g (recovery a) = change [] Recover (tab 16 (λ c. eqb c a))
 deedOf g (linkUp l) = linkUpDeed g l
 deedOf g (linkDown l) = linkDownDeed g l
@@ -66,11 +66,11 @@ deedOf g (linkMessage s) = linkMessageDeed g (readingOf s)
 
 -- ---- refusals
 
--- "a type other than 6.1, 6.8, 6.9, 6.11 to 6.14"
+-- the types of class 6 that the link side may send (Rule 6.5)
 unfoldable pub fromLink : ℕ → Bool
 fromLink k = eqb k 1 || eqb k 8 || eqb k 9 || (leb 11 k && leb k 14)
 
--- "102 ASP, AS or link place beyond the plan, or a link-side message not readable, of a type other than .., or of an unknown identifier"
+-- what is not refused with 102: an ASP, AS or link of the plan; a message of the link side that reads, of such a type and of a known identifier (Rule 6.5)
 abbrev pub inPlan : Gateway → Kind → Bool
 inPlan g (message p s) = ltb p (g .asps)
 inPlan g (lost p) = ltb p (g .asps)
@@ -80,11 +80,11 @@ inPlan g (linkDown l) = ltb l (g .links)
 inPlan g (linkMessage s) =
     eqb (verdict s) 0 && (eqb (readingOf s .class) 6 && (fromLink (readingOf s .kind) && isKnown g (readingOf s .id)))
 
--- "101 list under 1,032 words"
+-- the words that an event asks for, or it is refused with 101 (Rule 6.6)
 abbrev pub leastRoom : ℕ
 leastRoom = 1032
 
--- "Refusals in order: 105 board not sound; 102 ..; 101 .."
+-- the first that applies (Rule 6.3)
 unfoldable pub refusalOf : Bool → Bool → ℕ → ℕ
 refusalOf sound known room = 105 if not sound orElse 102 if not known orElse 101 if ltb room leastRoom
 

@@ -1,6 +1,7 @@
--- Document 01, "Samples": those that are starred, as one claim.
+-- The starred samples as one claim (Rules 11.1 to 11.4).
 -- Assumes nothing.
 use mathlib.Core.Path.{_≡_}
+use mathlib.Core.Bool.{true, false}
 use mathlib.Core.List.{List, [], _∷_}
 use Prim.Native.Nat.{ℕ}
 use Rattle.config.specs.Plan.{loadOf}
@@ -9,9 +10,10 @@ use Rattle.action.specs.declared.Action.{Action}
 use Rattle.action.specs.Words.{action}
 use Rattle.message.specs.Samples.{active, ReaderSamples}
 use Rattle.rules.specs.Event.{Kind, message, recovery, Event}
+use Rattle.rules.specs.Reach.{reach}
 use Rattle.rules.specs.Entry.{actions, next}
 
--- "Plan S: ASPs 0 and 1 (identifiers 7, 8) in AS 0, override, links 100 to 115; ASP 2 (9) in AS 1, load-share, link 200."
+-- plan S, byte by byte (Rule 11.1)
 unfoldable pub planS : List ℕ
 planS =
     0 ∷ 0 ∷ 0 ∷ 24 ∷ 0 ∷ 0 ∷ 0 ∷ 3 ∷ 0 ∷ 0 ∷ 0 ∷ 48 ∷ 0 ∷ 0 ∷ 0 ∷ 2 ∷ 0 ∷ 0 ∷ 0 ∷ 56 ∷ 0 ∷ 0 ∷ 0 ∷ 17 ∷ 0 ∷ 0 ∷ 0 ∷ 7 ∷ 0 ∷ 1 ∷ 0 ∷ 0 ∷ 0 ∷ 0 ∷ 0 ∷ 8 ∷ 0 ∷ 1 ∷ 0 ∷ 0 ∷ 0 ∷ 0 ∷ 0 ∷ 9 ∷ 0 ∷ 2 ∷ 0 ∷ 0 ∷ 0 ∷ 0 ∷ 0 ∷ 1 ∷ 0 ∷ 0 ∷ 0 ∷ 2 ∷ 0 ∷ 0 ∷ 0 ∷ 100 ∷ 0 ∷ 0 ∷ 0 ∷ 0 ∷ 0 ∷ 0 ∷ 0 ∷ 101 ∷ 0 ∷ 0 ∷ 0 ∷ 0 ∷ 0 ∷ 0 ∷ 0 ∷ 102 ∷ 0 ∷ 0 ∷ 0 ∷ 0 ∷ 0 ∷ 0 ∷ 0 ∷ 103 ∷ 0 ∷ 0 ∷ 0 ∷ 0 ∷ 0 ∷ 0 ∷ 0 ∷ 104 ∷ 0 ∷ 0 ∷ 0 ∷ 0 ∷ 0 ∷ 0 ∷ 0 ∷ 105 ∷ 0 ∷ 0 ∷ 0 ∷ 0 ∷ 0 ∷ 0 ∷ 0 ∷ 106 ∷ 0 ∷ 0 ∷ 0 ∷ 0 ∷ 0 ∷ 0 ∷ 0 ∷ 107 ∷ 0 ∷ 0 ∷ 0 ∷ 0 ∷ 0 ∷ 0 ∷ 0 ∷ 108 ∷ 0 ∷ 0 ∷ 0 ∷ 0 ∷ 0 ∷ 0 ∷ 0 ∷ 109 ∷ 0 ∷ 0 ∷ 0 ∷ 0 ∷ 0 ∷ 0 ∷ 0 ∷ 110 ∷ 0 ∷ 0 ∷ 0 ∷ 0 ∷ 0 ∷ 0 ∷ 0 ∷ 111 ∷ 0 ∷ 0 ∷ 0 ∷ 0 ∷ 0 ∷ 0 ∷ 0 ∷ 112 ∷ 0 ∷ 0 ∷ 0 ∷ 0 ∷ 0 ∷ 0 ∷ 0 ∷ 113 ∷ 0 ∷ 0 ∷ 0 ∷ 0 ∷ 0 ∷ 0 ∷ 0 ∷ 114 ∷ 0 ∷ 0 ∷ 0 ∷ 0 ∷ 0 ∷ 0 ∷ 0 ∷ 115 ∷ 0 ∷ 0 ∷ 0 ∷ 0 ∷ 0 ∷ 0 ∷ 0 ∷ 200 ∷ 0 ∷ 0 ∷ 0 ∷ 1 ∷ []
@@ -31,34 +33,49 @@ bare class type = 1 ∷ 0 ∷ class ∷ type ∷ 0 ∷ 0 ∷ 0 ∷ 8 ∷ []
 unfoldable pub m : List ℕ
 m = active 1 0x64 0x73
 
--- "Fresh S, ASP 0 up"
+-- after Up of ASP 0 on the fresh state
 unfoldable pub g₁ : Gateway
 g₁ = next fresh (event (message 0 (bare 3 1)))
 
--- "M from 0"
+-- after M of ASP 0
 unfoldable pub g₂ : Gateway
 g₂ = next g₁ (event (message 0 m))
 
--- "Then ASP 1 up"
+-- after Up of ASP 1
 unfoldable pub g₃ : Gateway
 g₃ = next g₂ (event (message 1 (bare 3 1)))
 
--- "Active without ids"
+-- after its Active that names no identifiers
 unfoldable pub g₄ : Gateway
 g₄ = next g₃ (event (message 1 (bare 4 1)))
 
--- "Then ASP 1 down"
+-- after its Down
 unfoldable pub g₅ : Gateway
 g₅ = next g₄ (event (message 1 (bare 3 2)))
 
--- "Those with * are proved from the rules under a single claim"
+-- all starred samples, proved from the rules
 pub record Samples : Type 0 where
   pub reader : ReaderSamples
-  -- "Fresh S, ASP 0 up, M from 0: (0,1027,0,0), (0,1,0,65539)."
+  -- M of ASP 0: an Active Ack, and AS 0 is active
   pub takes-over : actions g₁ (event (message 0 m)) ≡ action 0 1027 0 0 ∷ action 0 1 0 65539 ∷ []
-  -- "Then ASP 1 up, Active without ids: (1,1027,0,0), (0,1,0,131074)."
+  -- Active of ASP 1: an Ack, and ASP 0 is overtaken
   pub overrides : actions g₃ (event (message 1 (bare 4 1))) ≡ action 1 1027 0 0 ∷ action 0 1 0 131074 ∷ []
-  -- "Then ASP 1 down: Ack, (0,1,0,65540)."
+  -- Down of ASP 1: an Ack, and AS 0 is pending
   pub pends : actions g₄ (event (message 1 (bare 3 2))) ≡ action 1 773 0 0 ∷ action 0 1 0 65540 ∷ []
-  -- "Then recovery over: (0,1,0,65538)."
+  -- the recovery time is over: AS 0 is inactive
   pub recovers : actions g₅ (event (recovery 0)) ≡ action 0 1 0 65538 ∷ []
+
+-- ---- two events of plan S that reach different ASes
+
+-- in the state g₁: ASP 0 takes AS 0 over, by message M
+unfoldable pub takes : Event
+takes = event (message 0 m)
+
+-- ASP 2 comes up
+unfoldable pub rises : Event
+rises = event (message 2 (bare 3 1))
+
+pub record ReachApart : Type 0 where
+  pub ases : g₁ .ases ≡ 2
+  pub first : (reach g₁ takes 0 ≡ true) × (reach g₁ takes 1 ≡ false)
+  pub second : (reach g₁ rises 0 ≡ false) × (reach g₁ rises 1 ≡ true)

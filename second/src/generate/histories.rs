@@ -1,11 +1,11 @@
 //! Lines of the kinds `event` and `bytes`: long histories, each over one
 //! state.
 
-use super::message::{self, Message, Piece};
+use super::hex::put_bytes;
+use super::message::{self, Message, Piece, MESSAGES};
 use super::plans::{self, Plan};
-use super::reading::{self, put_bytes};
 use super::rng::Rng;
-use super::{malformed, MESSAGES};
+use super::{malformed, reading};
 use crate::events::{bits, Event, LIST_WORDS};
 use crate::gateway::{Gateway, IDLE, IN_SERVICE, STARTING};
 use crate::script::{put_number, Session};

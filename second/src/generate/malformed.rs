@@ -1,7 +1,7 @@
 //! Lines that are no commands, and lines that are passed over.
 
+use super::hex::put_bytes;
 use super::message;
-use super::reading::put_bytes;
 use super::rng::Rng;
 
 /// Printable ones, for scripts that are kept.

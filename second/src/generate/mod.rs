@@ -1,6 +1,7 @@
 //! Generated scripts. The same seed, count and kind always give the same
 //! lines.
 
+mod hex;
 mod histories;
 mod malformed;
 mod message;
@@ -10,7 +11,6 @@ mod rng;
 mod writing;
 
 use histories::History;
-use message::MESSAGES;
 pub use rng::Rng;
 use std::io;
 

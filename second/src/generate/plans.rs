@@ -1,7 +1,7 @@
 //! Plan files, good and damaged, and lines of the kind `plan`.
 
+use super::hex::put_bytes;
 use super::malformed;
-use super::reading::put_bytes;
 use super::rng::Rng;
 
 /// A plan as it will be written.
