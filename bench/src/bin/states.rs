@@ -1,4 +1,4 @@
-//! Boards that break one condition of soundness each, field by field: the proved library's verdict against the expected one; and every value that
+//! States that break one condition of soundness each, field by field: the proved library's verdict against the expected one; and every value that
 //! matters in every entry of every field, against the second program's verdict.
 use bench::plans::{full_plan, plan_s};
 use bench::proved;
