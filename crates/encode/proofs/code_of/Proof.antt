@@ -10,4 +10,4 @@ unfolding table
 verdict-of-requires c κs = let m : c .row-of .result ≤ 17 = rw (c .row-of .ensures) (row-most table _ _) in (m, c .row-of .ensures, c .before .before .before .before .before .pre)
 
 pub code-of-spec : {M : Type 1} → statement M
-code-of-spec = tie.close (tie.spec (search needs) (search needs) verdict-of-requires (λ c. cc))
+code-of-spec = tie.close (tie.spec (λ c κs. search needs) (λ c κs. search needs) verdict-of-requires (λ c. cc))

@@ -14,4 +14,4 @@ returns-2 : tie.Need-returns-2
 returns-2 c = emits-all _ _ _ _ _ _ _ (omega arith) (c .before .before .put-message .ensures)
 
 pub emit-spec : {M : Type 1} → statement M
-emit-spec = tie.close (tie.spec returns put-message-requires (search needs) returns-2)
+emit-spec = tie.close (tie.spec returns put-message-requires (λ c. search needs) returns-2)

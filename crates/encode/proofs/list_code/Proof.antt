@@ -69,7 +69,7 @@ pub list-code-spec : {M : Type 1} → statement M
 list-code-spec =
     tie.close
     (tie.spec
-    Inv-loop μ-loop loop-holds (search needs) (search needs) (search needs) (search needs) cast-stop add-stop (search needs) (search needs)
-    (search needs) (search needs) part-par-at-end (search needs) returns (search needs) (search needs) (search needs) (search needs)
-    part-kept-end (search needs) (search needs) (search needs) (search needs) (search needs) (search needs) loop-again (search needs)
-    returns-2)
+    Inv-loop μ-loop loop-holds (λ c. search needs) (λ c. search needs) (λ c. search needs) (λ c. search needs) cast-stop add-stop
+    (λ c κs. search needs) (λ c. search needs) (λ c. search needs) (λ c. search needs) part-par-at-end (λ c κs. search needs) returns
+    (λ c. search needs) (λ c. search needs) (λ c. search needs) (λ c. search needs) part-kept-end (λ c κs. search needs) (λ c. search needs)
+    (λ c. search needs) (λ c. search needs) (λ c. search needs) (λ c. search needs) loop-again (λ c κs. search needs) returns-2)

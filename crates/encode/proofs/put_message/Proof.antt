@@ -16,4 +16,4 @@ returns c = let st = c .before .before .before .before .before .before .before .
     ∙ ap (overlay (a .out .now) 0) (encode-sized (a .class) (a .kind) ps (a .size) (size-of-sized (st .pre .sized)))
 
 pub put-message-spec : {M : Type 1} → statement M
-put-message-spec = tie.close (tie.spec (search needs) (search needs) (search needs) (search needs) returns)
+put-message-spec = tie.close (tie.spec (λ c. search needs) (λ c κs. search needs) (λ c κs. search needs) (λ c. search needs) returns)

@@ -74,5 +74,5 @@ pub put-pars-spec : {M : Type 1} → statement M
 put-pars-spec =
     tie.close
     (tie.spec
-    Inv-loop μ-loop loop-holds (search needs) (search needs) cast-stop add-stop (search needs) (search needs) (search needs) (search needs)
-    part-put-param-end put-param-requires (search needs) (search needs) loop-again same-length returns)
+    Inv-loop μ-loop loop-holds (λ c. search needs) (λ c. search needs) cast-stop add-stop (λ c. search needs) (λ c. search needs) (λ c. search needs)
+    (λ c. search needs) part-put-param-end put-param-requires (λ c. search needs) (λ c. search needs) loop-again same-length returns)

@@ -49,10 +49,10 @@ unfolding sizeIf
 size-of-spec =
     tie.close
     (tie.spec
-    Inv-loop μ-loop (λ c. search choices depth 9) loop-holds (search needs) (search needs)
+    Inv-loop μ-loop (λ c. search choices depth 9) loop-holds (λ c. search needs) (λ c. search needs)
     (λ c. omega (arith, c .shared-slice-known .given (c .before .before .loop .i)))
     (λ c. omega (arith, c .shared-slice-known .given (c .before .before .loop .i)))
     (λ c. omega (arith, c .shared-slice-known .given (c .before .before .loop .i)))
     (λ c. omega (arith, c .shared-slice-known .given (c .before .before .loop .i)))
-    (λ c. omega (arith, c .shared-slice-known .given (c .before .before .loop .i))) returns-2 (λ c. omega arith) (search needs)
-    (search needs) loop-again returns-3 returns-4)
+    (λ c. omega (arith, c .shared-slice-known .given (c .before .before .loop .i))) returns-2 (λ c. omega arith) (λ c. search needs)
+    (λ c. search needs) loop-again returns-3 returns-4)

@@ -33,4 +33,4 @@ unfolding listVerdict
 verdict-of-spec =
     tie.close
     (tie.spec
-    (λ c. search choices depth 9) (λ c. search choices depth 9) (λ c. search choices depth 9) (search needs) list-code-requires returns-4)
+    (λ c. search choices depth 9) (λ c. search choices depth 9) (λ c. search choices depth 9) (λ c κs. search needs) list-code-requires returns-4)

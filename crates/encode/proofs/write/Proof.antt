@@ -10,4 +10,4 @@ returns : tie.Need-returns
 returns c = let s = c .before .before .before .before in writes-all _ _ _ _ _ _ _ _ _ (s .before .before .size-of .ensures) (s .before .code-of .ensures) (s .with-room .ensures) _ _ (c .before .before .emit .ensures)
 
 pub write-spec : {M : Type 1} → statement M
-write-spec = tie.close (tie.spec (search needs) (search needs) (search needs) emit-requires (search needs) returns)
+write-spec = tie.close (tie.spec (λ c κs. search needs) (λ c κs. search needs) (λ c κs. search needs) emit-requires (λ c. search needs) returns)

@@ -1,8 +1,9 @@
+use Rattle.parameter.specs.Slot.{slot}
 use Rattle.message.specs.Seen.{endAt}
 use borrow.Author.Needs.{needs}
 use Rattle.message.proofs.end_code.Statement.{statement}
 use Rattle.message.proofs.end_code.Tie as tie
 
 pub end-code-spec : {M : Type 1} → statement M
-unfolding endAt
+unfolding slot endAt
 end-code-spec = tie.close (tie.spec (search needs) (search needs) (search needs) (search needs) (search needs) (search needs) (λ c. cc))

@@ -8,4 +8,4 @@ returns-2 : tie.Need-returns-2
 returns-2 c = sym (or-not _ _ (c .if1 .left))
 
 pub first-of-spec : {M : Type 1} → statement M
-first-of-spec = tie.close (tie.spec (search needs) returns-2)
+first-of-spec = tie.close (tie.spec (λ c. search needs) returns-2)

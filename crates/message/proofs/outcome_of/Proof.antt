@@ -1,3 +1,4 @@
+use Rattle.parameter.specs.Slot.{slot}
 use Rattle.message.specs.Seen.{outcomeAt}
 use Rattle.laws.specs.Choice.{choices}
 use borrow.Author.Needs.{needs}
@@ -5,5 +6,5 @@ use Rattle.message.proofs.outcome_of.Statement.{statement}
 use Rattle.message.proofs.outcome_of.Tie as tie
 
 pub outcome-of-spec : {M : Type 1} → statement M
-unfolding outcomeAt
+unfolding slot outcomeAt
 outcome-of-spec = tie.close (tie.spec (search needs) (λ c. search choices depth 9) (search needs) (λ c. search choices depth 9))

@@ -14,4 +14,7 @@ unfolding overlay
 returns c = rw add-one
 
 pub put16-spec : {M : Type 1} → statement M
-put16-spec = tie.close (tie.spec (search needs) (search needs) (search needs) (search needs) slice-write-out-2 (search needs) returns)
+put16-spec =
+    tie.close
+    (tie.spec
+    (λ c. search needs) (λ c. search needs) (λ c. search needs) (λ c. search needs) slice-write-out-2 (λ c. search needs) returns)

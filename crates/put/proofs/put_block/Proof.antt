@@ -80,5 +80,22 @@ pub put-block-spec : {M : Type 1} → statement M
 put-block-spec =
     tie.close
     (tie.spec
-    Inv-loop μ-loop Inv-loop2 μ-loop2 loop-holds shared-slice-read-block array-write-block add-i loop-less loop-again loop2-holds
-    array-read-out add-out slice-write-out add-j loop2-less loop2-again same-length returns)
+    Inv-loop
+    μ-loop
+    Inv-loop2
+    μ-loop2
+    loop-holds
+    shared-slice-read-block
+    array-write-block
+    add-i
+    loop-less
+    loop-again
+    loop2-holds
+    array-read-out
+    add-out
+    slice-write-out
+    add-j
+    loop2-less
+    loop2-again
+    same-length
+    returns)

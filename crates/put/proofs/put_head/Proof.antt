@@ -8,4 +8,4 @@ returns : tie.Need-returns
 returns c = over-two _ _ _ _ _ _ _ (c .before .before .before .before .before .before .put16 .ensures) refl (c .before .before .put162 .ensures)
 
 pub put-head-spec : {M : Type 1} → statement M
-put-head-spec = tie.close (tie.spec (search needs) (search needs) (search needs) (search needs) returns)
+put-head-spec = tie.close (tie.spec (λ c κs. search needs) (λ c. search needs) (λ c κs. search needs) (λ c. search needs) returns)

@@ -8,4 +8,4 @@ returns : tie.Need-returns
 returns c = over-two _ _ _ _ _ _ _ (c .before .before .before .before .before .before .put-bytes .ensures) refl (c .before .before .put-zeros .ensures)
 
 pub put-value-spec : {M : Type 1} → statement M
-put-value-spec = tie.close (tie.spec (search needs) (search needs) (search needs) (search needs) returns)
+put-value-spec = tie.close (tie.spec (λ c κs. search needs) (λ c. search needs) (λ c κs. search needs) (λ c. search needs) returns)

@@ -36,5 +36,5 @@ pub put-zeros-spec : {M : Type 1} → statement M
 put-zeros-spec =
     tie.close
     (tie.spec
-    returns (search needs) (search needs) returns-2 (search needs) slice-write-out-2 (search needs) returns-3 (search needs)
-    slice-write-out-3 (search needs) returns-4)
+    returns (λ c. search needs) (λ c. search needs) returns-2 (λ c. search needs) slice-write-out-2 (λ c. search needs) returns-3 (λ c. search needs)
+    slice-write-out-3 (λ c. search needs) returns-4)

@@ -10,4 +10,7 @@ unfolding acceptedText
 returns c = (put-then (c .before .before .before .before .before .before .put-head .ensures .0) (put-then (c .before .before .before .before .put-pars .ensures .0) (put-then (c .before .before .put-joint .ensures .0) (c .put-verdict .ensures .0))), omega arith)
 
 pub put-accepted-spec : {M : Type 1} → statement M
-put-accepted-spec = tie.close (tie.spec (search needs) (search needs) (search needs) (search needs) (search needs) returns)
+put-accepted-spec =
+    tie.close
+    (tie.spec
+    (λ c. search needs) (λ c κs. search needs) (λ c κs. search needs) (λ c κs. search needs) (λ c κs. search needs) returns)

@@ -9,4 +9,4 @@ returns : tie.Need-returns
 returns c = rw (c .before .before .part-at .ensures) at (c .put-par .ensures)
 
 pub put-at-spec : {M : Type 1} → statement M
-put-at-spec = tie.close (tie.spec (search needs) put-par-requires returns)
+put-at-spec = tie.close (tie.spec (λ c κs. search needs) put-par-requires returns)

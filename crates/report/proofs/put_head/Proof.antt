@@ -13,4 +13,7 @@ returns c =
     (put-then (c .before .before .before .before .before .before .put-bytes .ensures) (put-then (c .before .before .before .before .put-two .ensures .0) (put-then (c .before .before .put-byte .ensures) (c .put-number .ensures .0))), omega arith)
 
 pub put-head-spec : {M : Type 1} → statement M
-put-head-spec = tie.close (tie.spec (search needs) (search needs) (search needs) (search needs) (search needs) returns)
+put-head-spec =
+    tie.close
+    (tie.spec
+    (λ c. search needs) (λ c κs. search needs) (λ c κs. search needs) (λ c κs. search needs) (λ c κs. search needs) returns)

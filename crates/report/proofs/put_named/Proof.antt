@@ -7,4 +7,7 @@ returns : tie.Need-returns
 returns c = named-put _ _ _ (c .before .before .before .before .before .before .before .field-of .ensures) (c .before .before .before .before .put-bytes .ensures) (c .before .before .put-two .ensures .0) (c .put-value .ensures)
 
 pub put-named-spec : {M : Type 1} → statement M
-put-named-spec = tie.close (tie.spec (search needs) (search needs) (search needs) (search needs) (search needs) returns)
+put-named-spec =
+    tie.close
+    (tie.spec
+    (λ c κs. search needs) (λ c. search needs) (λ c κs. search needs) (λ c κs. search needs) (λ c κs. search needs) returns)

@@ -9,4 +9,4 @@ unfolding parText
 returns c = put-then (c .before .before .put-joint .ensures .0) (c .put-tagged .ensures)
 
 pub put-par-spec : {M : Type 1} → statement M
-put-par-spec = tie.close (tie.spec (search needs) (search needs) returns)
+put-par-spec = tie.close (tie.spec (λ c κs. search needs) (λ c κs. search needs) returns)

@@ -34,4 +34,7 @@ loop-again : tie.Need-loop-again Inv-loop μ-loop
 loop-again c = rest-next (c .before .before .before .before .before .before .loop .inv) _ _ _ (sym (c .before .before .before .before .before .step-at .ensures) ∙ c .before .before .before .w .given .1) _ _ (c .put-at .ensures)
 
 pub put-pars-spec : {M : Type 1} → statement M
-put-pars-spec = tie.close (tie.spec Inv-loop μ-loop loop-holds (search needs) (search needs) returns put-at-requires loop-less loop-again)
+put-pars-spec =
+    tie.close
+    (tie.spec
+    Inv-loop μ-loop loop-holds (λ c κs. search needs) (λ c. search needs) returns put-at-requires loop-less loop-again)

@@ -23,4 +23,4 @@ returns-2 : tie.Need-returns-2
 returns-2 c = (read-none _ _ (c .before .before .before .before .read .ensures) (c .if1 .left) (c .before .before .put-number .ensures .0), omega arith)
 
 pub put-read-spec : {M : Type 1} → statement M
-put-read-spec = tie.close (tie.spec (search needs) (search needs) put-pars-requires returns returns-2)
+put-read-spec = tie.close (tie.spec (λ c κs. search needs) (λ c κs. search needs) put-pars-requires returns returns-2)

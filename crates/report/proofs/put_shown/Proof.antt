@@ -19,4 +19,4 @@ returns-2 : tie.Need-returns-2
 returns-2 c = (shown-none _ _ (c .before .before .before .before .read .ensures) _ (c .before .before .if1 .left) (c .put-verdict .ensures .0), omega arith)
 
 pub put-shown-spec : {M : Type 1} → statement M
-put-shown-spec = tie.close (tie.spec (search needs) put-accepted-requires returns (search needs) returns-2)
+put-shown-spec = tie.close (tie.spec (λ c κs. search needs) put-accepted-requires returns (λ c κs. search needs) returns-2)

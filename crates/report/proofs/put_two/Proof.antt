@@ -12,4 +12,4 @@ returns c =
     (put-then (c .before .before .before .before .put-number .ensures .0) (put-then (c .before .before .put-byte .ensures) (c .put-number2 .ensures .0)), omega arith)
 
 pub put-two-spec : {M : Type 1} → statement M
-put-two-spec = tie.close (tie.spec (search needs) (search needs) (search needs) returns)
+put-two-spec = tie.close (tie.spec (λ c κs. search needs) (λ c κs. search needs) (λ c κs. search needs) returns)

@@ -10,4 +10,4 @@ returns-2 : tie.Need-returns-2
 returns-2 c = value-some _ (c .before .before .before .before .if1 .left) (c .before .before .put-byte .ensures) (c .put-hex .ensures .0)
 
 pub put-value-spec : {M : Type 1} → statement M
-put-value-spec = tie.close (tie.spec returns (search needs) (search needs) returns-2)
+put-value-spec = tie.close (tie.spec returns (λ c κs. search needs) (λ c κs. search needs) returns-2)

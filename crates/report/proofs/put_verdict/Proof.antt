@@ -12,4 +12,4 @@ returns c =
     (put-then (c .before .before .put-bytes .ensures) (c .put-number .ensures .0), omega arith)
 
 pub put-verdict-spec : {M : Type 1} → statement M
-put-verdict-spec = tie.close (tie.spec (search needs) (search needs) (search needs) returns)
+put-verdict-spec = tie.close (tie.spec (λ c. search needs) (λ c κs. search needs) (λ c κs. search needs) returns)

@@ -11,4 +11,7 @@ returns-2 : tie.Need-returns-2
 returns-2 c = (line-answered _ (c .before .before .before .before .before .before .if1 .left) (c .before .before .before .before .command-of .ensures) (c .before .before .before .before .before .word-of .ensures) (c .before .before .before .rest-of .ensures .0) (c .answer .ensures .0), c .answer .ensures .1)
 
 pub answer-line-spec : {M : Type 1} → statement M
-answer-line-spec = tie.close (tie.spec (search needs) returns (search needs) (search needs) (search needs) (search needs) returns-2)
+answer-line-spec =
+    tie.close
+    (tie.spec
+    (λ c κs. search needs) returns (λ c κs. search needs) (λ c κs. search needs) (λ c κs. search needs) (λ c κs. search needs) returns-2)

@@ -14,4 +14,7 @@ returns-3 : tie.Need-returns-3
 returns-3 c = command-bad _ (sym (c .before .before .before .before .is .ensures) ∙ c .before .before .before .if1 .left) (sym (c .before .is2 .ensures) ∙ c .if2 .left)
 
 pub command-of-spec : {M : Type 1} → statement M
-command-of-spec = tie.close (tie.spec (search needs) (search needs) returns (search needs) (search needs) returns-2 returns-3)
+command-of-spec =
+    tie.close
+    (tie.spec
+    (λ c. search needs) (λ c κs. search needs) returns (λ c. search needs) (λ c κs. search needs) returns-2 returns-3)

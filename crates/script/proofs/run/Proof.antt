@@ -13,4 +13,4 @@ returns-3 : tie.Need-returns-3
 returns-3 c = run-line _ (c .before .before .before .before .before .before .before .before .if1 .left) (c .before .before .before .before .before .before .if2 .left) (c .before .before .before .answer-line .ensures .0) (c .before .before .before .answer-line .ensures .1) (c .before .put-byte .ensures) (c .at .ensures)
 
 pub run-spec : {M : Type 1} → statement M
-run-spec = tie.close (tie.spec returns (search needs) returns-2 (search needs) (search needs) (search needs) returns-3)
+run-spec = tie.close (tie.spec returns (λ c. search needs) returns-2 (λ c κs. search needs) (λ c κs. search needs) (λ c κs. search needs) returns-3)

@@ -11,4 +11,5 @@ pub happen-spec : {M : Type 1} → statement M
 happen-spec =
     tie.close
     (tie.spec
-    (search needs) (search needs) (search needs) slice-aggregate-happen (search needs) (search needs) (search needs))
+    (λ c κs. search needs) (λ c κs. search needs) (λ c. search needs) slice-aggregate-happen (λ c κs. search needs) (λ c κs. search needs)
+    (λ c. search needs))

@@ -12,4 +12,4 @@ returns : tie.Need-returns
 returns c = omega (arith, take-short _ (c .before .before .before .before .before .before .before .before .args .marks .now) (c .before .before .wide .result) (c .before .first .ensures))
 
 pub put-column-spec : {M : Type 1} → statement M
-put-column-spec = tie.close (tie.spec (search needs) (search needs) (search needs) put-marks-requires returns)
+put-column-spec = tie.close (tie.spec (λ c κs. search needs) (λ c κs. search needs) (λ c κs. search needs) put-marks-requires returns)

@@ -9,5 +9,5 @@ unfolding addDigit
 add-digit-spec =
     tie.close
     (tie.spec
-    (λ c. search choices depth 9) (λ c. search choices depth 9) (search needs) (search needs) (search needs) (λ c. search choices depth 9)
-    (search needs) (λ c. search choices depth 9))
+    (λ c. search choices depth 9) (λ c. search choices depth 9) (λ c. search needs) (λ c. search needs) (λ c. search needs)
+    (λ c. search choices depth 9) (λ c. search needs) (λ c. search choices depth 9))

@@ -37,4 +37,7 @@ returns-2 c =
     passed-end a (l .i) (l .inv) h
 
 pub blank-at-spec : {M : Type 1} → statement M
-blank-at-spec = tie.close (tie.spec Inv-loop μ-loop loop-holds (search needs) returns (search needs) (search needs) loop-again returns-2)
+blank-at-spec =
+    tie.close
+    (tie.spec
+    Inv-loop μ-loop loop-holds (λ c. search needs) returns (λ c. search needs) (λ c. search needs) loop-again returns-2)

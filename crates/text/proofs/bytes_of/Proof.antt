@@ -17,4 +17,4 @@ returns-4 : tie.Need-returns-4
 returns-4 c = bytes-some _ _ _ (sym (c .before .before .before .before .before .is-dash .ensures) ∙ c .before .before .before .before .if1 .left) (c .before .before .before .if2 .left) _ (c .octets-of .ensures)
 
 pub bytes-of-spec : {M : Type 1} → statement M
-bytes-of-spec = tie.close (tie.spec (search needs) returns returns-2 returns-3 (search needs) returns-4)
+bytes-of-spec = tie.close (tie.spec (λ c κs. search needs) returns returns-2 returns-3 (λ c κs. search needs) returns-4)

@@ -38,4 +38,4 @@ returns-2 c =
     (c .put-bytes2 .ensures, omega (arith, length-take-le (65536 - m) p h))
 
 pub collect-spec : {M : Type 1} → statement M
-collect-spec = tie.close (tie.spec (search needs) (search needs) returns slice-aggregate-put-bytes put-bytes-requires-2 returns-2)
+collect-spec = tie.close (tie.spec (λ c. search needs) (λ c κs. search needs) returns slice-aggregate-put-bytes put-bytes-requires-2 returns-2)

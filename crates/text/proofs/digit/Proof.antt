@@ -6,4 +6,4 @@ use Rattle.text.proofs.digit.Tie as tie
 
 pub digit-spec : {M : Type 1} → statement M
 unfolding glyph
-digit-spec = tie.close (tie.spec (search needs) (search needs) (λ c. search choices depth 4) (λ c. search choices depth 4))
+digit-spec = tie.close (tie.spec (λ c. search needs) (λ c. search needs) (λ c. search choices depth 4) (λ c. search choices depth 4))

@@ -17,4 +17,4 @@ returns-2 c =
     sym (take-all (a .n) (a .s .now) h)
 
 pub first-spec : {M : Type 1} → statement M
-first-spec = tie.close (tie.spec slice-aggregate-result (search needs) returns-2)
+first-spec = tie.close (tie.spec slice-aggregate-result (λ c. search needs) returns-2)

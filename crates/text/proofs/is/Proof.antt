@@ -50,4 +50,4 @@ pub is-spec : {M : Type 1} → statement M
 is-spec =
     tie.close
     (tie.spec
-    Inv-loop μ-loop returns loop-holds (search needs) (search needs) returns-2 (search needs) (search needs) loop-again returns-3)
+    Inv-loop μ-loop returns loop-holds (λ c. search needs) (λ c. search needs) returns-2 (λ c. search needs) (λ c. search needs) loop-again returns-3)

@@ -6,4 +6,4 @@ use Rattle.text.proofs.is_dash.Tie as tie
 
 pub is-dash-spec : {M : Type 1} → statement M
 unfolding isDash
-is-dash-spec = tie.close (tie.spec (λ c. search choices depth 4) (search needs) (λ c. search choices depth 4))
+is-dash-spec = tie.close (tie.spec (λ c. search choices depth 4) (λ c. search needs) (λ c. search choices depth 4))

@@ -10,6 +10,5 @@ unfolding nibbleOf
 nibble-spec =
     tie.close
     (tie.spec
-    (λ c. (search choices depth 12, omega arith)) (λ c. (search choices depth 12, omega arith))
-    (λ c. (search choices depth 12, omega arith)) (search needs) (λ c. (search choices depth 12, omega arith))
-    (λ c. (search choices depth 12, omega arith)))
+    (λ c. (search choices depth 12, omega arith)) (λ c. (search choices depth 12, omega arith)) (λ c. (search choices depth 12, omega arith))
+    (λ c. search needs) (λ c. (search choices depth 12, omega arith)) (λ c. (search choices depth 12, omega arith)))

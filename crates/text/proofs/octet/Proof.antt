@@ -14,4 +14,7 @@ returns-3 : tie.Need-returns-3
 returns-3 c = (octet-both _ _ _ _ (c .before .before .before .nibble .ensures .0) (omega arith) (c .before .nibble2 .ensures .0) (omega arith), omega arith)
 
 pub octet-spec : {M : Type 1} → statement M
-octet-spec = tie.close (tie.spec (search needs) returns (search needs) returns-2 (search needs) (search needs) (search needs) returns-3)
+octet-spec =
+    tie.close
+    (tie.spec
+    (λ c κs. search needs) returns (λ c κs. search needs) returns-2 (λ c. search needs) (λ c. search needs) (λ c. search needs) returns-3)

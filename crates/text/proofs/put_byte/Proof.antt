@@ -7,4 +7,4 @@ returns : tie.Need-returns
 returns c = put-one _ _ _
 
 pub put-byte-spec : {M : Type 1} → statement M
-put-byte-spec = tie.close (tie.spec (search needs) (search needs) returns)
+put-byte-spec = tie.close (tie.spec (λ c. search needs) (λ c. search needs) returns)

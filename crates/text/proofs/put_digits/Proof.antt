@@ -27,4 +27,5 @@ pub put-digits-spec : {M : Type 1} → statement M
 put-digits-spec =
     tie.close
     (tie.spec
-    Inv-loop μ-loop loop-holds (search needs) (search needs) (search needs) (search needs) (search needs) (search needs) loop-again returns)
+    Inv-loop μ-loop loop-holds (λ c. search needs) (λ c κs. search needs) (λ c. search needs) (λ c. search needs) (λ c. search needs)
+    (λ c. search needs) loop-again returns)

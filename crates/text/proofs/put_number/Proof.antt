@@ -8,4 +8,4 @@ returns : tie.Need-returns
 returns c = (decimal-put _ _ _ _ _ (c .before .before .width .ensures .0) (c .put-digits .ensures), (omega arith, omega arith))
 
 pub put-number-spec : {M : Type 1} → statement M
-put-number-spec = tie.close (tie.spec (search needs) (search needs) (search needs) returns)
+put-number-spec = tie.close (tie.spec (λ c κs. search needs) (λ c κs. search needs) (λ c. search needs) returns)

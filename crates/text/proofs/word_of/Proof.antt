@@ -7,4 +7,4 @@ returns : tie.Need-returns
 returns c = c .first .ensures ∙ c .before .blank-at .ensures .word
 
 pub word-of-spec : {M : Type 1} → statement M
-word-of-spec = tie.close (tie.spec (search needs) (search needs) returns)
+word-of-spec = tie.close (tie.spec (λ c κs. search needs) (λ c κs. search needs) returns)

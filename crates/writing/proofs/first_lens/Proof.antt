@@ -10,4 +10,4 @@ slice-aggregate-result : tie.Need-slice-aggregate-result
 slice-aggregate-result c = sym (length-take-le _ _ (omega arith))
 
 pub first-lens-spec : {M : Type 1} → statement M
-first-lens-spec = tie.close (tie.spec slice-aggregate-result (search needs) (search needs))
+first-lens-spec = tie.close (tie.spec slice-aggregate-result (λ c. search needs) (λ c. search needs))

@@ -8,4 +8,7 @@ keep-requires : tie.Need-keep-requires
 keep-requires c κs = (rw (c .before .before .before .size .given .1) at (c .before .before .before .before .before .put-octets .ensures), search needs)
 
 pub take-value-spec : {M : Type 1} → statement M
-take-value-spec = tie.close (tie.spec (search needs) (search needs) (search needs) (search needs) keep-requires (search needs))
+take-value-spec =
+    tie.close
+    (tie.spec
+    (λ c κs. search needs) (λ c. search needs) (λ c. search needs) (λ c. search needs) keep-requires (λ c. search needs))

@@ -13,4 +13,5 @@ pub write-in-spec : {M : Type 1} → statement M
 write-in-spec =
     tie.close
     (tie.spec
-    (search needs) slice-aggregate-write (search needs) (search needs) (search needs) (search needs) (search needs) (search needs))
+    (λ c. search needs) slice-aggregate-write (λ c κs. search needs) (λ c. search needs) (λ c. search needs) (λ c κs. search needs)
+    (λ c. search needs) (λ c. search needs))
