@@ -1,5 +1,11 @@
 // Writes M2UA messages from a lent list of tags and values.
+use parameter::NO_ROW;
 use parameter::RowInfo;
+use wire::HEADER;
+use wire::MOST;
+use wire::PROTOCOL_ERROR;
+use wire::UNSUPPORTED_CLASS;
+use wire::UNSUPPORTED_TYPE;
 ghost use mathlib.Core.Path.{_≡_};
 ghost use Prim.Native.Nat.{_+_, _≤_, _<_};
 ghost use lib.ListN.{length};
@@ -8,6 +14,9 @@ ghost use Rattle.parameter.specs.Slot.{infoOf};
 ghost use Rattle.put.specs.Bytes.{overlay, parsBytes};
 ghost use Rattle.encode.specs.Encode.{encode, parsIn};
 ghost use Rattle.encode.specs.Write.{sizeIf, Lent, Fits, rowCode, listVerdict, roomCode, Emits, Writes};
+
+// The refusal of a buffer that is short.
+const SHORT_BUFFER: u32 = 103;
 
 // What a write did. A refused list has its number in `code`, and length 0.
 #[repr(C)]
@@ -25,13 +34,13 @@ fn size_of(tags: usize, lens: &[u32], values: usize) -> usize
     if lens.len() != tags {
         return 0;
     }
-    let mut size: usize = 8;
+    let mut size: usize = HEADER;
     let mut sum: usize = 0;
     let mut i: usize = 0;
     while i < lens.len() {
         let n = lens[i] as usize;
         size += (4 + n + 3) / 4 * 4;
-        if 2048 < size {
+        if MOST < size {
             return 0;
         }
         sum += n;
@@ -86,13 +95,13 @@ fn verdict_of(
     ensures { λ r. ⌜ r ≡ listVerdict size listed row class kind (parsIn (now (tags .entry)) (now (lens .entry)) (now (values .entry))) ⌝ }
 {
     if size == 0 {
-        return 7;
+        return PROTOCOL_ERROR;
     }
     if !listed {
-        return 3;
+        return UNSUPPORTED_CLASS;
     }
-    if row == 17 {
-        return 4;
+    if row == NO_ROW {
+        return UNSUPPORTED_TYPE;
     }
     list_code(parameter::row_info(row), class, kind, tags, lens, values)
 }
@@ -105,7 +114,7 @@ fn with_room(verdict: u32, size: usize, room: usize) -> u32
         return verdict;
     }
     if room < size {
-        return 103;
+        return SHORT_BUFFER;
     }
     0
 }
@@ -115,7 +124,7 @@ fn put_pars(out: &mut [u8], size: usize, tags: &[u16], lens: &[u32], values: &[u
     requires { ⌜ Fits (now tags) (now lens) (now values) size (now out) ⌝ }
     ensures { λ _. ⌜ now (out .exit) ≡ overlay (now (out .entry)) 8 (parsBytes (parsIn (now (tags .entry)) (now (lens .entry)) (now (values .entry)))) ⌝ }
 {
-    let mut at: usize = 8;
+    let mut at: usize = HEADER;
     let mut i: usize = 0;
     let mut pos: usize = 0;
     while i < tags.len() {

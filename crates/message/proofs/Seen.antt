@@ -12,11 +12,11 @@ use lib.Dec.{eqb}
 use borrow.Author.Tests.{eq-eqb, ne-eqb, eqb-true, eqb-false}
 use Rattle.laws.specs.Below.{both-true}
 use Rattle.wire.specs.Walk.{Par}
-use Rattle.parameter.specs.Table.{never, must, Entry, table, entriesIn, key, usage}
-use Rattle.parameter.specs.Slot.{slot, tagAt, infoOf, useBits, allMet}
+use Rattle.parameter.specs.Table.{Usage, forbidden, Entry, table, entriesIn, key, usage}
+use Rattle.parameter.specs.Slot.{slot, tagAt, infoOf, packedUse, allMet}
 use Rattle.parameter.specs.Check.{allowedCode, parCode}
 use Rattle.parameter.specs.Value.{bodyCode}
-use Rattle.parameter.proofs.Slots.{same-slot, tag-one, usage-slot, all-near, near, row-near, near-slot, listed-slot}
+use Rattle.parameter.proofs.Slots.{same-slot, tag-one, usage-slot, all-near, near, row-near, near-slot, usage-far}
 use Rattle.laws.specs.Choice.{_orElse_}
 use Rattle.parameter.proofs.Info.{musts-row, use-bits}
 use Rattle.message.specs.Verdict.{has, number, head, allThere, exactly, sequenceCode, check8}
@@ -37,23 +37,23 @@ number-word t h [] = refl
 number-word t h (p ∷ ps) = rw (number-word t h ps, same-slot (p .tag) t h)
 
 -- the code's packed uses of a tag and of identifiers
-pub packed-uses : (i t k : ℕ) → i < 17 → k ≡ slot t → k < 32 → (useBits (infoOf i .uses) 1 ≡ usage i 0x1) × (useBits (infoOf i .uses) k ≡ usage i t)
+pub packed-uses : (i t k : ℕ) → i < 17 → k ≡ slot t → k < 32 → (packedUse (infoOf i .uses) 1 ≡ usage i 0x1) × (packedUse (infoOf i .uses) k ≡ usage i t)
 packed-uses i t k hi ek hk =
     (use-bits i 1 hi (omega arith) ∙ ap (usage i) tag-one, use-bits i k hi hk ∙ ap (λ (j : ℕ). usage i (tagAt j)) ek ∙ usage-slot i t)
 
-never-again : (u₁ u : ℕ) (first a b : Bool) (t : ℕ) → u ≡ never → allowedCode u₁ u first a t ≡ allowedCode u₁ u first b t
+forbidden-again : (u₁ u : Usage) (first a b : Bool) (t : ℕ) → u ≡ forbidden → allowedCode u₁ u first a t ≡ allowedCode u₁ u first b t
 unfolding allowedCode
-never-again u₁ u first a b t e = rw e refl
+forbidden-again u₁ u first a b t e = rw e refl
 
 -- a parameter is checked by its slot: where the tag may not stand, it does not matter whether it was there before
 pub check-slot : (i t : ℕ) (first : Bool) (ps : List Par) (v : List ℕ)
     → parCode (usage i 0x1) (usage i t) first (has t ps) t v ≡ parCode (usage i 0x1) (usage i t) first (there (slot t) ps) t v
 unfolding parCode
-check-slot i t first ps v = go (ℕ-discrete (usage i t) never)
+check-slot i t first ps v = go (near t) refl
   where
-    go : Dec (usage i t ≡ never) → parCode (usage i 0x1) (usage i t) first (has t ps) t v ≡ parCode (usage i 0x1) (usage i t) first (there (slot t) ps) t v
-    go (yes e) = ap (λ (x : ℕ). x orElse bodyCode (usage i t) t v) (never-again (usage i 0x1) (usage i t) first (has t ps) (there (slot t) ps) t e)
-    go (no n) = ap (λ (b : Bool). parCode (usage i 0x1) (usage i t) first b t v) (has-there t (listed-slot i t n) ps)
+    go : (b : Bool) → near t ≡ b → parCode (usage i 0x1) (usage i t) first (has t ps) t v ≡ parCode (usage i 0x1) (usage i t) first (there (slot t) ps) t v
+    go true e = ap (λ (b : Bool). parCode (usage i 0x1) (usage i t) first b t v) (has-there t (near-slot i t e) ps)
+    go false e = ap (λ (x : ℕ). x orElse bodyCode (usage i t) t v) (forbidden-again (usage i 0x1) (usage i t) first (has t ps) (there (slot t) ps) t (usage-far i t e))
 
 -- ---- one parameter more
 
@@ -155,6 +155,10 @@ sequence-same c t action result given = go (eqb c 6) (eqb t 10) (eqb t 11) (eqb 
     go true false true true = refl
     go true false true false = refl
 
+-- a tag that some message has: its slot is its own
+own : (t : ℕ) → near t ≡ true → slot t < 31
+own t h = near-slot 0 t h
+
 module _ {met : List Bool} {words : List ℕ} {ps : List Par} (s : Seen met words ps) where
   all-there : (es : List Entry) → all-near es ≡ true → allMet es met ≡ allThere es ps
   unfolding allMet allThere all-near
@@ -165,30 +169,30 @@ module _ {met : List Bool} {words : List ℕ} {ps : List Par} (s : Seen met word
       let m : getD met (slot (e .tag)) false ≡ has (e .tag) ps = s .met-is (slot (e .tag)) (omega arith) ∙ sym (has-there (e .tag) k ps) in
       rw (m, all-there es (b .1))
 
-  met-has : (t k : ℕ) → slot t ≡ k → k < 31 → getD met k false ≡ has t ps
-  met-has t k e h = rw (← e) (s .met-is (slot t) (omega arith) ∙ sym (has-there t (omega arith) ps))
+  met-has : (t : ℕ) → slot t < 31 → getD met (slot t) false ≡ has t ps
+  met-has t h = s .met-is (slot t) (omega arith) ∙ sym (has-there t h ps)
 
-  word-number : (t k : ℕ) → slot t ≡ k → k < 31 → getD words k 0 ≡ number t ps
-  word-number t k e h = rw (← e) (s .words-is (slot t) (omega arith) ∙ sym (number-word t (omega arith) ps))
+  word-number : (t : ℕ) → slot t < 31 → getD words (slot t) 0 ≡ number t ps
+  word-number t h = s .words-is (slot t) (omega arith) ∙ sym (number-word t h ps)
 
   pub end-same : (i c t : ℕ) → i < 17 → endAt (infoOf i .musts) c t met words ≡ check8 i c t ps
-  unfolding endAt slot sequenceCode
+  unfolding endAt sequenceCode near
   end-same i c t h =
-      rw (musts-row i met h, all-there (entriesIn table i) (row-near i), word-number 0x306 26 refl (omega arith), word-number 0x308 28 refl (omega arith), met-has 0x307 27 refl (omega arith))
+      rw (musts-row i met h, all-there (entriesIn table i) (row-near i), word-number 0x306 (own 0x306 refl), word-number 0x308 (own 0x308 refl), met-has 0x307 (own 0x307 refl))
       (ap (λ (n : ℕ). cond (not (allThere (entriesIn table i) ps)) 22 0 orElse n) (sequence-same c t (number 0x306 ps) (number 0x308 ps) (has 0x307 ps)))
 
   pub meaning-same : (c t : ℕ) → meaningAt c t met words ≡ meaning c t ps
-  unfolding meaningAt meaning slot
+  unfolding meaningAt meaning near
   meaning-same c t =
       rw (
-        met-has 0x1 1 refl (omega arith),
-        met-has 0x8 8 refl (omega arith),
-        word-number 0x1 1 refl (omega arith),
-        word-number 0xb 11 refl (omega arith),
-        met-has 0x11 17 refl (omega arith),
-        word-number 0x11 17 refl (omega arith),
-        met-has 0x13 19 refl (omega arith),
-        word-number 0x13 19 refl (omega arith),
-        word-number 0x302 22 refl (omega arith),
-        word-number 0x306 26 refl (omega arith),
+        met-has 0x1 (own 0x1 refl),
+        met-has 0x8 (own 0x8 refl),
+        word-number 0x1 (own 0x1 refl),
+        word-number 0xb (own 0xb refl),
+        met-has 0x11 (own 0x11 refl),
+        word-number 0x11 (own 0x11 refl),
+        met-has 0x13 (own 0x13 refl),
+        word-number 0x13 (own 0x13 refl),
+        word-number 0x302 (own 0x302 refl),
+        word-number 0x306 (own 0x306 refl),
       )

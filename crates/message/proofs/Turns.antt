@@ -15,8 +15,8 @@ use Rattle.wire.specs.Walk.{Par, Walk, walk, stepAt, stepCode}
 use Rattle.wire.specs.declared.Step.{Step}
 use Rattle.wire.specs.declared.Step.the-variants.{Param}
 use Rattle.wire.proofs.Steps.{walk-step, walk-stop, pars-next, pars-stop}
-use Rattle.parameter.specs.Table.{table, rowIn, usage}
-use Rattle.parameter.specs.Slot.{slot, infoOf, useBits}
+use Rattle.parameter.specs.Table.{Usage, table, rowIn, usage}
+use Rattle.parameter.specs.Slot.{slot, infoOf, packedUse}
 use Rattle.parameter.specs.declared.RowInfo.{RowInfo}
 use Rattle.parameter.specs.Check.{parCode}
 use Rattle.laws.specs.Choice.{_orElse_, or-not}
@@ -48,7 +48,7 @@ module _ {i : ℕ} {all : List Par} {met : List Bool} {words : List ℕ} {first 
     (hi : i < 17) {info : RowInfo} (ei : info ≡ infoOf i) where
   -- a parameter of the tag t and the value v is next; k is its tag's slot, and r what its check gave
   module _ (t k r : ℕ) (v : List ℕ) (qs : List Par) (e : ps ≡ record { tag = t; body = v } ∷ qs) (ek : k ≡ slot t) (hk : k < 32)
-      (er : r ≡ parCode (useBits (info .uses) 1) (useBits (info .uses) k) first (getD met k false) t v) where
+      (er : r ≡ parCode (packedUse (info .uses) 1) (packedUse (info .uses) k) first (getD met k false) t v) where
     abbrev p : Par
     p = record { tag = t; body = v }
 
@@ -58,9 +58,9 @@ module _ {i : ℕ} {all : List Par} {met : List Bool} {words : List ℕ} {first 
     -- by the packed row
     packed-is : r ≡ parCode (usage i 0x1) (usage i t) first (getD met k false) t v
     packed-is =
-        er ∙ ap (λ (x : RowInfo). parCode (useBits (x .uses) 1) (useBits (x .uses) k) first (getD met k false) t v) ei
-        ∙ ap (λ (x : ℕ). parCode x (useBits (infoOf i .uses) k) first (getD met k false) t v) (packed-uses i t k hi ek hk .0)
-        ∙ ap (λ (x : ℕ). parCode (usage i 0x1) x first (getD met k false) t v) (packed-uses i t k hi ek hk .1)
+        er ∙ ap (λ (x : RowInfo). parCode (packedUse (x .uses) 1) (packedUse (x .uses) k) first (getD met k false) t v) ei
+        ∙ ap (λ (x : Usage). parCode x (packedUse (infoOf i .uses) k) first (getD met k false) t v) (packed-uses i t k hi ek hk .0)
+        ∙ ap (λ (x : Usage). parCode (usage i 0x1) x first (getD met k false) t v) (packed-uses i t k hi ek hk .1)
 
     -- by what was passed
     check-is : r ≡ parCode (usage i 0x1) (usage i t) (isNone (h .passed)) (has t (h .passed)) t v
@@ -126,7 +126,7 @@ module _ {s : List ℕ} {met : List Bool} {words : List ℕ} {first : Bool} {at 
     {info : RowInfo} (ei : info ≡ infoOf (rowOf s)) where
   -- a parameter is next, of the tag t whose slot is k: r is what its check gave
   module _ (t l n k r : ℕ) (w : stepAt s at ≡ Param t l n) (ek : k ≡ slot t) (hk : k < 32)
-      (er : r ≡ parCode (useBits (info .uses) 1) (useBits (info .uses) k) first (getD met k false) t (take (at + l - (at + 4)) (drop (at + 4) s))) where
+      (er : r ≡ parCode (packedUse (info .uses) 1) (packedUse (info .uses) k) first (getD met k false) t (take (at + l - (at + 4)) (drop (at + 4) s))) where
     abbrev v : List ℕ
     v = take (at + l - (at + 4)) (drop (at + 4) s)
 

@@ -43,7 +43,7 @@ sequenceAt c t action result given =
 -- check 8, of a row whose mandatory slots are packed
 unfoldable pub endAt : ℕ → ℕ → ℕ → List Bool → List ℕ → ℕ
 endAt musts c t met words =
-    (22 if not (allAsked musts met)) orElse sequenceAt c t (getD words 26 0) (getD words 28 0) (getD met 27 false)
+    (22 if not (allAsked musts met)) orElse sequenceAt c t (getD words (slot 0x306) 0) (getD words (slot 0x308) 0) (getD met (slot 0x307) false)
 
 -- the meaning of an accepted message
 unfoldable pub meaningAt : ℕ → ℕ → List Bool → List ℕ → Reading
@@ -52,15 +52,15 @@ meaningAt c t met words =
       code = 0;
       class = c;
       kind = t;
-      ids = flag (getD met 1 false || getD met 8 false);
-      id = getD words 1 0;
-      mode = getD words 11 0;
-      identified = flag (getD met 17 false);
-      aspid = getD words 17 0;
-      correlated = flag (getD met 19 false);
-      correlation = getD words 19 0;
-      state = getD words 22 0;
-      action = getD words 26 0;
+      ids = flag (getD met (slot 0x1) false || getD met (slot 0x8) false);
+      id = getD words (slot 0x1) 0;
+      mode = getD words (slot 0xb) 0;
+      identified = flag (getD met (slot 0x11) false);
+      aspid = getD words (slot 0x11) 0;
+      correlated = flag (getD met (slot 0x13) false);
+      correlation = getD words (slot 0x13) 0;
+      state = getD words (slot 0x302) 0;
+      action = getD words (slot 0x306) 0;
     }
 
 -- what a number hands back: the meaning, or the refusal

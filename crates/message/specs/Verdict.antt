@@ -9,7 +9,7 @@ use lib.Dec.{ltb, eqb}
 use Rattle.laws.specs.Choice.{_orElse_, _if_}
 use Rattle.wire.specs.Number.{be}
 use Rattle.wire.specs.Walk.{Par, walk}
-use Rattle.parameter.specs.Table.{must, Entry, table, hasClass, rowIn, entriesIn, key, usage}
+use Rattle.parameter.specs.Table.{isMandatory, Entry, table, hasClass, rowIn, entriesIn, key, usage}
 use Rattle.parameter.specs.Check.{parCode}
 
 -- "over 2,048 (house)"
@@ -50,7 +50,7 @@ inTurn i before (p ∷ ps) =
 -- each mandatory parameter of a row is there
 unfoldable pub allThere : List Entry → List Par → Bool
 allThere [] ps = true
-allThere (e ∷ es) ps = cond (eqb (e .use-as) must) (has (e .tag) ps && allThere es ps) (allThere es ps)
+allThere (e ∷ es) ps = cond (isMandatory (e .use-as)) (has (e .tag) ps && allThere es ps) (allThere es ps)
 
 -- "Present wrongly: 19; absent wrongly: 22."
 abbrev pub exactly : Bool → Bool → ℕ

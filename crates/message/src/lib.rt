@@ -1,6 +1,15 @@
 // Reads M2UA messages: the verdict and the meaning of any bytes.
+use parameter::NO_ROW;
 use parameter::RowInfo;
+use wire::HEADER;
+use wire::INVALID_VERSION;
+use wire::MISSING_PARAMETER;
+use wire::MOST;
+use wire::PROTOCOL_ERROR;
 use wire::Step;
+use wire::UNEXPECTED_PARAMETER;
+use wire::UNSUPPORTED_CLASS;
+use wire::UNSUPPORTED_TYPE;
 ghost use mathlib.Core.Path.{_≡_};
 ghost use Prim.Native.Nat.{_+_, _≤_, _<_};
 ghost use mathlib.Core.Bool.{cond, not, true, false};
@@ -9,10 +18,44 @@ ghost use lib.Dec.{eqb};
 ghost use Rattle.laws.specs.Choice.{_orElse_, _if_};
 ghost use Rattle.wire.specs.Walk.{walk};
 ghost use Rattle.parameter.specs.Table.{table, rowIn};
-ghost use Rattle.parameter.specs.Slot.{infoOf};
+ghost use Rattle.parameter.specs.Slot.{slot, infoOf};
 ghost use Rattle.message.specs.Verdict.{exactly, head, lastChecks};
 ghost use Rattle.message.specs.Meaning.{flag, refusal, outcome, readingOf, dataOf};
 ghost use Rattle.message.specs.Seen.{sequenceAt, endAt, meaningAt, outcomeAt, bodyAt, rowOutcome, kindOutcome, checksOutcome};
+
+// The slots of the tags that are asked for.
+const ID: usize = 1;
+
+const RANGE: usize = 8;
+
+const MODE: usize = 11;
+
+const ASP_ID: usize = 17;
+
+const CORRELATION: usize = 19;
+
+const DATA: usize = 20;
+
+const STATE: usize = 22;
+
+const ACTION: usize = 26;
+
+const SEQUENCE: usize = 27;
+
+const RESULT: usize = 28;
+
+// The class of the link messages, and two of its types.
+const LINK_CLASS: u8 = 6;
+
+const RETRIEVAL_REQUEST: u8 = 10;
+
+const RETRIEVAL_CONFIRM: u8 = 11;
+// What a retrieval asks for, and that it was done.
+const GET_BSN: u32 = 1;
+
+const GET_MESSAGES: u32 = 2;
+
+const DONE: u32 = 0;
 
 // What reading a message gives. A refused message has its number in `code`, and zeros.
 #[repr(C)]
@@ -73,10 +116,10 @@ fn exact(wanted: bool, given: bool) -> u32
         if given {
             return 0;
         }
-        return 22;
+        return MISSING_PARAMETER;
     }
     if given {
-        return 19;
+        return UNEXPECTED_PARAMETER;
     }
     0
 }
@@ -85,13 +128,13 @@ fn exact(wanted: bool, given: bool) -> u32
 fn sequence_code(c: u8, t: u8, action: u32, result: u32, given: bool) -> u32
     ensures { λ r. ⌜ r ≡ sequenceAt c t action result given ⌝ }
 {
-    if c == 6 {
-        if t == 10 {
-            return exact(action == 2, given);
+    if c == LINK_CLASS {
+        if t == RETRIEVAL_REQUEST {
+            return exact(action == GET_MESSAGES, given);
         }
-        if t == 11 {
-            if action == 1 {
-                return exact(result == 0, given);
+        if t == RETRIEVAL_CONFIRM {
+            if action == GET_BSN {
+                return exact(result == DONE, given);
             }
             return exact(false, given);
         }
@@ -103,22 +146,22 @@ fn sequence_code(c: u8, t: u8, action: u32, result: u32, given: bool) -> u32
 // The meaning of an accepted message, from the slots met and the numbers seen. The state is read ahead of the branches (finish): read here, the
 // compiler would load it together with the correlation id, across two stores, which takes 5 ns.
 fn meaning_at(c: u8, t: u8, state: u32, met: &[bool; 32], words: &[u32; 32]) -> Reading
-    requires { ⌜ state ≡ getD (now words) 22 0 ⌝ }
+    requires { ⌜ state ≡ getD (now words) (slot 0x302) 0 ⌝ }
     ensures { λ r. ⌜ r ≡ meaningAt c t (now (met .entry)) (now (words .entry)) ⌝ }
 {
     Reading {
         code: 0,
         class: c as u32,
         kind: t as u32,
-        ids: unit(met[1] | met[8]),
-        id: words[1],
-        mode: words[11],
-        identified: unit(met[17]),
-        aspid: words[17],
-        correlated: unit(met[19]),
-        correlation: words[19],
+        ids: unit(met[ID] | met[RANGE]),
+        id: words[ID],
+        mode: words[MODE],
+        identified: unit(met[ASP_ID]),
+        aspid: words[ASP_ID],
+        correlated: unit(met[CORRELATION]),
+        correlation: words[CORRELATION],
         state,
-        action: words[26],
+        action: words[ACTION],
     }
 }
 
@@ -139,7 +182,7 @@ fn end_of(all: bool, sequence: u32) -> u32
     if all {
         return sequence;
     }
-    22
+    MISSING_PARAMETER
 }
 
 // Check 8, of a row whose mandatory slots are packed.
@@ -148,13 +191,13 @@ pub fn end_code(musts: u32, c: u8, t: u8, met: &[bool; 32], words: &[u32; 32]) -
 {
     end_of(
         parameter::musts_met(musts, met),
-        sequence_code(c, t, words[26], words[28], met[27]),
+        sequence_code(c, t, words[ACTION], words[RESULT], met[SEQUENCE]),
     )
 }
 
 // What a number hands back: the meaning, or the refusal.
 fn outcome_of(code: u32, c: u8, t: u8, state: u32, met: &[bool; 32], words: &[u32; 32]) -> Reading
-    requires { ⌜ state ≡ getD (now words) 22 0 ⌝ }
+    requires { ⌜ state ≡ getD (now words) (slot 0x302) 0 ⌝ }
     ensures { λ r. ⌜ r ≡ outcomeAt code c t (now (met .entry)) (now (words .entry)) ⌝ }
 {
     if code == 0 {
@@ -167,7 +210,7 @@ fn outcome_of(code: u32, c: u8, t: u8, state: u32, met: &[bool; 32], words: &[u3
 fn finish(fault: u32, musts: u32, c: u8, t: u8, met: &[bool; 32], words: &[u32; 32]) -> Reading
     ensures { λ r. ⌜ r ≡ outcomeAt (fault orElse endAt musts c t (now (met .entry)) (now (words .entry))) c t (now (met .entry)) (now (words .entry)) ⌝ }
 {
-    let state = words[22];
+    let state = words[STATE];
     outcome_of(
         first_of(fault, end_code(musts, c, t, met, words)),
         c,
@@ -213,7 +256,7 @@ fn read_pars(s: &[u8], info: RowInfo) -> Reading
     let mut met = [false; 32];
     let mut words = [0u32; 32];
     let mut first = true;
-    let mut at: usize = 8;
+    let mut at: usize = HEADER;
     loop {
         let w = wire::step_at(s, at);
         let Step::Param { tag, len, next } = w else {
@@ -240,16 +283,16 @@ fn read_row(listed: bool, row: usize, n: u32, s: &[u8]) -> Reading
     ensures { λ r. ⌜ r ≡ rowOutcome listed row n (now (s .entry)) ⌝ }
 {
     if !listed {
-        return refused(3);
+        return refused(UNSUPPORTED_CLASS);
     }
-    if row == 17 {
-        return refused(4);
+    if row == NO_ROW {
+        return refused(UNSUPPORTED_TYPE);
     }
     if n as usize != s.len() {
-        return refused(7);
+        return refused(PROTOCOL_ERROR);
     }
     if s.len() % 4 != 0 {
-        return refused(7);
+        return refused(PROTOCOL_ERROR);
     }
     read_pars(s, parameter::row_info(row))
 }
@@ -273,14 +316,14 @@ fn read_kind(s: &[u8]) -> Reading
 fn read_checks(s: &[u8]) -> Reading
     ensures { λ r. ⌜ r ≡ checksOutcome (now (s .entry)) ⌝ }
 {
-    if s.len() < 8 {
-        return refused(7);
+    if s.len() < HEADER {
+        return refused(PROTOCOL_ERROR);
     }
-    if 2048 < s.len() {
-        return refused(7);
+    if MOST < s.len() {
+        return refused(PROTOCOL_ERROR);
     }
     if s[0] != 1 {
-        return refused(1);
+        return refused(INVALID_VERSION);
     }
     read_kind(s)
 }
@@ -315,5 +358,5 @@ fn find(s: &[u8], from: usize, k: usize) -> &[u8]
 pub fn protocol_data(s: &[u8]) -> &[u8]
     ensures { λ r. ⌜ now r ≡ dataOf (now (s .entry)) ⌝ }
 {
-    find(s, 8, 20)
+    find(s, HEADER, DATA)
 }

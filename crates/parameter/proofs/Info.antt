@@ -8,28 +8,43 @@ use lib.ListN.{getD}
 use lib.Dec.{eqb}
 use borrow.Author.Tests.{eqb-true}
 use Rattle.laws.specs.Below.{allBelow, all-at, both-true}
-use Rattle.parameter.specs.Table.{must, Entry, table, entriesIn, useIn, usage}
-use Rattle.parameter.specs.Slot.{slot, tagAt, infoOf, useBits, asked, allAsked, allMet}
+use Rattle.parameter.specs.Table.{Usage, forbidden, optional, mandatory, repeated, isMandatory, Entry, table, entriesIn, useIn, usage}
+use Rattle.parameter.specs.Slot.{slot, tagAt, infoOf, useBits, usageOf, packedUse, asked, allAsked, allMet}
 
--- ---- how tags may stand
+-- ---- how tags stand
+
+-- the number that a usage is packed as
+number : Usage → ℕ
+number forbidden = 0
+number optional = 1
+number mandatory = 2
+number repeated = 3
+
+number-is : (u : Usage) → usageOf (number u) ≡ u
+unfolding usageOf number
+number-is forbidden = refl
+number-is optional = refl
+number-is mandatory = refl
+number-is repeated = refl
 
 bits : ℕ → ℕ → Bool
-bits row k = eqb (useBits (infoOf row .uses) k) (usage row (tagAt k))
+bits row k = eqb (useBits (infoOf row .uses) k) (number (usage row (tagAt k)))
 
 all-bits : allBelow (λ row. allBelow (bits row) 32) 17 ≡ true
-unfolding allBelow bits infoOf usage useIn entriesIn table tagAt
+unfolding allBelow bits number infoOf usage useIn entriesIn table tagAt
 all-bits = refl
 
-pub use-bits : (row k : ℕ) → row < 17 → k < 32 → useBits (infoOf row .uses) k ≡ usage row (tagAt k)
+pub use-bits : (row k : ℕ) → row < 17 → k < 32 → packedUse (infoOf row .uses) k ≡ usage row (tagAt k)
 unfolding bits
-use-bits row k hr hk = eqb-true _ _ (all-at (bits row) 32 (all-at (λ r. allBelow (bits r) 32) 17 all-bits row hr) k hk)
+use-bits row k hr hk =
+    ap usageOf (eqb-true _ _ (all-at (bits row) 32 (all-at (λ r. allBelow (bits r) 32) 17 all-bits row hr) k hk)) ∙ number-is (usage row (tagAt k))
 
 -- ---- the mandatory slots
 
 -- the mandatory slots among the parameters of a row
 slots : List Entry → List ℕ
 slots [] = []
-slots (e ∷ es) = cond (eqb (e .use-as) must) (slot (e .tag) ∷ slots es) (slots es)
+slots (e ∷ es) = cond (isMandatory (e .use-as)) (slot (e .tag) ∷ slots es) (slots es)
 
 -- each slot of a list is met
 each : List ℕ → List Bool → Bool
@@ -39,7 +54,7 @@ each (k ∷ ks) met = getD met k false && each ks met
 each-slots : (es : List Entry) (met : List Bool) → allMet es met ≡ each (slots es) met
 unfolding allMet each slots
 each-slots [] met = refl
-each-slots (e ∷ es) met = go (eqb (e .use-as) must) (each-slots es met)
+each-slots (e ∷ es) met = go (isMandatory (e .use-as)) (each-slots es met)
   where
     go : (b : Bool) → allMet es met ≡ each (slots es) met
         → cond b (getD met (slot (e .tag)) false && allMet es met) (allMet es met) ≡ each (cond b (slot (e .tag) ∷ slots es) (slots es)) met

@@ -9,7 +9,7 @@ use native.Mathlib.Decide.{decLt, ℕ-discrete}
 use lib.Dec.{ltb, leb, eqb}
 use borrow.Author.Tests.{lt-ltb, le-ltb, ltb-true, ltb-false, eq-eqb, ne-eqb, eqb-true, eqb-false, le-leb, lt-leb}
 use Rattle.laws.specs.Below.{both-true}
-use Rattle.parameter.specs.Table.{Entry, Row, table, key, useIn, usage, entriesIn, never}
+use Rattle.parameter.specs.Table.{Entry, Row, table, key, useIn, usage, entriesIn, forbidden}
 use Rattle.parameter.specs.Slot.{slot, tagAt}
 
 -- where a tag lies: among the low ones, among the high ones, at 0x301, or beyond what any message has
@@ -144,7 +144,7 @@ entries-near (r ∷ rs) (suc i) h = entries-near rs i (both-true (all-near (r .e
 pub row-near : (i : ℕ) → all-near (entriesIn table i) ≡ true
 row-near i = entries-near table i table-near
 
-far : (es : List Entry) (t : ℕ) → all-near es ≡ true → near t ≡ false → useIn es t ≡ never
+far : (es : List Entry) (t : ℕ) → all-near es ≡ true → near t ≡ false → useIn es t ≡ forbidden
 unfolding useIn near all-near
 far [] t h n = refl
 far (e ∷ es) t h n =
@@ -154,7 +154,7 @@ far (e ∷ es) t h n =
     rw d (far es t (b .1) n)
 
 -- no message has such a tag
-pub usage-far : (i t : ℕ) → near t ≡ false → usage i t ≡ never
+pub usage-far : (i t : ℕ) → near t ≡ false → usage i t ≡ forbidden
 unfolding usage
 usage-far i t n = far (entriesIn table i) t (row-near i) n
 
@@ -203,11 +203,3 @@ module _ (i t : ℕ) where
       go (twin e) = rw e twin-small
       go (between a b) = absurd (false≢true (sym (near-between t a b) ∙ h))
       go (above a) = absurd (false≢true (sym (near-above t a) ∙ h))
-
-  -- a tag that may stand in some message has a slot of its own
-  pub listed-slot : (usage i t ≡ never → ⊥) → slot t < 31
-  listed-slot h = go (near t) refl
-    where
-      go : (b : Bool) → near t ≡ b → slot t < 31
-      go true e = near-slot e
-      go false e = absurd (h (usage-far i t e))

@@ -5,7 +5,7 @@ use lib.ListN.{getD}
 use mathlib.Core.Bool.{Bool, true, false, cond, _&&_}
 use mathlib.Core.List.{List, [], _∷_}
 use lib.Dec.{ltb, eqb}
-use Rattle.parameter.specs.Table.{must, Entry}
+use Rattle.parameter.specs.Table.{Usage, forbidden, optional, mandatory, repeated, isMandatory, Entry}
 use Rattle.parameter.specs.declared.RowInfo.{RowInfo}
 
 -- a slot for each tag that some message has; 0x300 and 0x301 share one. A tag that no message has is at 31.
@@ -16,7 +16,7 @@ slot t = cond (ltb t 20) t (cond (ltb t 0x300) 31 (cond (ltb 0x308 t) 31 (cond (
 unfoldable pub tagAt : ℕ → ℕ
 tagAt k = cond (ltb k 20) k (k + 748)
 
--- ---- a row of the table, packed: two bits for each slot say how its tag may stand, and three slots, of five bits each, are the mandatory ones
+-- ---- a row of the table, packed: two bits for each slot say how its tag stands, and three slots, of five bits each, are the mandatory ones
 
 abbrev pub info : ℕ → ℕ → RowInfo
 info u m = record { uses = u; musts = m }
@@ -41,14 +41,22 @@ infoOf row =
     (cond (eqb row 15) (info 0x6000000000008 769)
     (info 0x8000000008 609))))))))))))))))
 
--- how the tag of a slot may stand
+-- the two bits of a slot
 abbrev pub useBits : ℕ → ℕ → ℕ
 useBits uses k = uses / 2 ^ (2 * k) % 4
+
+-- the usage that they stand for
+unfoldable pub usageOf : ℕ → Usage
+usageOf n = cond (eqb n 0) forbidden (cond (eqb n 2) mandatory (cond (eqb n 3) repeated optional))
+
+-- how the tag of a slot stands in the messages of a row
+abbrev pub packedUse : ℕ → ℕ → Usage
+packedUse uses k = usageOf (useBits uses k)
 
 -- each mandatory slot of a row is met
 unfoldable pub allMet : List Entry → List Bool → Bool
 allMet [] met = true
-allMet (e ∷ es) met = cond (eqb (e .use-as) must) (getD met (slot (e .tag)) false && allMet es met) (allMet es met)
+allMet (e ∷ es) met = cond (isMandatory (e .use-as)) (getD met (slot (e .tag)) false && allMet es met) (allMet es met)
 
 -- a slot is met; 0 stands for no slot
 abbrev pub asked : List Bool → ℕ → Bool

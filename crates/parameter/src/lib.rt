@@ -1,4 +1,9 @@
 // One parameter of a message: how its tag may stand in a message, and its length and value.
+use wire::FIELD_ERROR;
+use wire::INVALID_VALUE;
+use wire::UNEXPECTED_PARAMETER;
+use wire::UNSUPPORTED_IDENTIFIER;
+use wire::UNSUPPORTED_MODE;
 ghost use mathlib.Core.Path.{_≡_};
 ghost use Prim.Native.Nat.{_+_, _≤_, _<_};
 ghost use lib.ListN.{length};
@@ -6,8 +11,29 @@ ghost use Rattle.laws.specs.Choice.{_orElse_};
 ghost use Rattle.wire.specs.Number.{be};
 ghost use Rattle.parameter.specs.Table.{table, hasClass, rowIn};
 ghost use Rattle.parameter.specs.Value.{bytesOf, numberOf, limitsOf, plainCode, wordCode, valueCode, idCode, rangeCode, bodyCode};
-ghost use Rattle.parameter.specs.Slot.{slot, infoOf, rowBits, useBits, asked, allAsked};
+ghost use Rattle.parameter.specs.Slot.{slot, infoOf, rowBits, useBits, usageOf, packedUse, asked, allAsked};
 ghost use Rattle.parameter.specs.Check.{textCode, allowedCode, parCode};
+
+// Tags that the checks ask for.
+const INTERFACE_ID: u16 = 0x1;
+
+const TEXT_ID: u16 = 0x3;
+
+const ID_RANGE: u16 = 0x8;
+
+const TRAFFIC_MODE: u16 = 0xb;
+
+// How a tag stands in the messages of a row, as two bits; 1 stands for an optional tag.
+const FORBIDDEN: u64 = 0;
+
+const MANDATORY: u64 = 2;
+
+const REPEATED: u64 = 3;
+
+// The index that stands for no row.
+pub const NO_ROW: usize = 17;
+// The slot of every tag that no message has.
+const NO_SLOT: usize = 31;
 
 // How long a value may be, and, of one that is a number, what it may be.
 pub struct Limits {
@@ -43,16 +69,16 @@ fn row_in(rows: u64, base: usize, t: u8) -> usize
     ensures { λ r. ⌜ r ≡ rowBits rows base t ⌝ }
 {
     if 15 < t {
-        return 17;
+        return NO_ROW;
     }
     let place = ((rows >> (4 * t as u64)) % 16) as usize;
     if place == 15 {
-        return 17;
+        return NO_ROW;
     }
     base + place
 }
 
-// The row of a class and type; 17 where there is none.
+// The row of a class and type.
 pub fn row_of(c: u8, t: u8) -> usize
     ensures { λ r. ⌜ r ≡ rowIn table c t ⌝ }
 {
@@ -61,7 +87,7 @@ pub fn row_of(c: u8, t: u8) -> usize
         3 => row_in(0xfffffffff211210f, 2, t),
         4 => row_in(0xfffffffffff1010f, 5, t),
         6 => row_in(0x987654322111110f, 7, t),
-        _ => 17,
+        _ => NO_ROW,
     }
 }
 
@@ -149,10 +175,10 @@ pub fn slot_of(t: u16) -> usize
         return t as usize;
     }
     if t < 0x300 {
-        return 31;
+        return NO_SLOT;
     }
     if t > 0x308 {
-        return 31;
+        return NO_SLOT;
     }
     if t == 0x301 {
         return 20;
@@ -203,7 +229,7 @@ fn limits_of(t: u16) -> Limits
         0x9 => bytes_of(4, 65535),
         0x300 => bytes_of(5, 277),
         0x301 => bytes_of(5, 277),
-        0xb => number_of(1, 3),
+        TRAFFIC_MODE => number_of(1, 3),
         0x302 => number_of(0, 10),
         0x303 => number_of(1, 4),
         0x304 => number_of(0, 3),
@@ -219,7 +245,11 @@ fn limits_of(t: u16) -> Limits
 fn value_code(t: u16) -> u32
     ensures { λ r. ⌜ r ≡ valueCode t ⌝ }
 {
-    if t == 0xb { 5 } else { 17 }
+    if t == TRAFFIC_MODE {
+        UNSUPPORTED_MODE
+    } else {
+        INVALID_VALUE
+    }
 }
 
 // A number in its limits: 0, or the refusal.
@@ -247,16 +277,16 @@ fn plain_code(m: Limits, t: u16, v: &[u8]) -> u32
     ensures { λ r. ⌜ r ≡ plainCode m t (now (v .entry)) ⌝ }
 {
     if v.len() < m.least {
-        return 18;
+        return FIELD_ERROR;
     }
     if m.most < v.len() {
-        return 18;
+        return FIELD_ERROR;
     }
     if !m.word {
         return 0;
     }
     if v.len() < 4 {
-        return 18;
+        return FIELD_ERROR;
     }
     word_at(m, t, v)
 }
@@ -267,17 +297,17 @@ fn plain_of(t: u16, v: &[u8]) -> u32
     plain_code(limits_of(t), t, v)
 }
 
-// Interface identifiers: one in a link message, else one or more.
+// Interface identifiers: one in a link message, else one or more (Rules 2.11 and 2.12).
 fn id_code(u: u64, v: &[u8]) -> u32
-    ensures { λ r. ⌜ r ≡ idCode u (now (v .entry)) ⌝ }
+    ensures { λ r. ⌜ r ≡ idCode (usageOf u) (now (v .entry)) ⌝ }
 {
-    if u == 3 {
+    if u == REPEATED {
         if v.len() < 4 {
-            return 18;
+            return FIELD_ERROR;
         }
-        if v.len() % 4 == 0 { 0 } else { 18 }
+        if v.len() % 4 == 0 { 0 } else { FIELD_ERROR }
     } else {
-        if v.len() == 4 { 0 } else { 18 }
+        if v.len() == 4 { 0 } else { FIELD_ERROR }
     }
 }
 
@@ -286,10 +316,10 @@ fn range_code(v: &[u8]) -> u32
     ensures { λ r. ⌜ r ≡ rangeCode (now (v .entry)) ⌝ }
 {
     if v.len() < 8 {
-        return 18;
+        return FIELD_ERROR;
     }
     if v.len() % 8 != 0 {
-        return 18;
+        return FIELD_ERROR;
     }
     let n = v.len() / 8;
     let mut k: usize = 0;
@@ -297,7 +327,7 @@ fn range_code(v: &[u8]) -> u32
         let start = wire::get32(v, k * 8);
         let stop = wire::get32(v, k * 8 + 4);
         if stop < start {
-            return 17;
+            return INVALID_VALUE;
         }
         k += 1;
     }
@@ -306,61 +336,61 @@ fn range_code(v: &[u8]) -> u32
 
 // The length and value of a tag that may stand as u says.
 fn body_code(u: u64, t: u16, v: &[u8]) -> u32
-    ensures { λ r. ⌜ r ≡ bodyCode u t (now (v .entry)) ⌝ }
+    ensures { λ r. ⌜ r ≡ bodyCode (usageOf u) t (now (v .entry)) ⌝ }
 {
-    if t == 1 {
+    if t == INTERFACE_ID {
         return id_code(u, v);
     }
-    if t == 8 {
+    if t == ID_RANGE {
         return range_code(v);
     }
     plain_of(t, v)
 }
 
-// A text identifier: 8 where an identifier may stand there, else 19. u is how identifiers may stand in the message.
+// A text identifier, refused (Rule 2.13). u is how identifiers stand in the message.
 fn text_code(u: u64, first: bool) -> u32
-    ensures { λ r. ⌜ r ≡ textCode u first ⌝ }
+    ensures { λ r. ⌜ r ≡ textCode (usageOf u) first ⌝ }
 {
-    if u == 3 {
-        return 8;
+    if u == REPEATED {
+        return UNSUPPORTED_IDENTIFIER;
     }
-    if u == 2 {
+    if u == MANDATORY {
         if first {
-            return 8;
+            return UNSUPPORTED_IDENTIFIER;
         }
-        return 19;
+        return UNEXPECTED_PARAMETER;
     }
-    19
+    UNEXPECTED_PARAMETER
 }
 
-// May a parameter stand there? u1 is how identifiers may stand in the message, u how this tag may.
+// May a parameter stand there (Rules 2.12 to 2.14)? u1 is how identifiers stand in the message, u how this tag does.
 fn allowed_code(u1: u64, u: u64, first: bool, again: bool, t: u16) -> u32
-    ensures { λ r. ⌜ r ≡ allowedCode u1 u first again t ⌝ }
+    ensures { λ r. ⌜ r ≡ allowedCode (usageOf u1) (usageOf u) first again t ⌝ }
 {
-    if t == 3 {
+    if t == TEXT_ID {
         return text_code(u1, first);
     }
-    if u == 0 {
-        return 19;
+    if u == FORBIDDEN {
+        return UNEXPECTED_PARAMETER;
     }
-    if u == 3 {
+    if u == REPEATED {
         return 0;
     }
     if again {
-        return 19;
+        return UNEXPECTED_PARAMETER;
     }
-    if t == 1 {
+    if t == INTERFACE_ID {
         if first {
             return 0;
         }
-        return 19;
+        return UNEXPECTED_PARAMETER;
     }
     0
 }
 
 // A parameter that may stand there or not, and then its length and value.
 fn par_code(allowed: u32, u: u64, t: u16, v: &[u8]) -> u32
-    ensures { λ r. ⌜ r ≡ allowed orElse bodyCode u t (now (v .entry)) ⌝ }
+    ensures { λ r. ⌜ r ≡ allowed orElse bodyCode (usageOf u) t (now (v .entry)) ⌝ }
 {
     if allowed == 0 {
         return body_code(u, t, v);
@@ -371,7 +401,7 @@ fn par_code(allowed: u32, u: u64, t: u16, v: &[u8]) -> u32
 // One parameter of a message of a row whose uses are packed: the first or not, its tag seen before or not, its slot, tag and value.
 pub fn par_at(uses: u64, first: bool, again: bool, k: usize, t: u16, v: &[u8]) -> u32
     requires { ⌜ k < 32 ⌝ }
-    ensures { λ r. ⌜ r ≡ parCode (useBits uses 1) (useBits uses k) first again t (now (v .entry)) ⌝ }
+    ensures { λ r. ⌜ r ≡ parCode (packedUse uses 1) (packedUse uses k) first again t (now (v .entry)) ⌝ }
 {
     let u = use_at(uses, k);
     par_code(allowed_code(use_at(uses, 1), u, first, again, t), u, t, v)

@@ -5,6 +5,32 @@ ghost use lib.ListN.{length};
 ghost use Rattle.wire.specs.Number.{be};
 ghost use Rattle.wire.specs.Walk.{stepAt, stepCode, walk, partOf};
 
+// The bytes of a message's header; the first parameter stands behind them.
+pub const HEADER: usize = 8;
+// The most bytes of a message.
+pub const MOST: usize = 2048;
+
+// Why a message is refused: RFC 3331's error codes.
+pub const INVALID_VERSION: u32 = 1;
+
+pub const UNSUPPORTED_CLASS: u32 = 3;
+
+pub const UNSUPPORTED_TYPE: u32 = 4;
+
+pub const UNSUPPORTED_MODE: u32 = 5;
+
+pub const PROTOCOL_ERROR: u32 = 7;
+
+pub const UNSUPPORTED_IDENTIFIER: u32 = 8;
+
+pub const INVALID_VALUE: u32 = 17;
+
+pub const FIELD_ERROR: u32 = 18;
+
+pub const UNEXPECTED_PARAMETER: u32 = 19;
+
+pub const MISSING_PARAMETER: u32 = 22;
+
 // What stands at a position of a message: a parameter with the position after its padding, the end, or a fault.
 pub enum Step {
     Param { tag: u16, len: u16, next: usize },
@@ -56,12 +82,12 @@ pub fn step_at(s: &[u8], at: usize) -> Step
     }
 }
 
-// Document 01's number for a reading: 18 for a fault.
+// The number of a reading: that of a fault, or 0.
 pub fn step_code(w: Step) -> u32
     ensures { λ r. ⌜ r ≡ stepCode w ⌝ }
 {
     match w {
-        Step::Fault => 18,
+        Step::Fault => FIELD_ERROR,
         Step::End => 0,
         Step::Param {
             tag: _,
@@ -116,7 +142,7 @@ pub struct Place<'a> {
 pub fn start<'a>(msg: &'a [u8]) -> Place<'a>
     ensures { λ r. ⌜ (r .msg ≡ msg .entry) × (r .at ≡ 8) ⌝ }
 {
-    Place { msg, at: 8 }
+    Place { msg, at: HEADER }
 }
 
 // What stands at the place.

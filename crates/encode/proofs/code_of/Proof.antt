@@ -5,18 +5,9 @@ use borrow.Author.Needs.{needs}
 use Rattle.encode.proofs.code_of.Statement.{statement}
 use Rattle.encode.proofs.code_of.Tie as tie
 
-class-ok-requires : tie.Need-class-ok-requires
-class-ok-requires c κs = search needs
-
-row-of-requires : tie.Need-row-of-requires
-row-of-requires c κs = search needs
-
 verdict-of-requires : tie.Need-verdict-of-requires
 unfolding table
 verdict-of-requires c κs = let m : c .row-of .result ≤ 17 = rw (c .row-of .ensures) (row-most table _ _) in (m, c .row-of .ensures, c .before .before .before .before .before .pre)
 
-returns : tie.Need-returns
-returns c = cc
-
 pub code-of-spec : {M : Type 1} → statement M
-code-of-spec = tie.close (tie.spec class-ok-requires row-of-requires verdict-of-requires returns)
+code-of-spec = tie.close (tie.spec (λ c κs. search needs) (λ c κs. search needs) verdict-of-requires (λ c. cc))

@@ -42,84 +42,24 @@ pars-next c = left-next (tags c) (lens c) (vals c) (c .before .loop .i) (c .befo
 loop-holds : tie.Need-loop-holds Inv-loop μ-loop
 loop-holds c = (omega arith, omega arith, head-none _ _, (refl, refl))
 
-mul-tag : tie.Need-mul-tag Inv-loop μ-loop
-mul-tag c = search needs
-
-shared-slice-read-tag : tie.Need-shared-slice-read-tag Inv-loop μ-loop
-shared-slice-read-tag c = search needs
-
-mul-stop : tie.Need-mul-stop Inv-loop μ-loop
-mul-stop c = search needs
-
-shared-slice-read-stop : tie.Need-shared-slice-read-stop Inv-loop μ-loop
-shared-slice-read-stop c = search needs
-
 cast-stop : tie.Need-cast-stop Inv-loop μ-loop
 cast-stop c = let e = lens-next (c .before .before) in omega arith
 
 add-stop : tie.Need-add-stop Inv-loop μ-loop
 add-stop c = let e = lens-next (c .before .before) in omega arith
 
-slot-of-requires : tie.Need-slot-of-requires Inv-loop μ-loop
-slot-of-requires c κs = search needs
-
-array-read-again : tie.Need-array-read-again Inv-loop μ-loop
-array-read-again c = search needs
-
-sub-par-at : tie.Need-sub-par-at Inv-loop μ-loop
-sub-par-at c = search needs
-
-part-par-at-start : tie.Need-part-par-at-start Inv-loop μ-loop
-part-par-at-start c = search needs
-
 part-par-at-end : tie.Need-part-par-at-end Inv-loop μ-loop
 part-par-at-end c = let e = lens-next (c .before .before .before) in omega arith
-
-par-at-requires : tie.Need-par-at-requires Inv-loop μ-loop
-par-at-requires c κs = search needs
 
 returns : tie.Need-returns Inv-loop μ-loop
 unfolding rowCode
 returns c = let d = c .before .before .before .before .before .before in turn-refused (d .before .loop .inv .2) (d .before .before .before .before .before .pre .0) (d .before .before .before .before .before .pre .1) _ _ _ _ _ (pars-next d) (c .before .before .before .slot-of .ensures .0) (c .before .before .before .slot-of .ensures .1) (c .before .par-at .ensures) (c .if1 .taken) _
 
-mul-kept : tie.Need-mul-kept Inv-loop μ-loop
-mul-kept c = search needs
-
-array-read-kept : tie.Need-array-read-kept Inv-loop μ-loop
-array-read-kept c = search needs
-
-sub-kept : tie.Need-sub-kept Inv-loop μ-loop
-sub-kept c = search needs
-
-part-kept-start : tie.Need-part-kept-start Inv-loop μ-loop
-part-kept-start c = search needs
-
 part-kept-end : tie.Need-part-kept-end Inv-loop μ-loop
 part-kept-end c = let e = lens-next (c .before .before .before .before .before .before) in omega arith
 
-kept-requires : tie.Need-kept-requires Inv-loop μ-loop
-kept-requires c κs = search needs
-
-mul-words : tie.Need-mul-words Inv-loop μ-loop
-mul-words c = search needs
-
-array-write-words : tie.Need-array-write-words Inv-loop μ-loop
-array-write-words c = search needs
-
-array-write-met : tie.Need-array-write-met Inv-loop μ-loop
-array-write-met c = search needs
-
-add-i : tie.Need-add-i Inv-loop μ-loop
-add-i c = search needs
-
-loop-less : tie.Need-loop-less Inv-loop μ-loop
-loop-less c = search needs
-
 loop-again : tie.Need-loop-again Inv-loop μ-loop
 loop-again c = let d = c .before .before .before .before .before .before .before .before in let e = lens-next d in let i = d .before .loop .inv in (omega arith, omega arith, turn-passes (i .2) (d .before .before .before .before .before .pre .0) (d .before .before .before .before .before .pre .1) _ _ _ _ _ (pars-next d) (c .before .before .before .before .before .slot-of .ensures .0) (c .before .before .before .before .before .slot-of .ensures .1) (c .before .before .before .par-at .ensures) (i .3 .0) (i .3 .1) _ (c .kept .ensures) (c .before .before .if1 .left), (simp length-set (i .3 .0), simp length-set (i .3 .1)))
-
-end-code-requires : tie.Need-end-code-requires Inv-loop μ-loop
-end-code-requires c κs = search needs
 
 returns-2 : tie.Need-returns-2 Inv-loop μ-loop
 unfolding rowCode
@@ -129,33 +69,7 @@ pub list-code-spec : {M : Type 1} → statement M
 list-code-spec =
     tie.close
     (tie.spec
-    Inv-loop
-    μ-loop
-    loop-holds
-    mul-tag
-    shared-slice-read-tag
-    mul-stop
-    shared-slice-read-stop
-    cast-stop
-    add-stop
-    slot-of-requires
-    array-read-again
-    sub-par-at
-    part-par-at-start
-    part-par-at-end
-    par-at-requires
-    returns
-    mul-kept
-    array-read-kept
-    sub-kept
-    part-kept-start
-    part-kept-end
-    kept-requires
-    mul-words
-    array-write-words
-    array-write-met
-    add-i
-    loop-less
-    loop-again
-    end-code-requires
-    returns-2)
+    Inv-loop μ-loop loop-holds (λ c. search needs) (λ c. search needs) (λ c. search needs) (λ c. search needs) cast-stop add-stop
+    (λ c κs. search needs) (λ c. search needs) (λ c. search needs) (λ c. search needs) part-par-at-end (λ c κs. search needs) returns
+    (λ c. search needs) (λ c. search needs) (λ c. search needs) (λ c. search needs) part-kept-end (λ c κs. search needs) (λ c. search needs)
+    (λ c. search needs) (λ c. search needs) (λ c. search needs) (λ c. search needs) loop-again (λ c κs. search needs) returns-2)

@@ -7,18 +7,6 @@ use borrow.Author.Needs.{needs}
 use Rattle.encode.proofs.put_message.Statement.{statement}
 use Rattle.encode.proofs.put_message.Tie as tie
 
-cast-put-header : tie.Need-cast-put-header
-cast-put-header c = search needs
-
-put-header-requires : tie.Need-put-header-requires
-put-header-requires c κs = search needs
-
-put-pars-requires : tie.Need-put-pars-requires
-put-pars-requires c κs = search needs
-
-same-length : tie.Need-same-length
-same-length c = search needs
-
 returns : tie.Need-returns
 returns c = let st = c .before .before .before .before .before .before .before .before .before .before .before .before in
     let a = st .args in
@@ -28,5 +16,4 @@ returns c = let st = c .before .before .before .before .before .before .before .
     ∙ ap (overlay (a .out .now) 0) (encode-sized (a .class) (a .kind) ps (a .size) (size-of-sized (st .pre .sized)))
 
 pub put-message-spec : {M : Type 1} → statement M
-put-message-spec =
-    tie.close (tie.spec cast-put-header put-header-requires put-pars-requires same-length returns)
+put-message-spec = tie.close (tie.spec (λ c. search needs) (λ c κs. search needs) (λ c κs. search needs) (λ c. search needs) returns)

@@ -49,41 +49,17 @@ all-size c = length-list (tags c) (lens c) (vals c) (omega arith) (omega arith)
 loop-holds : tie.Need-loop-holds Inv-loop μ-loop
 loop-holds c = (omega arith, omega arith, puts-none _ _ 8)
 
-mul-stop : tie.Need-mul-stop Inv-loop μ-loop
-mul-stop c = search needs
-
-shared-slice-read-stop : tie.Need-shared-slice-read-stop Inv-loop μ-loop
-shared-slice-read-stop c = search needs
-
 cast-stop : tie.Need-cast-stop Inv-loop μ-loop
 cast-stop c = let e = lens-next (c .before) in omega arith
 
 add-stop : tie.Need-add-stop Inv-loop μ-loop
 add-stop c = let e = lens-next (c .before) in omega arith
 
-mul-put-param : tie.Need-mul-put-param Inv-loop μ-loop
-mul-put-param c = search needs
-
-shared-slice-read-put-param : tie.Need-shared-slice-read-put-param Inv-loop μ-loop
-shared-slice-read-put-param c = search needs
-
-sub-put-param : tie.Need-sub-put-param Inv-loop μ-loop
-sub-put-param c = search needs
-
-part-put-param-start : tie.Need-part-put-param-start Inv-loop μ-loop
-part-put-param-start c = search needs
-
 part-put-param-end : tie.Need-part-put-param-end Inv-loop μ-loop
 part-put-param-end c = let e = lens-next (c .before .before .before) in omega arith
 
 put-param-requires : tie.Need-put-param-requires Inv-loop μ-loop
 put-param-requires c κs = let d = c .before .before .before .before in let h = d .before .loop .inv .2 in let e = puts-room h (the-par d) (the-rest d) (pars-next d) in let l = puts-length h in let a = h .at-is in let g = all-size d in (omega arith, omega arith)
-
-add-i : tie.Need-add-i Inv-loop μ-loop
-add-i c = search needs
-
-loop-less : tie.Need-loop-less Inv-loop μ-loop
-loop-less c = search needs
 
 loop-again : tie.Need-loop-again Inv-loop μ-loop
 loop-again c = let d = c .before .before .before .before .before .before .before in let e = lens-next d in (omega arith, omega arith, puts-more (d .before .loop .inv .2) (the-par d) (the-rest d) (pars-next d) _ _ (c .before .before .put-param .ensures))
@@ -98,21 +74,5 @@ pub put-pars-spec : {M : Type 1} → statement M
 put-pars-spec =
     tie.close
     (tie.spec
-    Inv-loop
-    μ-loop
-    loop-holds
-    mul-stop
-    shared-slice-read-stop
-    cast-stop
-    add-stop
-    mul-put-param
-    shared-slice-read-put-param
-    sub-put-param
-    part-put-param-start
-    part-put-param-end
-    put-param-requires
-    add-i
-    loop-less
-    loop-again
-    same-length
-    returns)
+    Inv-loop μ-loop loop-holds (λ c. search needs) (λ c. search needs) cast-stop add-stop (λ c. search needs) (λ c. search needs) (λ c. search needs)
+    (λ c. search needs) part-put-param-end put-param-requires (λ c. search needs) (λ c. search needs) loop-again same-length returns)

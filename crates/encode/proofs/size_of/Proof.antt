@@ -18,10 +18,6 @@ Inv-loop tags lens values size₀ sum₀ i₀ size sum i = (i ≤ length lens) �
 abbrev μ-loop : tie.MeasureT-loop
 μ-loop tags lens values size₀ sum₀ i₀ size sum i = length lens - i
 
-returns : tie.Need-returns Inv-loop μ-loop
-unfolding sizeIf
-returns c = search choices depth 9
-
 -- the length at the index, and those after it
 next : (c : tie.In-loop Inv-loop μ-loop)
     → sizes (drop (c .before .loop .i) (c .before .before .before .args .lens .now))
@@ -36,38 +32,8 @@ next-total c = total-next (c .before .before .before .args .lens .now) (c .befor
 loop-holds : tie.Need-loop-holds Inv-loop μ-loop
 loop-holds c = (omega arith, refl, zero-add _, omega arith, omega arith)
 
-mul-n : tie.Need-mul-n Inv-loop μ-loop
-mul-n c = search needs
-
-shared-slice-read-n : tie.Need-shared-slice-read-n Inv-loop μ-loop
-shared-slice-read-n c = search needs
-
-cast-n : tie.Need-cast-n Inv-loop μ-loop
-cast-n c = omega (arith, c .shared-slice-known .given (c .before .before .loop .i))
-
-add-size : tie.Need-add-size Inv-loop μ-loop
-add-size c = omega (arith, c .shared-slice-known .given (c .before .before .loop .i))
-
-add-size-2 : tie.Need-add-size-2 Inv-loop μ-loop
-add-size-2 c = omega (arith, c .shared-slice-known .given (c .before .before .loop .i))
-
-mul-size : tie.Need-mul-size Inv-loop μ-loop
-mul-size c = omega (arith, c .shared-slice-known .given (c .before .before .loop .i))
-
-add-size-3 : tie.Need-add-size-3 Inv-loop μ-loop
-add-size-3 c = omega (arith, c .shared-slice-known .given (c .before .before .loop .i))
-
 returns-2 : tie.Need-returns-2 Inv-loop μ-loop
 returns-2 c = let e = next (c .before .before) in size-over _ _ _ (c .before .before .before .before .if1 .left) (omega arith)
-
-add-sum : tie.Need-add-sum Inv-loop μ-loop
-add-sum c = omega arith
-
-add-i : tie.Need-add-i Inv-loop μ-loop
-add-i c = search needs
-
-loop-less : tie.Need-loop-less Inv-loop μ-loop
-loop-less c = search needs
 
 loop-again : tie.Need-loop-again Inv-loop μ-loop
 loop-again c = let e = next (c .before .before) in let f = next-total (c .before .before) in (omega arith, omega arith, omega arith, omega arith, omega arith)
@@ -79,24 +45,14 @@ returns-4 : tie.Need-returns-4 Inv-loop μ-loop
 returns-4 c = let a = c .before .before .before .before .args .lens .now in let i = c .before .before .loop .i in let e = total-none a i (omega arith) in let f = sizes-none a i (omega arith) in size-whole _ _ _ (c .before .before .before .if1 .left) _ (omega arith) (omega arith) (omega arith)
 
 pub size-of-spec : {M : Type 1} → statement M
+unfolding sizeIf
 size-of-spec =
     tie.close
     (tie.spec
-    Inv-loop
-    μ-loop
-    returns
-    loop-holds
-    mul-n
-    shared-slice-read-n
-    cast-n
-    add-size
-    add-size-2
-    mul-size
-    add-size-3
-    returns-2
-    add-sum
-    add-i
-    loop-less
-    loop-again
-    returns-3
-    returns-4)
+    Inv-loop μ-loop (λ c. search choices depth 9) loop-holds (λ c. search needs) (λ c. search needs)
+    (λ c. omega (arith, c .shared-slice-known .given (c .before .before .loop .i)))
+    (λ c. omega (arith, c .shared-slice-known .given (c .before .before .loop .i)))
+    (λ c. omega (arith, c .shared-slice-known .given (c .before .before .loop .i)))
+    (λ c. omega (arith, c .shared-slice-known .given (c .before .before .loop .i)))
+    (λ c. omega (arith, c .shared-slice-known .given (c .before .before .loop .i))) returns-2 (λ c. omega arith) (λ c. search needs)
+    (λ c. search needs) loop-again returns-3 returns-4)

@@ -12,21 +12,6 @@ use Rattle.laws.specs.Choice.{choices}
 use Rattle.encode.proofs.verdict_of.Statement.{statement}
 use Rattle.encode.proofs.verdict_of.Tie as tie
 
-returns : tie.Need-returns
-unfolding listVerdict
-returns c = search choices depth 9
-
-returns-2 : tie.Need-returns-2
-unfolding listVerdict
-returns-2 c = search choices depth 9
-
-returns-3 : tie.Need-returns-3
-unfolding listVerdict
-returns-3 c = search choices depth 9
-
-row-info-requires : tie.Need-row-info-requires
-row-info-requires c κs = search needs
-
 list-code-requires : tie.Need-list-code-requires
 list-code-requires c κs =
     let st = c .before .before .before .before .before .before .before in
@@ -44,4 +29,8 @@ returns-4 c =
     search choices depth 9
 
 pub verdict-of-spec : {M : Type 1} → statement M
-verdict-of-spec = tie.close (tie.spec returns returns-2 returns-3 row-info-requires list-code-requires returns-4)
+unfolding listVerdict
+verdict-of-spec =
+    tie.close
+    (tie.spec
+    (λ c. search choices depth 9) (λ c. search choices depth 9) (λ c. search choices depth 9) (λ c κs. search needs) list-code-requires returns-4)

@@ -28,24 +28,9 @@ next-at : (c : tie.After-slot-of Inv-loop μ-loop)
     (c .before .before .w .given .0 .1 .0) (c .before .before .w .given .0 .1 .1 .0)
 next-at c = step-next _ _ _ _ _ (reads-at c)
 
-loop-holds : tie.Need-loop-holds Inv-loop μ-loop
-loop-holds c = refl
-
-step-at-requires : tie.Need-step-at-requires Inv-loop μ-loop
-step-at-requires c κs = search needs
-
-enum-known-w : tie.Need-enum-known-w Inv-loop μ-loop
-enum-known-w c = search needs
-
-slice-aggregate-result : tie.Need-slice-aggregate-result Inv-loop μ-loop
-slice-aggregate-result c = search needs
-
 returns : tie.Need-returns Inv-loop μ-loop
 unfolding bodyAt
 returns c = ap (bodyAt _) (sym (pars-stop _ _ _ (sym (c .before .before .step-at .ensures)) (c .before .match .keys2))) ∙ c .before .before .before .loop .inv
-
-slot-of-requires : tie.Need-slot-of-requires Inv-loop μ-loop
-slot-of-requires c κs = search needs
 
 add-start : tie.Need-add-start Inv-loop μ-loop
 add-start c = let k = next-at (c .before) in omega arith
@@ -83,20 +68,5 @@ pub find-spec : {M : Type 1} → statement M
 find-spec =
     tie.close
     (tie.spec
-    Inv-loop
-    μ-loop
-    loop-holds
-    step-at-requires
-    enum-known-w
-    slice-aggregate-result
-    returns
-    slot-of-requires
-    add-start
-    cast-stop
-    add-stop
-    sub-result
-    part-result-start
-    part-result-end
-    returns-2
-    loop-less
-    loop-again)
+    Inv-loop μ-loop (λ c. refl) (search needs) (search needs) (search needs) returns (search needs) add-start cast-stop add-stop sub-result
+    part-result-start part-result-end returns-2 loop-less loop-again)

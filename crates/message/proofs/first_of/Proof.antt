@@ -4,11 +4,8 @@ use borrow.Author.Needs.{needs}
 use Rattle.message.proofs.first_of.Statement.{statement}
 use Rattle.message.proofs.first_of.Tie as tie
 
-returns : tie.Need-returns
-returns c = search needs
-
 returns-2 : tie.Need-returns-2
 returns-2 c = sym (or-not _ _ (c .if1 .left))
 
 pub first-of-spec : {M : Type 1} → statement M
-first-of-spec = tie.close (tie.spec returns returns-2)
+first-of-spec = tie.close (tie.spec (λ c. search needs) returns-2)

@@ -7,12 +7,9 @@ use borrow.Author.Needs.{needs}
 use Rattle.message.proofs.protocol_data.Statement.{statement}
 use Rattle.message.proofs.protocol_data.Tie as tie
 
-find-requires : tie.Need-find-requires
-find-requires c κs = search needs
-
 returns : tie.Need-returns
 unfolding dataOf slot
 returns c = c .find .ensures ∙ body-same 0x300 (omega arith) _
 
 pub protocol-data-spec : {M : Type 1} → statement M
-protocol-data-spec = tie.close (tie.spec find-requires returns)
+protocol-data-spec = tie.close (tie.spec (search needs) returns)

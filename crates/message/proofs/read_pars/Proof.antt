@@ -36,36 +36,12 @@ next-at c = step-next _ _ _ _ _ (reads-at c)
 loop-holds : tie.Need-loop-holds Inv-loop μ-loop
 loop-holds c = (record { here = head-none _ _; same-code = refl }, (refl, refl))
 
-step-at-requires : tie.Need-step-at-requires Inv-loop μ-loop
-step-at-requires c κs = search needs
-
-enum-known-w : tie.Need-enum-known-w Inv-loop μ-loop
-enum-known-w c = search needs
-
-step-code-requires : tie.Need-step-code-requires Inv-loop μ-loop
-step-code-requires c κs = search needs
-
-shared-slice-read-finish : tie.Need-shared-slice-read-finish Inv-loop μ-loop
-shared-slice-read-finish c = search needs
-
-shared-slice-read-finish-2 : tie.Need-shared-slice-read-finish-2 Inv-loop μ-loop
-shared-slice-read-finish-2 c = search needs
-
-finish-requires : tie.Need-finish-requires Inv-loop μ-loop
-finish-requires c κs = search needs
-
 returns : tie.Need-returns Inv-loop μ-loop
 returns c = let st = c .before .before .before .before .before .before .before .before .before .before in
     c .finish .ensures
     ∙ ends (c .before .before .before .before .before .before .before .before .loop .inv .0) (st .pre .1 .0) (st .pre .1 .1) _
     (sym (c .before .before .before .before .before .before .before .step-at .ensures)) (c .before .before .before .before .before .before .match .keys2) _
     (c .before .before .before .before .before .step-code .ensures)
-
-slot-of-requires : tie.Need-slot-of-requires Inv-loop μ-loop
-slot-of-requires c κs = search needs
-
-array-read-again : tie.Need-array-read-again Inv-loop μ-loop
-array-read-again c = search needs
 
 add-start : tie.Need-add-start Inv-loop μ-loop
 add-start c = let k = next-at c in omega arith
@@ -85,24 +61,12 @@ part-par-at-start c = let k = next-at c in omega arith
 part-par-at-end : tie.Need-part-par-at-end Inv-loop μ-loop
 part-par-at-end c = let k = next-at c in omega arith
 
-par-at-requires : tie.Need-par-at-requires Inv-loop μ-loop
-par-at-requires c κs = search needs
-
-refused-at-requires : tie.Need-refused-at-requires Inv-loop μ-loop
-refused-at-requires c κs = search needs
-
 returns-2 : tie.Need-returns-2 Inv-loop μ-loop
 returns-2 c = let g = c .before .before .before .before in
     c .refused-at .ensures
     ∙ refused (g .before .before .before .before .before .loop .inv .0) (g .before .before .before .before .before .before .before .pre .1 .0)
     (g .before .before .before .before .before .before .before .pre .1 .1) _ _ _ _ _ (reads-at g) (g .slot-of .ensures .0)
     (g .slot-of .ensures .1) (c .before .before .par-at .ensures) (c .before .if1 .taken)
-
-mul-kept : tie.Need-mul-kept Inv-loop μ-loop
-mul-kept c = search needs
-
-array-read-kept : tie.Need-array-read-kept Inv-loop μ-loop
-array-read-kept c = search needs
 
 sub-kept : tie.Need-sub-kept Inv-loop μ-loop
 sub-kept c = let k = next-at (c .before .before .before) in omega arith
@@ -112,18 +76,6 @@ part-kept-start c = let k = next-at (c .before .before .before) in omega arith
 
 part-kept-end : tie.Need-part-kept-end Inv-loop μ-loop
 part-kept-end c = let k = next-at (c .before .before .before) in omega arith
-
-kept-requires : tie.Need-kept-requires Inv-loop μ-loop
-kept-requires c κs = search needs
-
-mul-words : tie.Need-mul-words Inv-loop μ-loop
-mul-words c = search needs
-
-array-write-words : tie.Need-array-write-words Inv-loop μ-loop
-array-write-words c = search needs
-
-array-write-met : tie.Need-array-write-met Inv-loop μ-loop
-array-write-met c = search needs
 
 loop-less : tie.Need-loop-less Inv-loop μ-loop
 loop-less c = let k = next-at (c .before .before .before .before .before) in omega arith
@@ -141,35 +93,7 @@ pub read-pars-spec : {M : Type 1} → statement M
 read-pars-spec =
     tie.close
     (tie.spec
-    Inv-loop
-    μ-loop
-    loop-holds
-    step-at-requires
-    enum-known-w
-    step-code-requires
-    shared-slice-read-finish
-    shared-slice-read-finish-2
-    finish-requires
-    returns
-    slot-of-requires
-    array-read-again
-    add-start
-    cast-stop
-    add-stop
-    sub-par-at
-    part-par-at-start
-    part-par-at-end
-    par-at-requires
-    refused-at-requires
-    returns-2
-    mul-kept
-    array-read-kept
-    sub-kept
-    part-kept-start
-    part-kept-end
-    kept-requires
-    mul-words
-    array-write-words
-    array-write-met
-    loop-less
-    loop-again)
+    Inv-loop μ-loop loop-holds (search needs) (search needs) (search needs) (search needs) (search needs) (search needs) returns
+    (search needs) (search needs) add-start cast-stop add-stop sub-par-at part-par-at-start part-par-at-end (search needs) (search needs)
+    returns-2 (search needs) (search needs) sub-kept part-kept-start part-kept-end (search needs) (search needs) (search needs)
+    (search needs) loop-less loop-again)

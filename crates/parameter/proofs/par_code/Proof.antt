@@ -4,9 +4,6 @@ use borrow.Author.Needs.{needs}
 use Rattle.parameter.proofs.par_code.Statement.{statement}
 use Rattle.parameter.proofs.par_code.Tie as tie
 
-body-code-requires : tie.Need-body-code-requires
-body-code-requires c κs = search needs
-
 returns : tie.Need-returns
 returns c = or-none _ _ _ (c .before .if1 .taken) (c .body-code .ensures)
 
@@ -14,4 +11,4 @@ returns-2 : tie.Need-returns-2
 returns-2 c = sym (or-not _ _ (c .if1 .left))
 
 pub par-code-spec : {M : Type 1} → statement M
-par-code-spec = tie.close (tie.spec body-code-requires returns returns-2)
+par-code-spec = tie.close (tie.spec (search needs) returns returns-2)

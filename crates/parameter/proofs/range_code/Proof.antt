@@ -24,42 +24,13 @@ Inv-loop v n k₀ k = (k ≤ n) × (allBelow (ordered v) k ≡ true)
 abbrev μ-loop : tie.MeasureT-loop
 μ-loop v n k₀ k = n - k
 
-returns : tie.Need-returns Inv-loop μ-loop
-unfolding rangeCode
-returns c = search choices
-
-returns-2 : tie.Need-returns-2 Inv-loop μ-loop
-unfolding rangeCode
-returns-2 c = search choices
-
 loop-holds : tie.Need-loop-holds Inv-loop μ-loop
 unfolding allBelow
 loop-holds c = (omega arith, refl)
 
-mul-get32 : tie.Need-mul-get32 Inv-loop μ-loop
-mul-get32 c = omega arith
-
-get32-requires : tie.Need-get32-requires Inv-loop μ-loop
-get32-requires c κs = omega arith
-
-mul-get32-2 : tie.Need-mul-get32-2 Inv-loop μ-loop
-mul-get32-2 c = omega arith
-
-add-get32 : tie.Need-add-get32 Inv-loop μ-loop
-add-get32 c = omega arith
-
-get32-requires-2 : tie.Need-get32-requires-2 Inv-loop μ-loop
-get32-requires-2 c κs = omega arith
-
 returns-3 : tie.Need-returns-3 Inv-loop μ-loop
 unfolding rangeCode
 returns-3 c = let v = c .before .before .before .before .before .before .before .before .args .v .now in let k = c .before .before .before .before .loop .k in let e = all-not (ordered v) (length v / 8) k (omega arith) (lt-leb (be 4 v (k * 8)) (be 4 v (k * 8 + 4)) (omega arith)) in search choices
-
-add-k : tie.Need-add-k Inv-loop μ-loop
-add-k c = omega arith
-
-loop-less : tie.Need-loop-less Inv-loop μ-loop
-loop-less c = omega arith
 
 loop-again : tie.Need-loop-again Inv-loop μ-loop
 loop-again c = let v = c .before .before .before .before .before .before .before .before .args .v .now in let k = c .before .before .before .before .loop .k in (omega arith, all-next (ordered v) k (c .before .before .before .before .loop .inv .1) (le-leb (be 4 v (k * 8)) (be 4 v (k * 8 + 4)) (omega arith)))
@@ -69,21 +40,9 @@ unfolding rangeCode
 returns-4 c = let v = c .before .before .before .before .before .args .v .now in let n : c .before .loop .k ≡ length v / 8 = omega arith in let e : allBelow (ordered v) (length v / 8) ≡ true = rw n at (c .before .loop .inv .1) in search choices
 
 pub range-code-spec : {M : Type 1} → statement M
+unfolding rangeCode
 range-code-spec =
     tie.close
     (tie.spec
-    Inv-loop
-    μ-loop
-    returns
-    returns-2
-    loop-holds
-    mul-get32
-    get32-requires
-    mul-get32-2
-    add-get32
-    get32-requires-2
-    returns-3
-    add-k
-    loop-less
-    loop-again
-    returns-4)
+    Inv-loop μ-loop (λ c. search choices) (λ c. search choices) loop-holds (λ c. omega arith) (λ c κs. omega arith) (λ c. omega arith)
+    (λ c. omega arith) (λ c κs. omega arith) returns-3 (λ c. omega arith) (λ c. omega arith) loop-again returns-4)

@@ -21,12 +21,9 @@ returns-4 : tie.Need-returns-4
 unfolding slot
 returns-4 c = let t = c .before .before .before .before .args .t in (simp (le-ltb t 20 (omega arith), le-ltb t 0x300 (omega arith), le-ltb 0x308 t (omega arith), eq-eqb t 0x301 (omega arith)), omega arith)
 
-sub-result : tie.Need-sub-result
-sub-result c = search needs
-
 returns-5 : tie.Need-returns-5
 unfolding slot
 returns-5 c = let t = c .before .before .before .before .args .t in (simp (le-ltb t 20 (omega arith), le-ltb t 0x300 (omega arith), le-ltb 0x308 t (omega arith), ne-eqb t 0x301 (omega arith)), omega arith)
 
 pub slot-of-spec : {M : Type 1} → statement M
-slot-of-spec = tie.close (tie.spec returns returns-2 returns-3 returns-4 sub-result returns-5)
+slot-of-spec = tie.close (tie.spec returns returns-2 returns-3 returns-4 (search needs) returns-5)

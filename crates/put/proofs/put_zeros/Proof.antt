@@ -12,37 +12,19 @@ returns : tie.Need-returns
 unfolding overlay
 returns c = rw (c .if1 .taken)
 
-slice-write-out : tie.Need-slice-write-out
-slice-write-out c = search needs
-
-same-length : tie.Need-same-length
-same-length c = search needs
-
 returns-2 : tie.Need-returns-2
 unfolding overlay
 returns-2 c = rw (c .if2 .taken)
 
-add-out : tie.Need-add-out
-add-out c = search needs
-
 slice-write-out-2 : tie.Need-slice-write-out-2
 slice-write-out-2 c = simp length-set (omega arith)
-
-same-length-2 : tie.Need-same-length-2
-same-length-2 c = search needs
 
 returns-3 : tie.Need-returns-3
 unfolding overlay
 returns-3 c = rw (c .if3 .taken) (rw add-one)
 
-add-out-2 : tie.Need-add-out-2
-add-out-2 c = search needs
-
 slice-write-out-3 : tie.Need-slice-write-out-3
 slice-write-out-3 c = simp length-set (omega arith)
-
-same-length-3 : tie.Need-same-length-3
-same-length-3 c = search needs
 
 returns-4 : tie.Need-returns-4
 unfolding overlay
@@ -54,15 +36,5 @@ pub put-zeros-spec : {M : Type 1} → statement M
 put-zeros-spec =
     tie.close
     (tie.spec
-    returns
-    slice-write-out
-    same-length
-    returns-2
-    add-out
-    slice-write-out-2
-    same-length-2
-    returns-3
-    add-out-2
-    slice-write-out-3
-    same-length-3
-    returns-4)
+    returns (λ c. search needs) (λ c. search needs) returns-2 (λ c. search needs) slice-write-out-2 (λ c. search needs) returns-3 (λ c. search needs)
+    slice-write-out-3 (λ c. search needs) returns-4)

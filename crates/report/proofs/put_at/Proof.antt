@@ -2,9 +2,6 @@ use borrow.Author.Needs.{needs}
 use Rattle.report.proofs.put_at.Statement.{statement}
 use Rattle.report.proofs.put_at.Tie as tie
 
-part-at-requires : tie.Need-part-at-requires
-part-at-requires c κs = search needs
-
 put-par-requires : tie.Need-put-par-requires
 put-par-requires c κs = rw (c .before .part-at .ensures) (c .before .before .before .pre)
 
@@ -12,4 +9,4 @@ returns : tie.Need-returns
 returns c = rw (c .before .before .part-at .ensures) at (c .put-par .ensures)
 
 pub put-at-spec : {M : Type 1} → statement M
-put-at-spec = tie.close (tie.spec part-at-requires put-par-requires returns)
+put-at-spec = tie.close (tie.spec (λ c κs. search needs) put-par-requires returns)

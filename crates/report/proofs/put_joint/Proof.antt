@@ -4,27 +4,6 @@ use borrow.Author.Needs.{needs}
 use Rattle.report.proofs.put_joint.Statement.{statement}
 use Rattle.report.proofs.put_joint.Tie as tie
 
-enum-told : tie.Need-enum-told
-enum-told c = search needs
-
-put-byte-requires : tie.Need-put-byte-requires
-put-byte-requires c κs = search needs
-
-enum-told-2 : tie.Need-enum-told-2
-enum-told-2 c = search needs
-
-slice-aggregate-put-bytes : tie.Need-slice-aggregate-put-bytes
-slice-aggregate-put-bytes c = search needs
-
-put-bytes-requires : tie.Need-put-bytes-requires
-put-bytes-requires c κs = search needs
-
-enum-told-3 : tie.Need-enum-told-3
-enum-told-3 c = search needs
-
-put-byte-requires-2 : tie.Need-put-byte-requires-2
-put-byte-requires-2 c κs = search needs
-
 returns : tie.Need-returns
 returns c =
     let p = c .put-byte .ensures .place in
@@ -44,13 +23,5 @@ pub put-joint-spec : {M : Type 1} → statement M
 put-joint-spec =
     tie.close
     (tie.spec
-    enum-told
-    put-byte-requires
-    enum-told-2
-    slice-aggregate-put-bytes
-    put-bytes-requires
-    enum-told-3
-    put-byte-requires-2
-    returns
-    returns-2
-    returns-3)
+    (λ c. search needs) (λ c κs. search needs) (λ c. search needs) (λ c. search needs) (λ c κs. search needs) (λ c. search needs)
+    (λ c κs. search needs) returns returns-2 returns-3)

@@ -4,15 +4,9 @@ use borrow.Author.Needs.{needs}
 use Rattle.report.proofs.put_par.Statement.{statement}
 use Rattle.report.proofs.put_par.Tie as tie
 
-put-joint-requires : tie.Need-put-joint-requires
-put-joint-requires c κs = search needs
-
-put-tagged-requires : tie.Need-put-tagged-requires
-put-tagged-requires c κs = search needs
-
 returns : tie.Need-returns
 unfolding parText
 returns c = put-then (c .before .before .put-joint .ensures .0) (c .put-tagged .ensures)
 
 pub put-par-spec : {M : Type 1} → statement M
-put-par-spec = tie.close (tie.spec put-joint-requires put-tagged-requires returns)
+put-par-spec = tie.close (tie.spec (λ c κs. search needs) (λ c κs. search needs) returns)

@@ -17,12 +17,6 @@ abbrev μ-loop : tie.MeasureT-loop
 loop-holds : tie.Need-loop-holds Inv-loop μ-loop
 loop-holds c = record { bytes = refl; place = refl }
 
-step-at-requires : tie.Need-step-at-requires Inv-loop μ-loop
-step-at-requires c κs = search needs
-
-enum-known-w : tie.Need-enum-known-w Inv-loop μ-loop
-enum-known-w c = search needs
-
 returns : tie.Need-returns Inv-loop μ-loop
 returns c = (rest-stop (c .before .before .loop .inv) _ (sym (c .before .step-at .ensures)) (c .match .keys2), rest-used (c .before .before .loop .inv))
 
@@ -43,12 +37,4 @@ pub put-pars-spec : {M : Type 1} → statement M
 put-pars-spec =
     tie.close
     (tie.spec
-    Inv-loop
-    μ-loop
-    loop-holds
-    step-at-requires
-    enum-known-w
-    returns
-    put-at-requires
-    loop-less
-    loop-again)
+    Inv-loop μ-loop loop-holds (λ c κs. search needs) (λ c. search needs) returns put-at-requires loop-less loop-again)

@@ -6,12 +6,6 @@ use borrow.Author.Needs.{needs}
 use Rattle.report.proofs.put_read.Statement.{statement}
 use Rattle.report.proofs.put_read.Tie as tie
 
-read-requires : tie.Need-read-requires
-read-requires c κs = search needs
-
-put-number-requires : tie.Need-put-number-requires
-put-number-requires c κs = search needs
-
 put-pars-requires : tie.Need-put-pars-requires
 put-pars-requires c κs =
     let e = c .before .before .before .before .before .read .ensures in
@@ -29,5 +23,4 @@ returns-2 : tie.Need-returns-2
 returns-2 c = (read-none _ _ (c .before .before .before .before .read .ensures) (c .if1 .left) (c .before .before .put-number .ensures .0), omega arith)
 
 pub put-read-spec : {M : Type 1} → statement M
-put-read-spec =
-    tie.close (tie.spec read-requires put-number-requires put-pars-requires returns returns-2)
+put-read-spec = tie.close (tie.spec (λ c κs. search needs) (λ c κs. search needs) put-pars-requires returns returns-2)

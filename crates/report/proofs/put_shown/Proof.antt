@@ -6,9 +6,6 @@ use borrow.Author.Needs.{needs}
 use Rattle.report.proofs.put_shown.Statement.{statement}
 use Rattle.report.proofs.put_shown.Tie as tie
 
-read-requires : tie.Need-read-requires
-read-requires c κs = search needs
-
 put-accepted-requires : tie.Need-put-accepted-requires
 put-accepted-requires c κs =
     let e = c .before .before .before .read .ensures in
@@ -18,12 +15,8 @@ put-accepted-requires c κs =
 returns : tie.Need-returns
 returns c = (shown-some _ _ (c .before .before .before .before .read .ensures) _ (c .before .before .if1 .taken) (c .put-accepted .ensures .0), omega arith)
 
-put-verdict-requires : tie.Need-put-verdict-requires
-put-verdict-requires c κs = search needs
-
 returns-2 : tie.Need-returns-2
 returns-2 c = (shown-none _ _ (c .before .before .before .before .read .ensures) _ (c .before .before .if1 .left) (c .put-verdict .ensures .0), omega arith)
 
 pub put-shown-spec : {M : Type 1} → statement M
-put-shown-spec =
-    tie.close (tie.spec read-requires put-accepted-requires returns put-verdict-requires returns-2)
+put-shown-spec = tie.close (tie.spec (λ c κs. search needs) put-accepted-requires returns (λ c κs. search needs) returns-2)

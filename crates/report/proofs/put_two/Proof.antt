@@ -5,15 +5,6 @@ use borrow.Author.Needs.{needs}
 use Rattle.report.proofs.put_two.Statement.{statement}
 use Rattle.report.proofs.put_two.Tie as tie
 
-put-number-requires : tie.Need-put-number-requires
-put-number-requires c κs = search needs
-
-put-byte-requires : tie.Need-put-byte-requires
-put-byte-requires c κs = search needs
-
-put-number-requires-2 : tie.Need-put-number-requires-2
-put-number-requires-2 c κs = search needs
-
 returns : tie.Need-returns
 unfolding two
 returns c =
@@ -21,5 +12,4 @@ returns c =
     (put-then (c .before .before .before .before .put-number .ensures .0) (put-then (c .before .before .put-byte .ensures) (c .put-number2 .ensures .0)), omega arith)
 
 pub put-two-spec : {M : Type 1} → statement M
-put-two-spec =
-    tie.close (tie.spec put-number-requires put-byte-requires put-number-requires-2 returns)
+put-two-spec = tie.close (tie.spec (λ c κs. search needs) (λ c κs. search needs) (λ c κs. search needs) returns)

@@ -6,14 +6,8 @@ use Rattle.report.proofs.put_value.Tie as tie
 returns : tie.Need-returns
 returns c = value-none _ _ _ (c .if1 .taken)
 
-put-byte-requires : tie.Need-put-byte-requires
-put-byte-requires c κs = search needs
-
-put-hex-requires : tie.Need-put-hex-requires
-put-hex-requires c κs = search needs
-
 returns-2 : tie.Need-returns-2
 returns-2 c = value-some _ (c .before .before .before .before .if1 .left) (c .before .before .put-byte .ensures) (c .put-hex .ensures .0)
 
 pub put-value-spec : {M : Type 1} → statement M
-put-value-spec = tie.close (tie.spec returns put-byte-requires put-hex-requires returns-2)
+put-value-spec = tie.close (tie.spec returns (λ c κs. search needs) (λ c κs. search needs) returns-2)

@@ -4,24 +4,6 @@ use borrow.Author.Needs.{needs}
 use Rattle.script.proofs.answer.Statement.{statement}
 use Rattle.script.proofs.answer.Tie as tie
 
-enum-told : tie.Need-enum-told
-enum-told c = search needs
-
-read-requires : tie.Need-read-requires
-read-requires c κs = search needs
-
-enum-told-2 : tie.Need-enum-told-2
-enum-told-2 c = search needs
-
-show-requires : tie.Need-show-requires
-show-requires c κs = search needs
-
-enum-told-3 : tie.Need-enum-told-3
-enum-told-3 c = search needs
-
-bad-requires : tie.Need-bad-requires
-bad-requires c κs = search needs
-
 returns : tie.Need-returns
 returns c = (rw (c .before .before .before .enum-told .given .1) (c .read .ensures .0), c .read .ensures .1)
 
@@ -35,12 +17,5 @@ pub answer-spec : {M : Type 1} → statement M
 answer-spec =
     tie.close
     (tie.spec
-    enum-told
-    read-requires
-    enum-told-2
-    show-requires
-    enum-told-3
-    bad-requires
-    returns
-    returns-2
+    (λ c. search needs) (λ c κs. search needs) (λ c. search needs) (λ c κs. search needs) (λ c. search needs) (λ c κs. search needs) returns returns-2
     returns-3)

@@ -6,32 +6,11 @@ use Rattle.script.proofs.run.Tie as tie
 returns : tie.Need-returns
 returns c = run-blank _ (c .if1 .taken)
 
-shared-slice-read-if2 : tie.Need-shared-slice-read-if2
-shared-slice-read-if2 c = search needs
-
 returns-2 : tie.Need-returns-2
 returns-2 c = run-comment _ (c .before .before .if1 .left) (c .if2 .taken)
-
-answer-line-requires : tie.Need-answer-line-requires
-answer-line-requires c κs = search needs
-
-put-byte-requires : tie.Need-put-byte-requires
-put-byte-requires c κs = search needs
-
-at-requires : tie.Need-at-requires
-at-requires c κs = search needs
 
 returns-3 : tie.Need-returns-3
 returns-3 c = run-line _ (c .before .before .before .before .before .before .before .before .if1 .left) (c .before .before .before .before .before .before .if2 .left) (c .before .before .before .answer-line .ensures .0) (c .before .before .before .answer-line .ensures .1) (c .before .put-byte .ensures) (c .at .ensures)
 
 pub run-spec : {M : Type 1} → statement M
-run-spec =
-    tie.close
-    (tie.spec
-    returns
-    shared-slice-read-if2
-    returns-2
-    answer-line-requires
-    put-byte-requires
-    at-requires
-    returns-3)
+run-spec = tie.close (tie.spec returns (λ c. search needs) returns-2 (λ c κs. search needs) (λ c κs. search needs) (λ c κs. search needs) returns-3)

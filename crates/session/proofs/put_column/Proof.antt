@@ -5,15 +5,6 @@ use borrow.Author.Needs.{needs}
 use Rattle.session.proofs.put_column.Statement.{statement}
 use Rattle.session.proofs.put_column.Tie as tie
 
-put-bytes-requires : tie.Need-put-bytes-requires
-put-bytes-requires c κs = search needs
-
-wide-requires : tie.Need-wide-requires
-wide-requires c κs = search needs
-
-first-requires : tie.Need-first-requires
-first-requires c κs = search needs
-
 put-marks-requires : tie.Need-put-marks-requires
 put-marks-requires c κs = omega (arith, take-short _ (c .before .before .before .before .before .before .before .args .marks .now) (c .before .wide .result) (c .first .ensures))
 
@@ -21,5 +12,4 @@ returns : tie.Need-returns
 returns c = omega (arith, take-short _ (c .before .before .before .before .before .before .before .before .args .marks .now) (c .before .before .wide .result) (c .before .first .ensures))
 
 pub put-column-spec : {M : Type 1} → statement M
-put-column-spec =
-    tie.close (tie.spec put-bytes-requires wide-requires first-requires put-marks-requires returns)
+put-column-spec = tie.close (tie.spec (λ c κs. search needs) (λ c κs. search needs) (λ c κs. search needs) put-marks-requires returns)

@@ -4,9 +4,6 @@ use borrow.Author.Needs.{needs}
 use Rattle.text.proofs.bytes_of.Statement.{statement}
 use Rattle.text.proofs.bytes_of.Tie as tie
 
-is-dash-requires : tie.Need-is-dash-requires
-is-dash-requires c κs = search needs
-
 returns : tie.Need-returns
 returns c = bytes-dash _ _ (sym (c .before .is-dash .ensures) ∙ c .if1 .taken)
 
@@ -16,12 +13,8 @@ returns-2 c = bytes-none _ _ _ (sym (c .before .before .is-dash .ensures) ∙ c 
 returns-3 : tie.Need-returns-3
 returns-3 c = bytes-some _ _ _ (sym (c .before .before .before .is-dash .ensures) ∙ c .before .before .if1 .left) (c .before .if2 .left) _ (octets-stop _ _ _ (odd-stop _ (c .if3 .taken)))
 
-octets-of-requires : tie.Need-octets-of-requires
-octets-of-requires c κs = search needs
-
 returns-4 : tie.Need-returns-4
 returns-4 c = bytes-some _ _ _ (sym (c .before .before .before .before .before .is-dash .ensures) ∙ c .before .before .before .before .if1 .left) (c .before .before .before .if2 .left) _ (c .octets-of .ensures)
 
 pub bytes-of-spec : {M : Type 1} → statement M
-bytes-of-spec =
-    tie.close (tie.spec is-dash-requires returns returns-2 returns-3 octets-of-requires returns-4)
+bytes-of-spec = tie.close (tie.spec (λ c κs. search needs) returns returns-2 returns-3 (λ c κs. search needs) returns-4)

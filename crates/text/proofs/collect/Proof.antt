@@ -7,12 +7,6 @@ use borrow.Author.Needs.{needs}
 use Rattle.text.proofs.collect.Statement.{statement}
 use Rattle.text.proofs.collect.Tie as tie
 
-sub-room : tie.Need-sub-room
-sub-room c = search needs
-
-put-bytes-requires : tie.Need-put-bytes-requires
-put-bytes-requires c κs = search needs
-
 returns : tie.Need-returns
 returns c =
     let p = c .before .before .before .before .args .part .now in
@@ -44,12 +38,4 @@ returns-2 c =
     (c .put-bytes2 .ensures, omega (arith, length-take-le (65536 - m) p h))
 
 pub collect-spec : {M : Type 1} → statement M
-collect-spec =
-    tie.close
-    (tie.spec
-    sub-room
-    put-bytes-requires
-    returns
-    slice-aggregate-put-bytes
-    put-bytes-requires-2
-    returns-2)
+collect-spec = tie.close (tie.spec (λ c. search needs) (λ c κs. search needs) returns slice-aggregate-put-bytes put-bytes-requires-2 returns-2)

@@ -4,26 +4,11 @@ use borrow.Author.Needs.{needs}
 use Rattle.text.proofs.octet.Statement.{statement}
 use Rattle.text.proofs.octet.Tie as tie
 
-nibble-requires : tie.Need-nibble-requires
-nibble-requires c κs = search needs
-
 returns : tie.Need-returns
 returns c = (octet-first _ _ _ (c .before .nibble .ensures .0) (omega arith), omega arith)
 
-nibble-requires-2 : tie.Need-nibble-requires-2
-nibble-requires-2 c κs = search needs
-
 returns-2 : tie.Need-returns-2
 returns-2 c = (octet-last _ _ _ _ (c .before .before .before .nibble .ensures .0) (omega arith) (c .before .nibble2 .ensures .0) (omega arith), omega arith)
-
-mul-result : tie.Need-mul-result
-mul-result c = search needs
-
-add-result : tie.Need-add-result
-add-result c = search needs
-
-cast-result : tie.Need-cast-result
-cast-result c = search needs
 
 returns-3 : tie.Need-returns-3
 returns-3 c = (octet-both _ _ _ _ (c .before .before .before .nibble .ensures .0) (omega arith) (c .before .nibble2 .ensures .0) (omega arith), omega arith)
@@ -32,11 +17,4 @@ pub octet-spec : {M : Type 1} → statement M
 octet-spec =
     tie.close
     (tie.spec
-    nibble-requires
-    returns
-    nibble-requires-2
-    returns-2
-    mul-result
-    add-result
-    cast-result
-    returns-3)
+    (λ c κs. search needs) returns (λ c κs. search needs) returns-2 (λ c. search needs) (λ c. search needs) (λ c. search needs) returns-3)

@@ -18,42 +18,12 @@ abbrev μ-loop : tie.MeasureT-loop
 loop-holds : tie.Need-loop-holds Inv-loop μ-loop
 loop-holds c = (omega arith, refl, refl)
 
-mul-octet : tie.Need-mul-octet Inv-loop μ-loop
-mul-octet c = search needs
-
-shared-slice-read-octet : tie.Need-shared-slice-read-octet Inv-loop μ-loop
-shared-slice-read-octet c = search needs
-
-mul-octet-2 : tie.Need-mul-octet-2 Inv-loop μ-loop
-mul-octet-2 c = search needs
-
-add-octet : tie.Need-add-octet Inv-loop μ-loop
-add-octet c = search needs
-
-shared-slice-read-octet-2 : tie.Need-shared-slice-read-octet-2 Inv-loop μ-loop
-shared-slice-read-octet-2 c = search needs
-
-octet-requires : tie.Need-octet-requires Inv-loop μ-loop
-octet-requires c κs = search needs
-
 returns : tie.Need-returns Inv-loop μ-loop
 returns c =
     let a = c .before .before .before .before .before .before .before .args .w .now in
     let l = c .before .before .before .before .before .loop in
     let b : 2 * l .i + 1 < length a = omega arith in
     octets-stop _ _ _ (sym (l .inv .2) ∙ hex-stop a (l .i) b (rw (c .before .octet .ensures .0) at (c .if1 .taken)))
-
-cast-bytes : tie.Need-cast-bytes Inv-loop μ-loop
-cast-bytes c = search needs
-
-element-write-bytes : tie.Need-element-write-bytes Inv-loop μ-loop
-element-write-bytes c = search needs
-
-add-i : tie.Need-add-i Inv-loop μ-loop
-add-i c = search needs
-
-loop-less : tie.Need-loop-less Inv-loop μ-loop
-loop-less c = search needs
 
 loop-again : tie.Need-loop-again Inv-loop μ-loop
 loop-again c =
@@ -70,19 +40,5 @@ pub octets-of-spec : {M : Type 1} → statement M
 octets-of-spec =
     tie.close
     (tie.spec
-    Inv-loop
-    μ-loop
-    loop-holds
-    mul-octet
-    shared-slice-read-octet
-    mul-octet-2
-    add-octet
-    shared-slice-read-octet-2
-    octet-requires
-    returns
-    cast-bytes
-    element-write-bytes
-    add-i
-    loop-less
-    loop-again
-    returns-2)
+    Inv-loop μ-loop loop-holds (λ c. search needs) (λ c. search needs) (λ c. search needs) (λ c. search needs) (λ c. search needs)
+    (λ c κs. search needs) returns (λ c. search needs) (λ c. search needs) (λ c. search needs) (λ c. search needs) loop-again returns-2)

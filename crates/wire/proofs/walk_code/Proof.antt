@@ -15,18 +15,6 @@ Inv-loop s from at₀ at = walk s at .code ≡ walk s from .code
 abbrev μ-loop : tie.MeasureT-loop
 μ-loop s from at₀ at = length s - at
 
-loop-holds : tie.Need-loop-holds Inv-loop μ-loop
-loop-holds c = refl
-
-step-at-requires : tie.Need-step-at-requires Inv-loop μ-loop
-step-at-requires c κs = search needs
-
-enum-known-w : tie.Need-enum-known-w Inv-loop μ-loop
-enum-known-w c = search needs
-
-step-code-requires : tie.Need-step-code-requires Inv-loop μ-loop
-step-code-requires c κs = search needs
-
 returns : tie.Need-returns Inv-loop μ-loop
 returns c = c .step-code .ensures ∙ ap (λ (w : Walk). w .code) (sym (walk-stop _ _ _ (sym (c .before .before .step-at .ensures)) (c .before .match .keys2))) ∙ c .before .before .before .loop .inv
 
@@ -37,15 +25,4 @@ loop-again : tie.Need-loop-again Inv-loop μ-loop
 loop-again c = ap (λ (w : Walk). w .code) (sym (walk-step _ _ _ (sym (c .before .before .before .step-at .ensures) ∙ c .before .w .given .1))) ∙ c .before .before .before .before .loop .inv
 
 pub walk-code-spec : {M : Type 1} → statement M
-walk-code-spec =
-    tie.close
-    (tie.spec
-    Inv-loop
-    μ-loop
-    loop-holds
-    step-at-requires
-    enum-known-w
-    step-code-requires
-    returns
-    loop-less
-    loop-again)
+walk-code-spec = tie.close (tie.spec Inv-loop μ-loop (λ c. refl) (search needs) (search needs) (search needs) returns loop-less loop-again)

@@ -5,21 +5,6 @@ use borrow.Author.Needs.{needs}
 use Rattle.writing.proofs.put_written.Statement.{statement}
 use Rattle.writing.proofs.put_written.Tie as tie
 
-put-number-requires : tie.Need-put-number-requires
-put-number-requires c κs = search needs
-
-returns : tie.Need-returns
-returns c = search needs
-
-put-byte-requires : tie.Need-put-byte-requires
-put-byte-requires c κs = search needs
-
-lent-requires : tie.Need-lent-requires
-lent-requires c κs = search needs
-
-first-requires : tie.Need-first-requires
-first-requires c κs = search needs
-
 put-hex-requires : tie.Need-put-hex-requires
 put-hex-requires c κs = omega (arith, take-short _ (c .before .before .before .before .before .before .before .before .before .before .args .message .now) (c .before .lent .result) (c .first .ensures))
 
@@ -30,10 +15,4 @@ pub put-written-spec : {M : Type 1} → statement M
 put-written-spec =
     tie.close
     (tie.spec
-    put-number-requires
-    returns
-    put-byte-requires
-    lent-requires
-    first-requires
-    put-hex-requires
-    returns-2)
+    (λ c κs. search needs) (λ c. search needs) (λ c κs. search needs) (λ c κs. search needs) (λ c κs. search needs) put-hex-requires returns-2)
