@@ -17,35 +17,8 @@ abbrev μ-loop : tie.MeasureT-loop
 loop-holds : tie.Need-loop-holds Inv-loop μ-loop
 loop-holds c = (sym (all-none _), search needs, search needs)
 
-as-ok-requires : tie.Need-as-ok-requires Inv-loop μ-loop
-as-ok-requires c κs = search needs
-
-add-a : tie.Need-add-a Inv-loop μ-loop
-add-a c = search needs
-
-loop-less : tie.Need-loop-less Inv-loop μ-loop
-loop-less c = search needs
-
 loop-again : tie.Need-loop-again Inv-loop μ-loop
 loop-again c = (rw all-more (rw (c .before .before .loop .inv .0, c .as-ok .ensures)), search needs, search needs)
-
-mul-blank : tie.Need-mul-blank Inv-loop μ-loop
-mul-blank c = search needs
-
-blank-requires : tie.Need-blank-requires Inv-loop μ-loop
-blank-requires c κs = search needs
-
-mul-blank-2 : tie.Need-mul-blank-2 Inv-loop μ-loop
-mul-blank-2 c = search needs
-
-blank-requires-2 : tie.Need-blank-requires-2 Inv-loop μ-loop
-blank-requires-2 c κs = search needs
-
-blank-requires-3 : tie.Need-blank-requires-3 Inv-loop μ-loop
-blank-requires-3 c κs = search needs
-
-blank-requires-4 : tie.Need-blank-requires-4 Inv-loop μ-loop
-blank-requires-4 c κs = search needs
 
 returns : tie.Need-returns Inv-loop μ-loop
 returns c = let e = at-end (allBelow _) (c .before .before .before .before .before .before .before .before .before .loop .inv .0) (c .before .before .before .before .before .before .before .before .loop-test .left) (c .before .before .before .before .before .before .before .before .before .loop .inv .1) in rw (e, c .blank4 .ensures, c .before .before .blank3 .ensures, c .before .before .before .before .blank2 .ensures, c .before .before .before .before .before .before .blank .ensures) (rows-whole _ _ _ _ _ _ _ (c .before .before .before .before .before .before .before .before .before .before .pre))
@@ -53,18 +26,5 @@ returns c = let e = at-end (allBelow _) (c .before .before .before .before .befo
 pub ases-ok-spec : {M : Type 1} → statement M
 ases-ok-spec =
     tie.close
-    (tie.spec
-    Inv-loop
-    μ-loop
-    loop-holds
-    as-ok-requires
-    add-a
-    loop-less
-    loop-again
-    mul-blank
-    blank-requires
-    mul-blank-2
-    blank-requires-2
-    blank-requires-3
-    blank-requires-4
-    returns)
+    (tie.spec Inv-loop μ-loop loop-holds (search needs) (search needs) (search needs) loop-again (search needs)
+    (search needs) (search needs) (search needs) (search needs) (search needs) returns)

@@ -11,21 +11,9 @@ use Rattle.gateway.proofs.consistent_of.Tie as tie
 counted : {u : Bool} (v : Bool) → u ≡ v → not u ≡ false → v ≡ true
 counted {u} v e h = sym e ∙ not-false u h
 
-counts-ok-requires : tie.Need-counts-ok-requires
-counts-ok-requires c κs = search needs
-
 returns : tie.Need-returns
 unfolding consistentOf
 returns c = let e : countsIn _ _ _ ≡ false = sym (c .before .counts-ok .ensures) ∙ not-true _ (c .if1 .taken) in rw e
-
-wide-requires : tie.Need-wide-requires
-wide-requires c κs = search needs
-
-wide-requires-2 : tie.Need-wide-requires-2
-wide-requires-2 c κs = search needs
-
-wide-requires-3 : tie.Need-wide-requires-3
-wide-requires-3 c κs = search needs
 
 asps-ok-requires : tie.Need-asps-ok-requires
 asps-ok-requires c κs = rw (c .before .before .wide .ensures) (limits _ _ _ (counted _ (c .before .before .before .before .counts-ok .ensures) (c .before .before .before .if1 .left)) .asps)
@@ -43,13 +31,5 @@ returns-2 c = let e : countsIn _ _ _ ≡ true = counted _ (c .before .before .be
 pub consistent-of-spec : {M : Type 1} → statement M
 consistent-of-spec =
     tie.close
-    (tie.spec
-    counts-ok-requires
-    returns
-    wide-requires
-    wide-requires-2
-    wide-requires-3
-    asps-ok-requires
-    ases-ok-requires
-    links-ok-requires
-    returns-2)
+    (tie.spec (search needs) returns (search needs) (search needs) (search needs) asps-ok-requires ases-ok-requires
+    links-ok-requires returns-2)
