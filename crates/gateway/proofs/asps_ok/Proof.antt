@@ -6,7 +6,7 @@ use Rattle.gateway.proofs.asps_ok.Tie as tie
 
 returns : tie.Need-returns
 unfolding soundAsps
-returns c = cc
+returns c h = cc (c .before .before .before .before .within .ensures .1 h)
 
 pub asps-ok-spec : {M : Type 1} → statement M
-asps-ok-spec = tie.close (tie.spec (search needs) (search needs) (search needs) returns)
+asps-ok-spec = tie.close (tie.spec (search needs) (search needs) (search needs) (search needs) returns)

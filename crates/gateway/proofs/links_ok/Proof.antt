@@ -6,9 +6,10 @@ use Rattle.gateway.proofs.links_ok.Tie as tie
 
 returns : tie.Need-returns
 unfolding soundLinks
-returns c = cc
+returns c h = cc (c .before .before .before .before .before .before .before .before .before .within .ensures .1 h)
 
 pub links-ok-spec : {M : Type 1} → statement M
 links-ok-spec =
     tie.close
-    (tie.spec (search needs) (search needs) (search needs) (search needs) (search needs) (search needs) returns)
+    (tie.spec (search needs) (search needs) (search needs) (search needs) (search needs) (search needs) (search needs)
+    returns)
