@@ -13,7 +13,7 @@ use borrow.Author.Tests.{eqb-true, le-leb, lt-ltb, le-ltb}
 use Rattle.laws.specs.Below.{all-at, all-of}
 use Rattle.laws.specs.Tab.{col, getD-tab}
 use Rattle.laws.specs.Every.{count-not}
-use Rattle.gateway.specs.Sound.{pair, countsIn, blankFrom, flagIf, upAt, soundAsps, memberAt, activeAt, soundRow, activeIn, modeAt, waitingAt, overrideAt, soundAs, allUnder, soundLinks, consistent}
+use Rattle.gateway.specs.Sound.{pair, countsIn, blankFrom, flagIf, upAt, soundAsps, memberAt, activeAt, soundRow, activeIn, modeAt, waitingAt, overrideAt, soundAs, soundAses, allUnder, soundLinks, consistent}
 use Rattle.gateway.specs.Laws.{whole}
 use Rattle.gateway.specs.declared.Gateway.{Gateway}
 use Rattle.config.specs.Plan.{count, laidOut, bit, bitsFrom, modesOk, masksOk, rowsOk, members, fresh, refused, accepted, built, loadOf, aspIds, masks, spares, modes, linkIds, owners}
@@ -134,7 +134,7 @@ abbrev pub freshOf : List ℕ → Gateway
 freshOf s = fresh (count s 0) (count s 1) (count s 2) (aspIds s) (masks s) (modes s) (linkIds s) (owners s)
 
 pub fresh-consistent : (s : List ℕ) → laidOut s ≡ true → rowsOf s ≡ true → consistent (freshOf s) ≡ true
-unfolding fresh aspIds masks modes linkIds owners
+unfolding fresh soundAses aspIds masks modes linkIds owners
 fresh-consistent s h g =
     let l = layout s h in
     let n = count s 0 in

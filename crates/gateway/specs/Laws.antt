@@ -1,7 +1,7 @@
 -- What a consistent state gives, each fact once.
 -- Assumes nothing.
 use Prim.Native.Nat.{ℕ, zero, suc, _+_, _-_, _<_, _≤_}
-use mathlib.Core.Path.{_≡_, refl}
+use mathlib.Core.Path.{_≡_, refl, sym}
 use mathlib.Core.Bool.{Bool, true, false, _&&_}
 use mathlib.Core.List.{List}
 use native.Mathlib.Omega.{arith}
@@ -11,7 +11,7 @@ use Rattle.laws.specs.Below.{allBelow, all-at}
 use Rattle.laws.specs.Tab.{col, on}
 use Rattle.laws.specs.Every.{and-left, and-right}
 use Rattle.gateway.specs.declared.Gateway.{Gateway}
-use Rattle.gateway.specs.Sound.{pair, countsIn, blankFrom, flagIf, soundAsps, memberAt, activeAt, soundRow, activeIn, modeAt, waitingAt, overrideAt, soundAs, ascends, allUnder, soundLinks, consistentOf, consistent, zeros}
+use Rattle.gateway.specs.Sound.{pair, countsIn, blankFrom, flagIf, soundAsps, memberAt, activeAt, soundRow, activeIn, modeAt, waitingAt, overrideAt, soundAs, soundAses, ascends, allUnder, soundLinks, consistent, zeros}
 
 -- the counts are within the tables
 pub record Limits (n m k : ℕ) : Type 0 where
@@ -39,28 +39,46 @@ limits n m k h =
 pub record Parts (g : Gateway) : Type 0 where
   pub counts : Limits (g .asps) (g .ases) (g .links)
   pub inAsps : soundAsps (g .aspid) (g .up) (g .asps) ≡ true
-  pub inAses : allBelow (soundAs (g .up) (g .member) (g .active) (g .mode) (g .waiting) (g .asps) (g .ases)) 16 ≡ true
+  pub inAses : soundAses (g .up) (g .member) (g .active) (g .mode) (g .waiting) (g .asps) (g .ases) ≡ true
   pub inLinks : soundLinks (g .iid) (g .owner) (g .state) (g .ases) (g .links) ≡ true
 
-pub parts : (g : Gateway) → consistent g ≡ true → Parts g
-unfolding consistentOf
-parts g h =
-    let x = countsIn (g .asps) (g .ases) (g .links) in
-    let y = soundAsps (g .aspid) (g .up) (g .asps) in
-    let z = allBelow (soundAs (g .up) (g .member) (g .active) (g .mode) (g .waiting) (g .asps) (g .ases)) 16 in
-    let w = soundLinks (g .iid) (g .owner) (g .state) (g .ases) (g .links) in
-    let r = and-right x ((y && z) && w) h in
-    record {
-      counts = limits (g .asps) (g .ases) (g .links) (and-left x ((y && z) && w) h);
-      inAsps = and-left y z (and-left (y && z) w r);
-      inAses = and-right y z (and-left (y && z) w r);
-      inLinks = and-right (y && z) w r;
-    }
+module _ (g : Gateway) where
+  abbrev countsOf : Bool
+  countsOf = countsIn (g .asps) (g .ases) (g .links)
 
--- the same together
-pub whole : (g : Gateway) → countsIn (g .asps) (g .ases) (g .links) ≡ true → soundAsps (g .aspid) (g .up) (g .asps) ≡ true → allBelow (soundAs (g .up) (g .member) (g .active) (g .mode) (g .waiting) (g .asps) (g .ases)) 16 ≡ true → soundLinks (g .iid) (g .owner) (g .state) (g .ases) (g .links) ≡ true → consistent g ≡ true
-unfolding consistentOf
-whole g p q r s = rw (p, q, r, s)
+  abbrev aspsOf : Bool
+  aspsOf = soundAsps (g .aspid) (g .up) (g .asps)
+
+  abbrev asesOf : Bool
+  asesOf = soundAses (g .up) (g .member) (g .active) (g .mode) (g .waiting) (g .asps) (g .ases)
+
+  abbrev linksOf : Bool
+  linksOf = soundLinks (g .iid) (g .owner) (g .state) (g .ases) (g .links)
+
+  pub parts : consistent g ≡ true → Parts g
+  unfolding consistent
+  parts h =
+      let r = and-right countsOf (aspsOf && (asesOf && linksOf)) h in
+      let s = and-right aspsOf (asesOf && linksOf) r in
+      record {
+        counts = limits (g .asps) (g .ases) (g .links) (and-left countsOf (aspsOf && (asesOf && linksOf)) h);
+        inAsps = and-left aspsOf (asesOf && linksOf) r;
+        inAses = and-left asesOf linksOf s;
+        inLinks = and-right asesOf linksOf s;
+      }
+
+  -- the same together
+  pub whole : countsOf ≡ true → aspsOf ≡ true → asesOf ≡ true → linksOf ≡ true → consistent g ≡ true
+  unfolding consistent
+  whole p q r s = rw (p, q, r, s)
+
+  -- groups that were tested for counts within the tables
+  pub joined : (c x y z : Bool) → c ≡ countsOf → (g .asps ≤ 16 → x ≡ aspsOf) → (g .ases ≤ 16 → y ≡ asesOf) → (g .links ≤ 128 → z ≡ linksOf) → (c && (x && (y && z))) ≡ consistent g
+  unfolding consistent
+  joined true x y z e p q r =
+      let l = limits (g .asps) (g .ases) (g .links) (sym e) in
+      rw (← e, p (l .asps), q (l .ases), r (l .links))
+  joined false x y z e p q r = rw (← e)
 
 -- identifiers strictly ascending, from each to the next and so from any to any later
 pub ascends-next : (c : List ℕ) (n : ℕ) → ascends c n ≡ true → (l : ℕ) → l + 1 < n → col c l < col c (l + 1)
@@ -132,6 +150,7 @@ as-parts up member active mode waiting asps ases a h =
     }
 
 pub server : (g : Gateway) → consistent g ≡ true → (a : ℕ) → a < 16 → Server (g .up) (g .member) (g .active) (g .mode) (g .waiting) (g .asps) (g .ases) a
+unfolding soundAses
 server g h a b =
     as-parts (g .up) (g .member) (g .active) (g .mode) (g .waiting) (g .asps) (g .ases) a
     (all-at (soundAs (g .up) (g .member) (g .active) (g .mode) (g .waiting) (g .asps) (g .ases)) 16 (parts g h .inAses) a b)
@@ -179,5 +198,5 @@ member-within g h a q b d e =
 
 -- the state of zeros that a refused plan hands back is not consistent
 pub zeros-not-consistent : consistent zeros ≡ false
-unfolding consistentOf countsIn zeros
+unfolding consistent countsIn zeros
 zeros-not-consistent = refl

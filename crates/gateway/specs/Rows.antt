@@ -11,7 +11,7 @@ use borrow.Author.Tests.{lt-ltb, le-ltb, eqb-true}
 use Rattle.laws.specs.Below.{allBelow, all-at, all-of}
 use Rattle.laws.specs.Tab.{col, on}
 use Rattle.laws.specs.Every.{and-left, and-right, and-both, same-truth}
-use Rattle.gateway.specs.Sound.{pair, blankFrom, flagIf, memberAt, activeAt, soundRow, activeIn, modeAt, waitingAt, overrideAt, soundAs}
+use Rattle.gateway.specs.Sound.{pair, blankFrom, flagIf, memberAt, activeAt, soundRow, activeIn, modeAt, waitingAt, overrideAt, soundAs, soundAses}
 use Rattle.gateway.specs.Laws.{as-parts}
 
 -- the row of AS a, where inside says whether it may have members
@@ -111,7 +111,8 @@ module _ (up member active mode waiting : List ℕ) (asps ases : ℕ) where
   -- the rows of the plan's ASes, and zeros beyond, are all rows
   pub rows-whole : ases ≤ 16
       → (allBelow sound ases && ((blankFrom member (ases * 16) 256 && blankFrom active (ases * 16) 256) && (blankFrom mode ases 16 && blankFrom waiting ases 16)))
-      ≡ allBelow sound 16
+      ≡ soundAses up member active mode waiting asps ases
+  unfolding soundAses
   rows-whole w =
       let s = allBelow sound ases in
       let m = blankFrom member (ases * 16) 256 in

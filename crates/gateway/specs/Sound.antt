@@ -1,4 +1,4 @@
--- Which states of the gateway are consistent: document 01's sound board, table by table, each condition with its words there.
+-- Which states of the gateway are sound (Rule 5.4), group of columns by group of columns.
 -- Assumes nothing.
 use Prim.Native.Nat.{ℕ, _+_, _*_, _-_}
 use mathlib.Core.Bool.{Bool, _||_, _&&_, cond, not}
@@ -26,26 +26,26 @@ linkStates = 4
 abbrev pub pair : ℕ → ℕ → ℕ
 pair a q = a * 16 + q
 
--- "Counts: 1 to 16, 1 to 16, 0 to 128."
+-- The counts fit the tables (Rule 5.5).
 unfoldable pub countsIn : ℕ → ℕ → ℕ → Bool
 countsIn asps ases links =
     ((leb 1 asps && leb asps aspPlaces) && (leb 1 ases && leb ases asPlaces)) && leb links linkPlaces
 
--- "zeros beyond its counts": the places from n up to an end hold 0
+-- Places that the plan does not use hold 0: those from n up to an end.
 unfoldable pub blankFrom : List ℕ → ℕ → ℕ → Bool
 blankFrom c n end = allBelow (λ i. ltb i n || eqb (col c i) 0) end
 
--- A flag is 0 or 1, and 1 only where b holds.
+-- A flag is 0 or 1 (Rule 5.6), and 1 only where b holds.
 abbrev pub flagIf : ℕ → Bool → Bool
 flagIf x b = eqb x 0 || (eqb x 1 && b)
 
--- ---- ASPs
+-- ---- ASPs (Rule 5.7)
 
--- "two equal ASP identifiers": that of place p differs from those before it
+-- the identifier of place p differs from those before it
 unfoldable pub differs : List ℕ → ℕ → Bool
 differs aspid p = allBelow (λ q. not (eqb (col aspid q) (col aspid p))) p
 
--- "up or down per ASP", and zero beyond the ASPs
+-- only an ASP of the plan is up
 unfoldable pub upAt : List ℕ → ℕ → ℕ → Bool
 upAt up asps q = flagIf (col up q) (ltb q asps)
 
@@ -55,11 +55,11 @@ soundAsps aspid up asps =
 
 -- ---- ASes and pairs
 
--- "a mask bit beyond the ASes", "zeros beyond its counts": a member's ASP and AS are the plan's
+-- a member is an ASP of the plan, in an AS of the plan (Rule 5.8)
 unfoldable pub memberAt : List ℕ → ℕ → ℕ → ℕ → ℕ → Bool
 memberAt member asps ases a q = flagIf (col member (pair a q)) (ltb q asps && ltb a ases)
 
--- "activity only of members that are up"
+-- who is active is a member and is up (Rule 5.9)
 unfoldable pub activeAt : List ℕ → List ℕ → List ℕ → ℕ → ℕ → Bool
 activeAt up member active a q = flagIf (col active (pair a q)) (on member (pair a q) && on up q)
 
@@ -72,15 +72,15 @@ soundRow up member active asps ases a =
 unfoldable pub activeIn : List ℕ → ℕ → ℕ
 activeIn active a = countBelow (λ q. on active (pair a q)) aspPlaces
 
--- "a mode outside 1 to 3", and zero beyond the ASes
+-- an AS of the plan has one of the three modes, another place none (Rule 5.10)
 unfoldable pub modeAt : ℕ → Bool → Bool
 modeAt mode inside = cond inside (leb 1 mode && leb mode 3) (eqb mode 0)
 
--- "waiting only where none is active", and zero beyond the ASes
+-- an AS waits only where nobody is active (Rule 5.11)
 unfoldable pub waitingAt : ℕ → ℕ → Bool → Bool
 waitingAt waiting n inside = flagIf waiting (inside && eqb n 0)
 
--- "at most one active member in override"
+-- in override one member at most is active (Rule 5.12)
 unfoldable pub overrideAt : ℕ → ℕ → Bool
 overrideAt mode n = not (eqb mode 1) || leb n 1
 
@@ -90,13 +90,16 @@ soundAs up member active mode waiting asps ases a =
     && ((modeAt (col mode a) (ltb a ases) && waitingAt (col waiting a) (activeIn active a) (ltb a ases))
     && overrideAt (col mode a) (activeIn active a))
 
--- ---- links
+unfoldable pub soundAses : List ℕ → List ℕ → List ℕ → List ℕ → List ℕ → ℕ → ℕ → Bool
+soundAses up member active mode waiting asps ases = allBelow (soundAs up member active mode waiting asps ases) asPlaces
 
--- "link identifiers not strictly ascending": each is below the next
+-- ---- links (Rule 5.13)
+
+-- each identifier is below the next
 unfoldable pub ascends : List ℕ → ℕ → Bool
 ascends iid links = allBelow (λ l. ltb (col iid l) (col iid (l + 1))) (links - 1)
 
--- "an owner beyond the ASes"; "per link idle, starting, in service or stopping"
+-- the first n places hold numbers below a bound
 unfoldable pub allUnder : List ℕ → ℕ → ℕ → Bool
 allUnder c most n = allBelow (λ l. ltb (col c l) most) n
 
@@ -107,20 +110,34 @@ soundLinks iid owner state ases links =
 
 -- ---- the whole
 
--- "A sound board has a valid plan, zeros beyond its counts, activity only of members that are up, at most one active member in
--- override, waiting only where none is active."
-unfoldable pub consistentOf : ℕ → ℕ → ℕ → List ℕ → List ℕ → List ℕ → List ℕ → List ℕ → List ℕ → List ℕ → List ℕ → List ℕ → Bool
-consistentOf asps ases links aspid up member active mode waiting iid owner state =
-    countsIn asps ases links
-    && ((soundAsps aspid up asps && allBelow (soundAs up member active mode waiting asps ases) asPlaces)
-    && soundLinks iid owner state ases links)
-
-abbrev pub consistent : Gateway → Bool
+-- A new column has a condition of its own, which joins as one more conjunct.
+unfoldable pub consistent : Gateway → Bool
 consistent g =
-    consistentOf (g .asps) (g .ases) (g .links) (g .aspid) (g .up) (g .member) (g .active) (g .mode) (g .waiting) (g .iid)
-    (g .owner) (g .state)
+    countsIn (g .asps) (g .ases) (g .links)
+    && (soundAsps (g .aspid) (g .up) (g .asps)
+    && (soundAses (g .up) (g .member) (g .active) (g .mode) (g .waiting) (g .asps) (g .ases)
+    && soundLinks (g .iid) (g .owner) (g .state) (g .ases) (g .links)))
 
--- ---- "a board of zeros"
+-- the same of the columns that a state lends
+abbrev pub consistentOf : ℕ → ℕ → ℕ → List ℕ → List ℕ → List ℕ → List ℕ → List ℕ → List ℕ → List ℕ → List ℕ → List ℕ → Bool
+consistentOf asps ases links aspid up member active mode waiting iid owner state =
+    consistent
+    (record {
+      asps = asps;
+      ases = ases;
+      links = links;
+      aspid = aspid;
+      up = up;
+      member = member;
+      active = active;
+      mode = mode;
+      waiting = waiting;
+      iid = iid;
+      owner = owner;
+      state = state;
+    })
+
+-- ---- the state that comes with a refused plan (Rule 4.7)
 
 unfoldable pub zeros : Gateway
 zeros =

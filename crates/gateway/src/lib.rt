@@ -1,11 +1,11 @@
-// The gateway's state (document 01's board), by value, as columns; and whether it is consistent (a sound board).
+// The gateway's state (Rule 5.1), by value, as columns; and whether it is sound (Rule 5.4), asked group of columns by group of columns.
 ghost use mathlib.Core.Path.{_≡_};
 ghost use mathlib.Core.Bool.{true};
 ghost use Prim.Native.Nat.{_<_, _≤_};
 ghost use lib.ListN.{length};
 ghost use Rattle.laws.specs.Below.{one, allBelow};
 ghost use Rattle.gateway.specs.Rows.{rowIf};
-ghost use Rattle.gateway.specs.Sound.{countsIn, blankFrom, differs, upAt, soundAsps, soundRow, activeIn, modeAt, waitingAt, overrideAt, soundAs, ascends, allUnder, soundLinks, consistentOf, consistent, zeros};
+ghost use Rattle.gateway.specs.Sound.{countsIn, blankFrom, differs, upAt, soundAsps, soundRow, activeIn, modeAt, waitingAt, overrideAt, soundAs, soundAses, ascends, allUnder, soundLinks, consistentOf, consistent, zeros};
 
 // Index of a pair: as * 16 + asp. Flags are 0 or 1. Traffic modes: 1 override, 2 load-share, 3 broadcast. States of a link:
 // 0 idle, 1 starting, 2 in service, 3 stopping. `iid` is the interface identifier, `waiting` that the recovery time runs.
@@ -37,7 +37,15 @@ pub fn unit(t: bool) -> usize
     if t { 1 } else { 0 }
 }
 
-fn counts_ok(asps: u8, ases: u8, links: u8) -> bool
+// A count, where it is within the table.
+fn within(n: u8, most: usize) -> usize
+    ensures { λ r. ⌜ (r ≤ most) × (n ≤ most → r ≡ n) ⌝ }
+{
+    let x = wide(n);
+    if x < most { x } else { most }
+}
+
+pub fn counts_ok(asps: u8, ases: u8, links: u8) -> bool
     ensures { λ r. ⌜ r ≡ countsIn asps ases links ⌝ }
 {
     (((1 <= asps) & (asps <= 16)) & ((1 <= ases) & (ases <= 16))) & (links <= 128)
@@ -99,10 +107,11 @@ fn ups_ok(up: &[u8; 16], n: usize) -> bool
     ok
 }
 
-fn asps_ok<'a>(aspid: &'a [u32; 16], up: &'a [u8; 16], n: usize) -> bool
-    requires { ⌜ n ≤ 16 ⌝ }
-    ensures { λ r. ⌜ r ≡ soundAsps (now (aspid .entry)) (now (up .entry)) n ⌝ }
+// The groups of columns. Each answers for counts that are within the tables, and reads no place beyond them for any other.
+pub fn asps_ok<'a>(asps: u8, aspid: &'a [u32; 16], up: &'a [u8; 16]) -> bool
+    ensures { λ r. ⌜ (asps ≤ 16 → r ≡ soundAsps (now (aspid .entry)) (now (up .entry)) asps) ⌝ }
 {
+    let n = within(asps, 16);
     let differ = all_new(aspid, n);
     let beyond = blank_wide(aspid, n, 16);
     let flags = ups_ok(up, n);
@@ -184,26 +193,28 @@ fn as_ok<'a>(
     row & ((traffic & wait) & alone)
 }
 
-fn ases_ok<'a>(
+// The rows of the plan's ASes, and zeros beyond them.
+pub fn ases_ok<'a>(
+    asps: u8,
+    ases: u8,
     up: &'a [u8; 16],
     member: &'a [u8; 256],
     active: &'a [u8; 256],
     mode: &'a [u8; 16],
     waiting: &'a [u8; 16],
-    asps: usize,
-    ases: usize,
 ) -> bool
-    requires { ⌜ ases ≤ 16 ⌝ }
-    ensures { λ r. ⌜ r ≡ allBelow (soundAs (now (up .entry)) (now (member .entry)) (now (active .entry)) (now (mode .entry)) (now (waiting .entry)) asps ases) 16 ⌝ }
+    ensures { λ r. ⌜ (ases ≤ 16 → r ≡ soundAses (now (up .entry)) (now (member .entry)) (now (active .entry)) (now (mode .entry)) (now (waiting .entry)) asps ases) ⌝ }
 {
+    let n = wide(asps);
+    let m = within(ases, 16);
     let mut ok = true;
-    for a in 0..ases {
-        ok = ok & as_ok(up, member, active, mode, waiting, asps, ases, a);
+    for a in 0..m {
+        ok = ok & as_ok(up, member, active, mode, waiting, n, m, a);
     }
-    let x = blank(member, ases * 16, 256);
-    let y = blank(active, ases * 16, 256);
-    let z = blank(mode, ases, 16);
-    let w = blank(waiting, ases, 16);
+    let x = blank(member, m * 16, 256);
+    let y = blank(active, m * 16, 256);
+    let z = blank(mode, m, 16);
+    let w = blank(waiting, m, 16);
     ok & ((x & y) & (z & w))
 }
 
@@ -232,16 +243,16 @@ fn all_under(c: &[u8; 128], most: u8, n: usize) -> bool
     ok
 }
 
-fn links_ok<'a>(
+pub fn links_ok<'a>(
+    ases: u8,
+    links: u8,
     iid: &'a [u32; 128],
     owner: &'a [u8; 128],
     state: &'a [u8; 128],
-    ases: u8,
-    n: usize,
 ) -> bool
-    requires { ⌜ n ≤ 128 ⌝ }
-    ensures { λ r. ⌜ r ≡ soundLinks (now (iid .entry)) (now (owner .entry)) (now (state .entry)) ases n ⌝ }
+    ensures { λ r. ⌜ (links ≤ 128 → r ≡ soundLinks (now (iid .entry)) (now (owner .entry)) (now (state .entry)) ases links) ⌝ }
 {
+    let n = within(links, 128);
     let order = ascending(iid, n);
     let owners = all_under(owner, ases, n);
     let states = all_under(state, 4, n);
@@ -251,7 +262,7 @@ fn links_ok<'a>(
     ((order & owners) & states) & ((x & y) & z)
 }
 
-// The same of lent columns, for callers that hold the state and would copy it by a call.
+// The whole of lent columns, for callers that hold the state and would copy it by a call.
 pub fn consistent_of<'a>(
     asps: u8,
     ases: u8,
@@ -268,16 +279,11 @@ pub fn consistent_of<'a>(
 ) -> bool
     ensures { λ r. ⌜ r ≡ consistentOf asps ases links (now (aspid .entry)) (now (up .entry)) (now (member .entry)) (now (active .entry)) (now (mode .entry)) (now (waiting .entry)) (now (iid .entry)) (now (owner .entry)) (now (state .entry)) ⌝ }
 {
-    if !counts_ok(asps, ases, links) {
-        return false;
-    }
-    let n = wide(asps);
-    let m = wide(ases);
-    let k = wide(links);
-    let x = asps_ok(aspid, up, n);
-    let y = ases_ok(up, member, active, mode, waiting, n, m);
-    let z = links_ok(iid, owner, state, ases, k);
-    (x & y) & z
+    let c = counts_ok(asps, ases, links);
+    let x = asps_ok(asps, aspid, up);
+    let y = ases_ok(asps, ases, up, member, active, mode, waiting);
+    let z = links_ok(ases, links, iid, owner, state);
+    c & (x & (y & z))
 }
 
 impl Gateway {

@@ -15,7 +15,7 @@ use Rattle.laws.specs.Tab.{at, on, col, getD-tab}
 use Rattle.laws.specs.Every.{and-left, and-right, and-both, count-not}
 use Rattle.laws.specs.Count.{count-ext, count-some}
 use Rattle.gateway.specs.declared.Gateway.{Gateway}
-use Rattle.gateway.specs.Sound.{pair, countsIn, blankFrom, flagIf, differs, upAt, soundAsps, memberAt, activeAt, soundRow, activeIn, modeAt, waitingAt, overrideAt, soundAs, allUnder, soundLinks, consistentOf, consistent}
+use Rattle.gateway.specs.Sound.{pair, countsIn, blankFrom, flagIf, differs, upAt, soundAsps, memberAt, activeAt, soundRow, activeIn, modeAt, waitingAt, overrideAt, soundAs, soundAses, allUnder, soundLinks, consistent}
 use Rattle.gateway.specs.Laws.{parts, whole, Server, server, links-parts, flag-set, counts-within, member-within}
 use Rattle.server.specs.declared.AsRecord.{AsRecord}
 use Rattle.server.specs.declared.Change.{Change}
@@ -165,7 +165,7 @@ ups-kept (On p) up asps i q b h = h
 ups-kept Recover up asps i q b h = h
 
 counts-true : (g : Gateway) → consistent g ≡ true → countsIn (g .asps) (g .ases) (g .links) ≡ true
-unfolding consistentOf
+unfolding consistent
 counts-true g h = and-left (countsIn (g .asps) (g .ases) (g .links)) _ h
 
 module _ (g : Gateway) (k : Change) (named : List Bool) (h : consistent g ≡ true) (own : NamesOwn k (g .member) named) (i : InPlan (g .asps) k) (allowed : (a : ℕ) → a < 16 → at named a ≡ true → Allowed (ltb a (g .ases)) k (recordOf g a)) where
@@ -197,7 +197,7 @@ module _ (g : Gateway) (k : Change) (named : List Bool) (h : consistent g ≡ tr
       (all-of (upAt (upAfter k (g .up)) (g .asps)) 16 (λ q b. ups-kept k (g .up) (g .asps) i q b (all-at (upAt (g .up) (g .asps)) 16 (and-right d u e) q b)))
 
   pub keeps : consistent (moved g k named) ≡ true
-  unfolding moved
+  unfolding moved soundAses
   keeps =
       whole (moved g k named) (counts-true g h) asps-kept
       (all-of (soundAs (upAfter k (g .up)) (g .member) (moved g k named .active) (g .mode) (moved g k named .waiting) (g .asps) (g .ases)) 16

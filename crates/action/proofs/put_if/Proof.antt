@@ -4,15 +4,6 @@ use Rattle.action.specs.Words.{written-left, written-taken}
 use Rattle.action.proofs.put_if.Statement.{statement}
 use Rattle.action.proofs.put_if.Tie as tie
 
-put-requires : tie.Need-put-requires
-put-requires c κs = search needs
-
-add-result : tie.Need-add-result
-add-result c = search needs
-
-same-length : tie.Need-same-length
-same-length c = search needs
-
 returns : tie.Need-returns
 returns c = written-taken _ (c .before .before .before .before .if1 .taken) (c .before .before .put .ensures)
 
@@ -20,4 +11,4 @@ returns-2 : tie.Need-returns-2
 returns-2 c = written-left _ (c .if1 .left)
 
 pub put-if-spec : {M : Type 1} → statement M
-put-if-spec = tie.close (tie.spec put-requires add-result same-length returns returns-2)
+put-if-spec = tie.close (tie.spec (search needs) (search needs) (search needs) returns returns-2)

@@ -15,20 +15,8 @@ abbrev μ-loop : tie.MeasureT-loop
 loop-holds : tie.Need-loop-holds Inv-loop μ-loop
 loop-holds c = (emit-none _ _ _, omega arith)
 
-array-read-put-if : tie.Need-array-read-put-if Inv-loop μ-loop
-array-read-put-if c = search needs
-
-cast-t15 : tie.Need-cast-t15 Inv-loop μ-loop
-cast-t15 c = search needs
-
 put-if-requires : tie.Need-put-if-requires Inv-loop μ-loop
 put-if-requires c κs = let h = c .before .before .loop .inv .0 in omega (arith, written-length (h .wrote), emit-bound 1 (toEach-short _ _ _ _) h)
-
-add-q : tie.Need-add-q Inv-loop μ-loop
-add-q c = search needs
-
-loop-less : tie.Need-loop-less Inv-loop μ-loop
-loop-less c = search needs
 
 loop-again : tie.Need-loop-again Inv-loop μ-loop
 unfolding toEach
@@ -44,15 +32,5 @@ returns c = emit-end (c .before .loop .inv .0) (c .loop-test .left) (c .before .
 pub to-all-spec : {M : Type 1} → statement M
 to-all-spec =
     tie.close
-    (tie.spec
-    Inv-loop
-    μ-loop
-    loop-holds
-    array-read-put-if
-    cast-t15
-    put-if-requires
-    add-q
-    loop-less
-    loop-again
-    same-length
-    returns)
+    (tie.spec Inv-loop μ-loop loop-holds (search needs) (search needs) put-if-requires (search needs) (search needs)
+    loop-again same-length returns)

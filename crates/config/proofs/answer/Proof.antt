@@ -9,12 +9,6 @@ use Rattle.gateway.specs.Sound.{zeros}
 use Rattle.config.proofs.answer.Statement.{statement}
 use Rattle.config.proofs.answer.Tie as tie
 
-rows-ok-requires : tie.Need-rows-ok-requires
-rows-ok-requires c κs = search needs
-
-zeros-requires : tie.Need-zeros-requires
-zeros-requires c κs = search needs
-
 returns : tie.Need-returns
 unfolding built zeros
 returns c = let e : rowsOk _ _ _ _ _ _ _ _ _ ≡ false = sym (c .before .before .rows-ok .ensures) ∙ not-true _ (c .before .if1 .taken) in rw (e, c .zeros .ensures)
@@ -27,4 +21,4 @@ unfolding built
 returns-2 c = let e : rowsOk _ _ _ _ _ _ _ _ _ ≡ true = sym (c .before .before .rows-ok .ensures) ∙ not-false _ (c .before .if1 .left) in rw (e, c .build .ensures)
 
 pub answer-spec : {M : Type 1} → statement M
-answer-spec = tie.close (tie.spec rows-ok-requires zeros-requires returns build-requires returns-2)
+answer-spec = tie.close (tie.spec (search needs) (search needs) returns build-requires returns-2)

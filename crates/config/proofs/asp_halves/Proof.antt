@@ -18,27 +18,6 @@ abbrev μ-loop : tie.MeasureT-loop
 loop-holds : tie.Need-loop-holds Inv-loop μ-loop
 loop-holds c = (column-none 16 _, search needs, search needs, search needs)
 
-mul-get16 : tie.Need-mul-get16 Inv-loop μ-loop
-mul-get16 c = search needs
-
-add-get16 : tie.Need-add-get16 Inv-loop μ-loop
-add-get16 c = search needs
-
-get16-requires : tie.Need-get16-requires Inv-loop μ-loop
-get16-requires c κs = search needs
-
-mul-r : tie.Need-mul-r Inv-loop μ-loop
-mul-r c = search needs
-
-array-write-r : tie.Need-array-write-r Inv-loop μ-loop
-array-write-r c = search needs
-
-add-p : tie.Need-add-p Inv-loop μ-loop
-add-p c = search needs
-
-loop-less : tie.Need-loop-less Inv-loop μ-loop
-loop-less c = search needs
-
 loop-again : tie.Need-loop-again Inv-loop μ-loop
 loop-again c = (half-more _ (c .before .before .loop .inv .0) (omega arith) (c .get16 .ensures), search needs, search needs, search needs)
 
@@ -48,16 +27,5 @@ returns c = column-end 16 _ _ _ _ (c .before .loop .inv .0) (c .loop-test .left)
 pub asp-halves-spec : {M : Type 1} → statement M
 asp-halves-spec =
     tie.close
-    (tie.spec
-    Inv-loop
-    μ-loop
-    loop-holds
-    mul-get16
-    add-get16
-    get16-requires
-    mul-r
-    array-write-r
-    add-p
-    loop-less
-    loop-again
-    returns)
+    (tie.spec Inv-loop μ-loop loop-holds (search needs) (search needs) (search needs) (search needs) (search needs)
+    (search needs) (search needs) loop-again returns)

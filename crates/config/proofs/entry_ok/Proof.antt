@@ -3,14 +3,8 @@ use borrow.Author.Needs.{needs}
 use Rattle.config.proofs.entry_ok.Statement.{statement}
 use Rattle.config.proofs.entry_ok.Tie as tie
 
-offset-of-requires : tie.Need-offset-of-requires
-offset-of-requires c κs = search needs
-
-count-of-requires : tie.Need-count-of-requires
-count-of-requires c κs = search needs
-
 returns : tie.Need-returns
 returns c = cc
 
 pub entry-ok-spec : {M : Type 1} → statement M
-entry-ok-spec = tie.close (tie.spec offset-of-requires count-of-requires returns)
+entry-ok-spec = tie.close (tie.spec (search needs) (search needs) returns)

@@ -8,12 +8,6 @@ use Rattle.gateway.specs.Sound.{zeros}
 use Rattle.config.proofs.load.Statement.{statement}
 use Rattle.config.proofs.load.Tie as tie
 
-laid-out-requires : tie.Need-laid-out-requires
-laid-out-requires c κs = search needs
-
-zeros-requires : tie.Need-zeros-requires
-zeros-requires c κs = search needs
-
 returns : tie.Need-returns
 unfolding loadOf zeros
 returns c = let e : laidOut _ ≡ false = sym (c .before .before .laid-out .ensures) ∙ not-true _ (c .before .if1 .taken) in rw (e, c .zeros .ensures)
@@ -21,8 +15,5 @@ returns c = let e : laidOut _ ≡ false = sym (c .before .before .laid-out .ensu
 rows-requires : tie.Need-rows-requires
 rows-requires c κs = sym (c .before .laid-out .ensures) ∙ not-false _ (c .if1 .left)
 
-returns-2 : tie.Need-returns-2
-returns-2 c = search needs
-
 pub load-spec : {M : Type 1} → statement M
-load-spec = tie.close (tie.spec laid-out-requires zeros-requires returns rows-requires returns-2)
+load-spec = tie.close (tie.spec (search needs) (search needs) returns rows-requires (λ c. search needs))

@@ -18,24 +18,6 @@ abbrev μ-loop : tie.MeasureT-loop
 loop-holds : tie.Need-loop-holds Inv-loop μ-loop
 loop-holds c = (sym (all-none _), search needs, search needs, search needs)
 
-mul-long : tie.Need-mul-long Inv-loop μ-loop
-mul-long c = search needs
-
-element-copy-out-long : tie.Need-element-copy-out-long Inv-loop μ-loop
-element-copy-out-long c = search needs
-
-long-requires : tie.Need-long-requires Inv-loop μ-loop
-long-requires c κs = search needs
-
-shr-ok : tie.Need-shr-ok Inv-loop μ-loop
-shr-ok c = search needs
-
-add-p : tie.Need-add-p Inv-loop μ-loop
-add-p c = search needs
-
-loop-less : tie.Need-loop-less Inv-loop μ-loop
-loop-less c = search needs
-
 loop-again : tie.Need-loop-again Inv-loop μ-loop
 loop-again c = (rw all-more (rw (c .before .before .before .loop .inv .0, c .long .ensures .0)), search needs, search needs, search needs)
 
@@ -46,15 +28,5 @@ returns c = at-end (allBelow _) (c .before .loop .inv .0) (c .loop-test .left) (
 pub masks-ok-spec : {M : Type 1} → statement M
 masks-ok-spec =
     tie.close
-    (tie.spec
-    Inv-loop
-    μ-loop
-    loop-holds
-    mul-long
-    element-copy-out-long
-    long-requires
-    shr-ok
-    add-p
-    loop-less
-    loop-again
-    returns)
+    (tie.spec Inv-loop μ-loop loop-holds (search needs) (search needs) (search needs) (search needs) (search needs)
+    (search needs) loop-again returns)

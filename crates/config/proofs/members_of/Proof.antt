@@ -28,41 +28,8 @@ loop-holds c = (column-none 256 _, search needs)
 loop2-holds : tie.Need-loop2-holds Inv-loop2 μ-loop2 Inv-loop μ-loop
 loop2-holds c = (half-at (omega arith) (c .before .loop .inv .0), search needs, search needs)
 
-mul-bit-of : tie.Need-mul-bit-of Inv-loop2 μ-loop2 Inv-loop μ-loop
-mul-bit-of c = search needs
-
-element-copy-out-bit-of : tie.Need-element-copy-out-bit-of Inv-loop2 μ-loop2 Inv-loop μ-loop
-element-copy-out-bit-of c = search needs
-
-bit-of-requires : tie.Need-bit-of-requires Inv-loop2 μ-loop2 Inv-loop μ-loop
-bit-of-requires c κs = search needs
-
-cast-r : tie.Need-cast-r Inv-loop2 μ-loop2 Inv-loop μ-loop
-cast-r c = search needs
-
-mul-r : tie.Need-mul-r Inv-loop2 μ-loop2 Inv-loop μ-loop
-mul-r c = search needs
-
-add-r : tie.Need-add-r Inv-loop2 μ-loop2 Inv-loop μ-loop
-add-r c = search needs
-
-array-write-r : tie.Need-array-write-r Inv-loop2 μ-loop2 Inv-loop μ-loop
-array-write-r c = search needs
-
-add-q : tie.Need-add-q Inv-loop2 μ-loop2 Inv-loop μ-loop
-add-q c = search needs
-
-loop2-less : tie.Need-loop2-less Inv-loop2 μ-loop2 Inv-loop μ-loop
-loop2-less c = search needs
-
 loop2-again : tie.Need-loop2-again Inv-loop2 μ-loop2 Inv-loop μ-loop
 loop2-again c = let at = c .before .before .before in (half-at (omega arith) (half-more _ (at .loop2 .inv .0) (omega arith) (c .bit-of .ensures ∙ bit-at (now (at .before .before .before .args .mask)) (at .before .before .loop .a) (at .loop2 .q) (omega arith))), search needs, search needs)
-
-add-a : tie.Need-add-a Inv-loop2 μ-loop2 Inv-loop μ-loop
-add-a c = search needs
-
-loop-less : tie.Need-loop-less Inv-loop2 μ-loop2 Inv-loop μ-loop
-loop-less c = search needs
 
 loop-again : tie.Need-loop-again Inv-loop2 μ-loop2 Inv-loop μ-loop
 loop-again c = (half-at (omega arith) (c .before .loop2 .inv .0), search needs)
@@ -74,24 +41,6 @@ returns c = half-end (c .before .loop .inv .0) (omega arith)
 pub members-of-spec : {M : Type 1} → statement M
 members-of-spec =
     tie.close
-    (tie.spec
-    Inv-loop2
-    μ-loop2
-    Inv-loop
-    μ-loop
-    loop-holds
-    loop2-holds
-    mul-bit-of
-    element-copy-out-bit-of
-    bit-of-requires
-    cast-r
-    mul-r
-    add-r
-    array-write-r
-    add-q
-    loop2-less
-    loop2-again
-    add-a
-    loop-less
-    loop-again
-    returns)
+    (tie.spec Inv-loop2 μ-loop2 Inv-loop μ-loop loop-holds loop2-holds (search needs) (search needs) (search needs)
+    (search needs) (search needs) (search needs) (search needs) (search needs) (search needs) loop2-again
+    (search needs) (search needs) loop-again returns)

@@ -30,11 +30,5 @@ returns c = rw (c .offset-of3 .ensures .0, c .before .offset-of2 .ensures .0, c 
 pub places-of-spec : {M : Type 1} → statement M
 places-of-spec =
     tie.close
-    (tie.spec
-    count-of-requires
-    count-of-requires-2
-    count-of-requires-3
-    offset-of-requires
-    offset-of-requires-2
-    offset-of-requires-3
-    returns)
+    (tie.spec count-of-requires count-of-requires-2 count-of-requires-3 offset-of-requires offset-of-requires-2
+    offset-of-requires-3 returns)

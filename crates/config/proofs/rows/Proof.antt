@@ -7,9 +7,6 @@ use Rattle.config.specs.Layout.{inside-of, placesOf}
 use Rattle.config.proofs.rows.Statement.{statement}
 use Rattle.config.proofs.rows.Tie as tie
 
-places-of-requires : tie.Need-places-of-requires
-places-of-requires c κs = search needs
-
 asp-words-requires : tie.Need-asp-words-requires
 asp-words-requires c κs = let i = inside-of _ _ (c .before .before .pre) (c .places-of .ensures) in (i .asps, omega (arith, i .inAsps))
 
@@ -32,11 +29,5 @@ returns c = c .answer .ensures ∙ rw (c .before .before .before .before .before
 pub rows-spec : {M : Type 1} → statement M
 rows-spec =
     tie.close
-    (tie.spec
-    places-of-requires
-    asp-words-requires
-    add-asp-halves
-    asp-halves-requires
-    link-words-requires
-    answer-requires
-    returns)
+    (tie.spec (λ c κs. search needs) asp-words-requires add-asp-halves asp-halves-requires link-words-requires
+    answer-requires returns)

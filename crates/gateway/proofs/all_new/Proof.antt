@@ -16,15 +16,6 @@ abbrev μ-loop : tie.MeasureT-loop
 loop-holds : tie.Need-loop-holds Inv-loop μ-loop
 loop-holds c = (sym (all-none _), search needs, search needs)
 
-is-new-requires : tie.Need-is-new-requires Inv-loop μ-loop
-is-new-requires c κs = search needs
-
-add-p : tie.Need-add-p Inv-loop μ-loop
-add-p c = search needs
-
-loop-less : tie.Need-loop-less Inv-loop μ-loop
-loop-less c = search needs
-
 loop-again : tie.Need-loop-again Inv-loop μ-loop
 loop-again c = (rw all-more (rw (c .before .before .loop .inv .0, c .is-new .ensures)), search needs, search needs)
 
@@ -34,4 +25,4 @@ returns c = at-end (allBelow _) (c .before .loop .inv .0) (c .loop-test .left) (
 pub all-new-spec : {M : Type 1} → statement M
 all-new-spec =
     tie.close
-    (tie.spec Inv-loop μ-loop loop-holds is-new-requires add-p loop-less loop-again returns)
+    (tie.spec Inv-loop μ-loop loop-holds (search needs) (search needs) (search needs) loop-again returns)

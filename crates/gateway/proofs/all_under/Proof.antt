@@ -17,15 +17,6 @@ loop-holds : tie.Need-loop-holds Inv-loop μ-loop
 unfolding allUnder
 loop-holds c = (sym (all-none _), search needs, search needs)
 
-element-copy-out-ok : tie.Need-element-copy-out-ok Inv-loop μ-loop
-element-copy-out-ok c = search needs
-
-add-l : tie.Need-add-l Inv-loop μ-loop
-add-l c = search needs
-
-loop-less : tie.Need-loop-less Inv-loop μ-loop
-loop-less c = search needs
-
 loop-again : tie.Need-loop-again Inv-loop μ-loop
 unfolding allUnder
 loop-again c = (rw all-more (rw (c .before .before .loop .inv .0)), search needs, search needs)
@@ -36,4 +27,4 @@ returns c = at-end (allUnder _ _) (c .before .loop .inv .0) (c .loop-test .left)
 pub all-under-spec : {M : Type 1} → statement M
 all-under-spec =
     tie.close
-    (tie.spec Inv-loop μ-loop loop-holds element-copy-out-ok add-l loop-less loop-again returns)
+    (tie.spec Inv-loop μ-loop loop-holds (search needs) (search needs) (search needs) loop-again returns)

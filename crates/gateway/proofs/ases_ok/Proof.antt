@@ -1,70 +1,31 @@
 -- `gateway::ases_ok`: the ASes passed are in order, and beyond them are zeros. Assumes nothing.
 use Prim.Native.Nat.{_≤_, _-_}
-use mathlib.Core.Path.{_≡_, sym}
+use mathlib.Core.Path.{_≡_, _∙_, sym}
 use borrow.Author.Needs.{needs}
-use Rattle.gateway.specs.Sound.{soundAs}
+use Rattle.gateway.specs.Sound.{soundAs, soundAses}
 use Rattle.gateway.specs.Rows.{rows-whole}
 use Rattle.laws.specs.Below.{allBelow, all-none, all-more, at-end}
 use Rattle.gateway.proofs.ases_ok.Statement.{statement}
 use Rattle.gateway.proofs.ases_ok.Tie as tie
 
 abbrev Inv-loop : tie.InvT-loop
-Inv-loop up member active mode waiting asps ases ok₀ a₀ ok a = (ok ≡ allBelow (soundAs up member active mode waiting asps ases) a) × (a ≤ ases) × (ases ≤ 16)
+Inv-loop asps ases up member active mode waiting n m ok₀ a₀ ok a = (ok ≡ allBelow (soundAs up member active mode waiting n m) a) × (a ≤ m) × (m ≤ 16)
 
 abbrev μ-loop : tie.MeasureT-loop
-μ-loop up member active mode waiting asps ases ok₀ a₀ ok a = ases - a
+μ-loop asps ases up member active mode waiting n m ok₀ a₀ ok a = m - a
 
 loop-holds : tie.Need-loop-holds Inv-loop μ-loop
 loop-holds c = (sym (all-none _), search needs, search needs)
 
-as-ok-requires : tie.Need-as-ok-requires Inv-loop μ-loop
-as-ok-requires c κs = search needs
-
-add-a : tie.Need-add-a Inv-loop μ-loop
-add-a c = search needs
-
-loop-less : tie.Need-loop-less Inv-loop μ-loop
-loop-less c = search needs
-
 loop-again : tie.Need-loop-again Inv-loop μ-loop
 loop-again c = (rw all-more (rw (c .before .before .loop .inv .0, c .as-ok .ensures)), search needs, search needs)
 
-mul-blank : tie.Need-mul-blank Inv-loop μ-loop
-mul-blank c = search needs
-
-blank-requires : tie.Need-blank-requires Inv-loop μ-loop
-blank-requires c κs = search needs
-
-mul-blank-2 : tie.Need-mul-blank-2 Inv-loop μ-loop
-mul-blank-2 c = search needs
-
-blank-requires-2 : tie.Need-blank-requires-2 Inv-loop μ-loop
-blank-requires-2 c κs = search needs
-
-blank-requires-3 : tie.Need-blank-requires-3 Inv-loop μ-loop
-blank-requires-3 c κs = search needs
-
-blank-requires-4 : tie.Need-blank-requires-4 Inv-loop μ-loop
-blank-requires-4 c κs = search needs
-
 returns : tie.Need-returns Inv-loop μ-loop
-returns c = let e = at-end (allBelow _) (c .before .before .before .before .before .before .before .before .before .loop .inv .0) (c .before .before .before .before .before .before .before .before .loop-test .left) (c .before .before .before .before .before .before .before .before .before .loop .inv .1) in rw (e, c .blank4 .ensures, c .before .before .blank3 .ensures, c .before .before .before .before .blank2 .ensures, c .before .before .before .before .before .before .blank .ensures) (rows-whole _ _ _ _ _ _ _ (c .before .before .before .before .before .before .before .before .before .before .pre))
+unfolding soundAses
+returns c h = let e = at-end (allBelow _) (c .before .before .before .before .before .before .before .before .before .loop .inv .0) (c .before .before .before .before .before .before .before .before .loop-test .left) (c .before .before .before .before .before .before .before .before .before .loop .inv .1) in rw (e, c .blank4 .ensures, c .before .before .blank3 .ensures, c .before .before .before .before .blank2 .ensures, c .before .before .before .before .before .before .blank .ensures) (rows-whole _ _ _ _ _ _ _ (c .before .before .before .before .before .before .before .before .before .before .within .ensures .0) ∙ rw (c .before .before .before .before .before .before .before .before .before .before .before .wide .ensures, c .before .before .before .before .before .before .before .before .before .before .within .ensures .1 h))
 
 pub ases-ok-spec : {M : Type 1} → statement M
 ases-ok-spec =
     tie.close
-    (tie.spec
-    Inv-loop
-    μ-loop
-    loop-holds
-    as-ok-requires
-    add-a
-    loop-less
-    loop-again
-    mul-blank
-    blank-requires
-    mul-blank-2
-    blank-requires-2
-    blank-requires-3
-    blank-requires-4
-    returns)
+    (tie.spec Inv-loop μ-loop (search needs) (search needs) loop-holds (search needs) (search needs) (search needs) loop-again (search needs)
+    (search needs) (search needs) (search needs) (search needs) (search needs) returns)

@@ -19,26 +19,8 @@ abbrev μ-loop : tie.MeasureT-loop
 loop-holds : tie.Need-loop-holds Inv-loop μ-loop
 loop-holds c = (sym (count-none _), search needs, search needs)
 
-mul-unit : tie.Need-mul-unit Inv-loop μ-loop
-mul-unit c = search needs
-
-add-unit : tie.Need-add-unit Inv-loop μ-loop
-add-unit c = search needs
-
-element-copy-out-unit : tie.Need-element-copy-out-unit Inv-loop μ-loop
-element-copy-out-unit c = search needs
-
-unit-requires : tie.Need-unit-requires Inv-loop μ-loop
-unit-requires c κs = search needs
-
 add-n : tie.Need-add-n Inv-loop μ-loop
 add-n c = omega (arith, c .before .before .before .loop .inv .0, count-small (λ i. on (now (c .before .before .before .before .args .active)) (c .before .before .before .before .args .a * 16 + i)) (c .before .before .before .loop .q))
-
-add-q : tie.Need-add-q Inv-loop μ-loop
-add-q c = search needs
-
-loop-less : tie.Need-loop-less Inv-loop μ-loop
-loop-less c = search needs
 
 loop-again : tie.Need-loop-again Inv-loop μ-loop
 loop-again c = (rw (count-more, c .before .before .before .loop .inv .0, c .unit .ensures .0), search needs, search needs)
@@ -50,16 +32,5 @@ returns c = at-end (countBelow _) (c .before .loop .inv .0) (c .loop-test .left)
 pub count-active-spec : {M : Type 1} → statement M
 count-active-spec =
     tie.close
-    (tie.spec
-    Inv-loop
-    μ-loop
-    loop-holds
-    mul-unit
-    add-unit
-    element-copy-out-unit
-    unit-requires
-    add-n
-    add-q
-    loop-less
-    loop-again
-    returns)
+    (tie.spec Inv-loop μ-loop loop-holds (search needs) (search needs) (search needs) (search needs) add-n
+    (search needs) (search needs) loop-again returns)

@@ -4,12 +4,9 @@ use Rattle.lookup.specs.Links.{known}
 use Rattle.lookup.proofs.is_known.Statement.{statement}
 use Rattle.lookup.proofs.is_known.Tie as tie
 
-index-of-requires : tie.Need-index-of-requires
-index-of-requires c κs = search needs
-
 returns : tie.Need-returns
 unfolding known
 returns c = rw (c .index-of .ensures)
 
 pub is-known-spec : {M : Type 1} → statement M
-is-known-spec = tie.close (tie.spec index-of-requires returns)
+is-known-spec = tie.close (tie.spec (λ c κs. search needs) returns)

@@ -19,29 +19,8 @@ abbrev μ-loop : tie.MeasureT-loop
 loop-holds : tie.Need-loop-holds Inv-loop μ-loop
 loop-holds c = (sym (count-none _), search needs, search needs, search needs)
 
-mul-unit-32 : tie.Need-mul-unit-32 Inv-loop μ-loop
-mul-unit-32 c = search needs
-
-element-copy-out-unit-32 : tie.Need-element-copy-out-unit-32 Inv-loop μ-loop
-element-copy-out-unit-32 c = search needs
-
-unit-32-requires : tie.Need-unit-32-requires Inv-loop μ-loop
-unit-32-requires c κs = search needs
-
-add-n : tie.Need-add-n Inv-loop μ-loop
-add-n c = search needs
-
-add-l : tie.Need-add-l Inv-loop μ-loop
-add-l c = search needs
-
-loop-less : tie.Need-loop-less Inv-loop μ-loop
-loop-less c = search needs
-
 loop-again : tie.Need-loop-again Inv-loop μ-loop
 loop-again c = (rw (count-more, c .before .before .before .loop .inv .0, c .unit-32 .ensures .0), omega (arith, c .unit-32 .ensures .1), search needs, search needs)
-
-cast-result : tie.Need-cast-result Inv-loop μ-loop
-cast-result c = search needs
 
 returns : tie.Need-returns Inv-loop μ-loop
 unfolding rank
@@ -50,16 +29,5 @@ returns c = (at-end (countBelow _) (c .before .loop .inv .0) (c .loop-test .left
 pub rank-of-spec : {M : Type 1} → statement M
 rank-of-spec =
     tie.close
-    (tie.spec
-    Inv-loop
-    μ-loop
-    loop-holds
-    mul-unit-32
-    element-copy-out-unit-32
-    unit-32-requires
-    add-n
-    add-l
-    loop-less
-    loop-again
-    cast-result
-    returns)
+    (tie.spec Inv-loop μ-loop loop-holds (search needs) (search needs) (search needs) (search needs) (search needs)
+    (search needs) loop-again (search needs) returns)

@@ -16,38 +16,11 @@ Inv-loop active mode a x k place r₀ n₀ q₀ r n q = Half (receives active mo
 abbrev μ-loop : tie.MeasureT-loop
 μ-loop active mode a x k place r₀ n₀ q₀ r n q = 16 - q
 
-count-active-requires : tie.Need-count-active-requires Inv-loop μ-loop
-count-active-requires c κs = search needs
-
-rest-requires : tie.Need-rest-requires Inv-loop μ-loop
-rest-requires c κs = search needs
-
 loop-holds : tie.Need-loop-holds Inv-loop μ-loop
 loop-holds c = (half-none _ 16 _ refl, sym (before-none _ _), search needs, search needs, rw (c .rest .ensures, c .before .count-active .ensures))
 
-mul-on : tie.Need-mul-on Inv-loop μ-loop
-mul-on c = search needs
-
-add-on : tie.Need-add-on Inv-loop μ-loop
-add-on c = search needs
-
-element-copy-out-on : tie.Need-element-copy-out-on Inv-loop μ-loop
-element-copy-out-on c = search needs
-
-array-write-r : tie.Need-array-write-r Inv-loop μ-loop
-array-write-r c = search needs
-
-unit-requires : tie.Need-unit-requires Inv-loop μ-loop
-unit-requires c κs = search needs
-
 add-n : tie.Need-add-n Inv-loop μ-loop
 add-n c = let at = c .before .before .before in omega (arith, c .unit .ensures .1, at .loop .inv .1, before-small (now (at .before .before .before .args .active)) (at .before .before .before .args .a) (at .loop .q))
-
-add-q : tie.Need-add-q Inv-loop μ-loop
-add-q c = search needs
-
-loop-less : tie.Need-loop-less Inv-loop μ-loop
-loop-less c = search needs
 
 loop-again : tie.Need-loop-again Inv-loop μ-loop
 unfolding receives
@@ -59,19 +32,5 @@ returns c = half-end (c .before .loop .inv .0) (c .loop-test .left)
 pub recipients-spec : {M : Type 1} → statement M
 recipients-spec =
     tie.close
-    (tie.spec
-    Inv-loop
-    μ-loop
-    count-active-requires
-    rest-requires
-    loop-holds
-    mul-on
-    add-on
-    element-copy-out-on
-    array-write-r
-    unit-requires
-    add-n
-    add-q
-    loop-less
-    loop-again
-    returns)
+    (tie.spec Inv-loop μ-loop (search needs) (search needs) loop-holds (search needs) (search needs) (search needs)
+    (search needs) (search needs) add-n (search needs) (search needs) loop-again returns)

@@ -9,11 +9,5 @@ use Rattle.lookup.proofs.rest.Tie as tie
 returns : tie.Need-returns
 returns c = sym (ap (λ (k : ℕ). c .before .args .x % k) (c .if1 .taken) ∙ mod-zero _)
 
-rem-result : tie.Need-rem-result
-rem-result c = search needs
-
-returns-2 : tie.Need-returns-2
-returns-2 c = search needs
-
 pub rest-spec : {M : Type 1} → statement M
-rest-spec = tie.close (tie.spec returns rem-result returns-2)
+rest-spec = tie.close (tie.spec returns (search needs) (search needs))

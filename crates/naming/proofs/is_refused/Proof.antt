@@ -12,12 +12,6 @@ returns c = let at = c .before in sym (refused-past _ _ _ (at .pre .0) _ _ (at .
 element-copy-out-wide : tie.Need-element-copy-out-wide
 element-copy-out-wide c = omega (arith, c .before .pre .0 .few)
 
-wide-requires : tie.Need-wide-requires
-wide-requires c κs = search needs
-
-mul-result : tie.Need-mul-result
-mul-result c = search needs
-
 element-copy-out-result : tie.Need-element-copy-out-result
 element-copy-out-result c = omega (arith, c .before .before .before .pre .0 .few)
 
@@ -30,11 +24,5 @@ returns-2 c = let at = c .before .before .before .before .before in rw (c .is-me
 pub is-refused-spec : {M : Type 1} → statement M
 is-refused-spec =
     tie.close
-    (tie.spec
-    returns
-    element-copy-out-wide
-    wide-requires
-    mul-result
-    element-copy-out-result
-    is-member-requires
+    (tie.spec returns element-copy-out-wide (search needs) (search needs) element-copy-out-result is-member-requires
     returns-2)

@@ -20,9 +20,6 @@ loop-holds : tie.Need-loop-holds Inv-loop μ-loop
 unfolding entries
 loop-holds c = (passed-none _ _ _ _ _ _ _ _ (search needs), search needs, refl, c .before .pre .0, c .before .pre .1)
 
-mul-get32 : tie.Need-mul-get32 Inv-loop μ-loop
-mul-get32 c = search needs
-
 get32-requires : tie.Need-get32-requires Inv-loop μ-loop
 unfolding entries
 get32-requires c κs = omega (arith, c .before .loop .inv .2)
@@ -33,17 +30,11 @@ rank-near-requires c κs = let t = c .before .before .loop .inv .3 in (t .few, t
 is-refused-requires : tie.Need-is-refused-requires Inv-loop μ-loop
 is-refused-requires c κs = let i = c .before .before .before .loop .inv in (i .3, i .4, c .rank-near .ensures .0)
 
-refuses-requires : tie.Need-refuses-requires Inv-loop μ-loop
-refuses-requires c κs = search needs
-
 returns : tie.Need-returns Inv-loop μ-loop
 returns c = let k = c .before .before .before .before in let i = c .before .before .before .before .before .before .loop .inv in names-refused _ (c .refuses .ensures) (passed-refused _ _ _ _ _ _ _ _ _ _ (i .0) _ _ (k .get32 .ensures ∙ sym (single-start false _ _ refl)) (k .get32 .ensures ∙ sym (single-stop false _ _ refl)) _ (alone-refused _ _ (sym (c .before .before .is-refused .ensures) ∙ c .before .if1 .taken)) refl (omega (arith, i .2)))
 
 element-copy-out-wide : tie.Need-element-copy-out-wide Inv-loop μ-loop
 element-copy-out-wide c = let i = c .before .before .before .before .before .loop .inv in omega (arith, i .3 .few, within _ _ _ (i .3) _ _ (c .before .before .rank-near .ensures .0) _ _ (sym (c .before .is-refused .ensures) ∙ c .if1 .left))
-
-wide-requires : tie.Need-wide-requires Inv-loop μ-loop
-wide-requires c κs = search needs
 
 array-write-r : tie.Need-array-write-r Inv-loop μ-loop
 array-write-r c = let i = c .before .before .before .before .before .before .before .loop .inv in rw (c .wide .ensures) (owner-small _ _ _ (i .3) _ (within _ _ _ (i .3) _ _ (c .before .before .before .before .rank-near .ensures .0) _ _ (sym (c .before .before .before .is-refused .ensures) ∙ c .before .before .if1 .left)))
@@ -51,17 +42,8 @@ array-write-r c = let i = c .before .before .before .before .before .before .bef
 add-near : tie.Need-add-near Inv-loop μ-loop
 add-near c = omega (arith, c .before .before .before .before .before .before .before .loop .inv .3 .few, c .before .before .before .before .rank-near .ensures .1)
 
-add-i : tie.Need-add-i Inv-loop μ-loop
-add-i c = search needs
-
-loop-less : tie.Need-loop-less Inv-loop μ-loop
-loop-less c = search needs
-
 loop-again : tie.Need-loop-again Inv-loop μ-loop
 loop-again c = let k = c .before .before .before .before .before in let i = c .before .before .before .before .before .before .before .loop .inv in let f = sym (c .before .before .before .is-refused .ensures) ∙ c .before .before .if1 .left in let e = c .before .before .before .before .rank-near .ensures .0 in let b = within _ _ _ (i .3) _ _ e _ _ f in (passed-more _ _ _ _ _ _ _ _ _ _ (i .0) _ _ (k .get32 .ensures ∙ sym (single-start false _ _ refl)) (k .get32 .ensures ∙ sym (single-stop false _ _ refl)) _ _ (alone-good _ _ f) refl (alone-marked _ _ _ (i .3) _ _ _ (c .before .before .before .before .before .before .before .loop .r) (passed-long _ _ _ _ _ _ _ _ _ _ (i .0)) e b (stands _ _ _ (i .3) _ _ e _ _ b f) (c .wide .ensures)), search needs, i .2, i .3, i .4)
-
-passes-requires : tie.Need-passes-requires Inv-loop μ-loop
-passes-requires c κs = search needs
 
 returns-2 : tie.Need-returns-2 Inv-loop μ-loop
 returns-2 c = let i = c .before .before .loop .inv in names-none (c .passes .ensures .0) (all-good _ _ _ _ _ _ _ _ _ _ (i .0) (omega (arith, i .2))) (c .passes .ensures .1) (all-marked _ _ _ _ _ _ _ _ _ _ (i .0) (omega (arith, i .2)))
@@ -69,22 +51,6 @@ returns-2 c = let i = c .before .before .loop .inv in names-none (c .passes .ens
 pub of-ids-spec : {M : Type 1} → statement M
 of-ids-spec =
     tie.close
-    (tie.spec
-    Inv-loop
-    μ-loop
-    loop-holds
-    mul-get32
-    get32-requires
-    rank-near-requires
-    is-refused-requires
-    refuses-requires
-    returns
-    element-copy-out-wide
-    wide-requires
-    array-write-r
-    add-near
-    add-i
-    loop-less
-    loop-again
-    passes-requires
-    returns-2)
+    (tie.spec Inv-loop μ-loop loop-holds (search needs) get32-requires rank-near-requires is-refused-requires
+    (search needs) returns element-copy-out-wide (search needs) array-write-r add-near (search needs) (search needs)
+    loop-again (search needs) returns-2)

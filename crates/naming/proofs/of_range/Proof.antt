@@ -17,9 +17,6 @@ Inv-loop iid owner member links p start stop r₀ l₀ x₀ r l x = (l ≡ rank 
 abbrev μ-loop : tie.MeasureT-loop
 μ-loop iid owner member links p start stop r₀ l₀ x₀ r l x = links - l
 
-passes-requires : tie.Need-passes-requires Inv-loop μ-loop
-passes-requires c κs = search needs
-
 returns : tie.Need-returns Inv-loop μ-loop
 returns c = names-none (c .passes .ensures .0) (empty-range _ _ _ (c .before .if1 .taken)) (c .passes .ensures .1) (unmarked _ _ _ _ _ _ (search needs) (c .before .if1 .taken))
 
@@ -32,32 +29,20 @@ loop-holds c = let t = c .before .before .pre .0 in (c .rank-of .ensures .0, sea
 is-refused-requires : tie.Need-is-refused-requires Inv-loop μ-loop
 is-refused-requires c κs = let i = c .loop .inv in (i .4, i .5, i .0)
 
-refuses-requires : tie.Need-refuses-requires Inv-loop μ-loop
-refuses-requires c κs = search needs
-
 returns-2 : tie.Need-returns-2 Inv-loop μ-loop
 returns-2 c = let i = c .before .before .before .loop .inv in names-refused _ (c .refuses .ensures) (refuses-at _ _ _ (i .1) (i .3) _ (i .2) (sym (c .before .before .is-refused .ensures) ∙ c .before .if2 .taken))
 
 element-copy-out-wide : tie.Need-element-copy-out-wide Inv-loop μ-loop
 element-copy-out-wide c = let i = c .before .before .loop .inv in omega (arith, i .4 .few, within _ _ _ (i .4) _ _ (i .0) _ _ (sym (c .before .is-refused .ensures) ∙ c .if2 .left))
 
-wide-requires : tie.Need-wide-requires Inv-loop μ-loop
-wide-requires c κs = search needs
-
 array-write-r : tie.Need-array-write-r Inv-loop μ-loop
 array-write-r c = let i = c .before .before .before .before .loop .inv in rw (c .wide .ensures) (owner-small _ _ _ (i .4) _ (within _ _ _ (i .4) _ _ (i .0) _ _ (sym (c .before .before .before .is-refused .ensures) ∙ c .before .before .if2 .left)))
-
-passes-requires-2 : tie.Need-passes-requires-2 Inv-loop μ-loop
-passes-requires-2 c κs = search needs
 
 returns-3 : tie.Need-returns-3 Inv-loop μ-loop
 returns-3 c = let i = c .before .before .before .before .before .before .loop .inv in let f = sym (c .before .before .before .before .before .is-refused .ensures) ∙ c .before .before .before .before .if2 .left in let b = within _ _ _ (i .4) _ _ (i .0) _ _ f in let z = stands _ _ _ (i .4) _ _ (i .0) _ _ b f in names-none (c .passes2 .ensures .0) (none-refused _ _ _ _ (c .before .if3 .taken) (good-more _ _ _ (i .1) (i .3) f)) (c .passes2 .ensures .1) (marked-last _ _ _ (i .4) _ _ _ _ (marked-step _ _ _ (i .4) _ _ _ _ _ (i .6) b z (i .1) (i .2) (c .before .before .wide .ensures)) b z (c .before .if3 .taken))
 
 add-l : tie.Need-add-l Inv-loop μ-loop
 add-l c = omega (arith, c .before .before .before .before .before .loop .inv .4 .few, c .before .before .before .before .before .loop .inv .7)
-
-add-x : tie.Need-add-x Inv-loop μ-loop
-add-x c = search needs
 
 loop-less : tie.Need-loop-less Inv-loop μ-loop
 loop-less c = let i = c .before .before .before .before .before .loop .inv in let f = sym (c .before .before .before .before .is-refused .ensures) ∙ c .before .before .before .if2 .left in let b = within _ _ _ (i .4) _ _ (i .0) _ _ f in let z = stands _ _ _ (i .4) _ _ (i .0) _ _ b f in omega (arith, b)
@@ -68,22 +53,6 @@ loop-again c = let i = c .before .before .before .before .before .loop .inv in l
 pub of-range-spec : {M : Type 1} → statement M
 of-range-spec =
     tie.close
-    (tie.spec
-    Inv-loop
-    μ-loop
-    passes-requires
-    returns
-    rank-of-requires
-    loop-holds
-    is-refused-requires
-    refuses-requires
-    returns-2
-    element-copy-out-wide
-    wide-requires
-    array-write-r
-    passes-requires-2
-    returns-3
-    add-l
-    add-x
-    loop-less
-    loop-again)
+    (tie.spec Inv-loop μ-loop (search needs) returns rank-of-requires loop-holds is-refused-requires (search needs)
+    returns-2 element-copy-out-wide (search needs) array-write-r (search needs) returns-3 add-l (search needs)
+    loop-less loop-again)

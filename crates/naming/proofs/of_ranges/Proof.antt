@@ -20,18 +20,9 @@ loop-holds : tie.Need-loop-holds Inv-loop μ-loop
 unfolding entries
 loop-holds c = (passed-none _ _ _ _ _ _ _ _ (search needs), search needs, refl, c .before .pre .0, c .before .pre .1)
 
-mul-get32 : tie.Need-mul-get32 Inv-loop μ-loop
-mul-get32 c = search needs
-
 get32-requires : tie.Need-get32-requires Inv-loop μ-loop
 unfolding entries
 get32-requires c κs = omega (arith, c .before .loop .inv .2)
-
-mul-get32-2 : tie.Need-mul-get32-2 Inv-loop μ-loop
-mul-get32-2 c = search needs
-
-add-get32 : tie.Need-add-get32 Inv-loop μ-loop
-add-get32 c = search needs
 
 get32-requires-2 : tie.Need-get32-requires-2 Inv-loop μ-loop
 unfolding entries
@@ -43,17 +34,8 @@ of-range-requires c κs = let i = c .before .before .before .loop .inv in (i .3,
 returns : tie.Need-returns Inv-loop μ-loop
 returns c = let k = c .before .before .of-range .ensures in let i = c .before .before .before .before .before .before .loop .inv in names-found (c .if1 .taken) (passed-refused _ _ _ _ _ _ _ _ _ _ (i .0) _ _ (c .before .before .before .before .get32 .ensures ∙ sym (pair-start true _ _ refl)) (c .before .before .before .get322 .ensures ∙ sym (pair-stop true _ _ refl)) _ (k .refused) (c .if1 .taken) (omega (arith, i .2)))
 
-add-i : tie.Need-add-i Inv-loop μ-loop
-add-i c = search needs
-
-loop-less : tie.Need-loop-less Inv-loop μ-loop
-loop-less c = search needs
-
 loop-again : tie.Need-loop-again Inv-loop μ-loop
 loop-again c = let k = c .before .before .before .of-range .ensures in let i = c .before .before .before .before .before .before .before .loop .inv in (passed-more _ _ _ _ _ _ _ _ _ _ (i .0) _ _ (c .before .before .before .before .before .get32 .ensures ∙ sym (pair-start true _ _ refl)) (c .before .before .before .before .get322 .ensures ∙ sym (pair-stop true _ _ refl)) _ _ (k .refused) (c .before .if1 .left) (k .set (c .before .if1 .left)), search needs, i .2, i .3, i .4)
-
-passes-requires : tie.Need-passes-requires Inv-loop μ-loop
-passes-requires c κs = search needs
 
 returns-2 : tie.Need-returns-2 Inv-loop μ-loop
 returns-2 c = let i = c .before .before .loop .inv in names-none (c .passes .ensures .0) (all-good _ _ _ _ _ _ _ _ _ _ (i .0) (omega (arith, i .2))) (c .passes .ensures .1) (all-marked _ _ _ _ _ _ _ _ _ _ (i .0) (omega (arith, i .2)))
@@ -61,19 +43,5 @@ returns-2 c = let i = c .before .before .loop .inv in names-none (c .passes .ens
 pub of-ranges-spec : {M : Type 1} → statement M
 of-ranges-spec =
     tie.close
-    (tie.spec
-    Inv-loop
-    μ-loop
-    loop-holds
-    mul-get32
-    get32-requires
-    mul-get32-2
-    add-get32
-    get32-requires-2
-    of-range-requires
-    returns
-    add-i
-    loop-less
-    loop-again
-    passes-requires
-    returns-2)
+    (tie.spec Inv-loop μ-loop loop-holds (search needs) get32-requires (search needs) (search needs) get32-requires-2
+    of-range-requires returns (search needs) (search needs) loop-again (search needs) returns-2)

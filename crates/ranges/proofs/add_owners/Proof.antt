@@ -32,17 +32,11 @@ returns c = let i = c .before .before .before .loop .inv in owners-end _ _ _ (i 
 element-copy-out-wide : tie.Need-element-copy-out-wide Inv-loop μ-loop
 element-copy-out-wide c = omega (arith, c .before .before .before .loop .inv .3 .few)
 
-wide-requires : tie.Need-wide-requires Inv-loop μ-loop
-wide-requires c κs = search needs
-
 array-write-r : tie.Need-array-write-r Inv-loop μ-loop
 array-write-r c = rw (c .wide .ensures) (owner-small _ _ _ (c .before .before .before .before .before .loop .inv .3) _ (c .before .before .before .before .loop-test .taken))
 
 add-l : tie.Need-add-l Inv-loop μ-loop
 add-l c = omega (arith, c .before .before .before .before .before .loop .inv .3 .few)
-
-loop-less : tie.Need-loop-less Inv-loop μ-loop
-loop-less c = search needs
 
 loop-again : tie.Need-loop-again Inv-loop μ-loop
 loop-again c = let i = c .before .before .before .before .before .loop .inv in (owners-more _ _ _ (i .3) _ _ _ _ (i .0) (c .before .before .before .before .loop-test .taken) (rank-from _ _ (i .3 .order) _ _ (c .before .before .before .before .loop-test .taken) (i .1)) (c .before .before .if1 .left) (c .wide .ensures), search needs, search needs, i .3)
@@ -53,18 +47,5 @@ returns-2 c = let i = c .before .loop .inv in owners-end _ _ _ (i .3) _ _ _ (i .
 pub add-owners-spec : {M : Type 1} → statement M
 add-owners-spec =
     tie.close
-    (tie.spec
-    Inv-loop
-    μ-loop
-    rank-of-requires
-    loop-holds
-    mul-if1
-    element-copy-out-if1
-    returns
-    element-copy-out-wide
-    wide-requires
-    array-write-r
-    add-l
-    loop-less
-    loop-again
-    returns-2)
+    (tie.spec Inv-loop μ-loop rank-of-requires loop-holds mul-if1 element-copy-out-if1 returns element-copy-out-wide
+    (search needs) array-write-r add-l (search needs) loop-again returns-2)

@@ -15,9 +15,6 @@ Inv-loop value pairs iid owner links n r₀ i₀ r i = (r ≡ Flags r₀ (λ a. 
 abbrev μ-loop : tie.MeasureT-loop
 μ-loop value pairs iid owner links n r₀ i₀ r i = n - i
 
-entries-of-requires : tie.Need-entries-of-requires Inv-loop μ-loop
-entries-of-requires c κs = search needs
-
 loop-holds : tie.Need-loop-holds Inv-loop μ-loop
 loop-holds c = (flags-none _ _ (search needs), search needs, c .entries-of .ensures, c .before .before .pre)
 
@@ -30,12 +27,6 @@ stop-at-requires c κs = omega (arith, c .before .before .loop .inv .2)
 add-owners-requires : tie.Need-add-owners-requires Inv-loop μ-loop
 add-owners-requires c κs = c .before .before .before .loop .inv .3
 
-add-i : tie.Need-add-i Inv-loop μ-loop
-add-i c = search needs
-
-loop-less : tie.Need-loop-less Inv-loop μ-loop
-loop-less c = search needs
-
 loop-again : tie.Need-loop-again Inv-loop μ-loop
 unfolding someEntry
 loop-again c = let i = c .before .before .before .before .loop .inv in (flags-more _ _ _ _ _ (i .0) (rw (c .add-owners .ensures, c .before .stop-at .ensures, c .before .before .start-at .ensures)), search needs, i .2, i .3)
@@ -47,15 +38,5 @@ returns c = let i = c .before .loop .inv in flags-end _ _ _ _ _ (i .0) (omega (a
 pub owners-of-spec : {M : Type 1} → statement M
 owners-of-spec =
     tie.close
-    (tie.spec
-    Inv-loop
-    μ-loop
-    entries-of-requires
-    loop-holds
-    start-at-requires
-    stop-at-requires
-    add-owners-requires
-    add-i
-    loop-less
-    loop-again
-    returns)
+    (tie.spec Inv-loop μ-loop (search needs) loop-holds start-at-requires stop-at-requires add-owners-requires
+    (search needs) (search needs) loop-again returns)

@@ -24,5 +24,4 @@ returns-2 : tie.Need-returns-2
 returns-2 c = c .get322 .ensures ∙ sym (single-start _ _ _ (c .before .if1 .left))
 
 pub start-at-spec : {M : Type 1} → statement M
-start-at-spec =
-    tie.close (tie.spec mul-get32 get32-requires returns mul-get32-2 get32-requires-2 returns-2)
+start-at-spec = tie.close (tie.spec mul-get32 get32-requires returns mul-get32-2 get32-requires-2 returns-2)

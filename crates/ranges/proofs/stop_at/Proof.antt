@@ -27,6 +27,4 @@ returns-2 : tie.Need-returns-2
 returns-2 c = c .get322 .ensures ∙ sym (single-stop _ _ _ (c .before .if1 .left))
 
 pub stop-at-spec : {M : Type 1} → statement M
-stop-at-spec =
-    tie.close
-    (tie.spec mul-get32 add-get32 get32-requires returns mul-get32-2 get32-requires-2 returns-2)
+stop-at-spec = tie.close (tie.spec mul-get32 add-get32 get32-requires returns mul-get32-2 get32-requires-2 returns-2)

@@ -4,9 +4,6 @@ use Rattle.server.specs.Flag.{flagged-in, flagged-not}
 use Rattle.server.proofs.alone.Statement.{statement}
 use Rattle.server.proofs.alone.Tie as tie
 
-array-write-r : tie.Need-array-write-r
-array-write-r c = search needs
-
 returns : tie.Need-returns
 returns c = flagged-in _ (c .if1 .taken)
 
@@ -14,4 +11,4 @@ returns-2 : tie.Need-returns-2
 returns-2 c = flagged-not _ (c .if1 .left)
 
 pub alone-spec : {M : Type 1} → statement M
-alone-spec = tie.close (tie.spec array-write-r returns returns-2)
+alone-spec = tie.close (tie.spec (search needs) returns returns-2)

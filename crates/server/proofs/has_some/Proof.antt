@@ -18,15 +18,6 @@ abbrev μ-loop : tie.MeasureT-loop
 loop-holds : tie.Need-loop-holds Inv-loop μ-loop
 loop-holds c = (sym (any-none _), omega arith)
 
-array-read-found : tie.Need-array-read-found Inv-loop μ-loop
-array-read-found c = search needs
-
-add-q : tie.Need-add-q Inv-loop μ-loop
-add-q c = search needs
-
-loop-less : tie.Need-loop-less Inv-loop μ-loop
-loop-less c = search needs
-
 loop-again : tie.Need-loop-again Inv-loop μ-loop
 loop-again c = (rw any-more (rw (c .before .loop .inv .0)), search needs)
 
@@ -37,4 +28,4 @@ returns c = at-end (anyBelow _) (c .before .loop .inv .0) (c .loop-test .left) (
 pub has-some-spec : {M : Type 1} → statement M
 has-some-spec =
     tie.close
-    (tie.spec Inv-loop μ-loop loop-holds array-read-found add-q loop-less loop-again returns)
+    (tie.spec Inv-loop μ-loop loop-holds (search needs) (search needs) (search needs) loop-again returns)

@@ -6,24 +6,6 @@ use Rattle.server.specs.Flag.{overtaken-one}
 use Rattle.server.proofs.overtaken_in.Statement.{statement}
 use Rattle.server.proofs.overtaken_in.Tie as tie
 
-enum-told : tie.Need-enum-told
-enum-told c = search needs
-
-overtake-requires : tie.Need-overtake-requires
-overtake-requires c κs = search needs
-
-enum-told-2 : tie.Need-enum-told-2
-enum-told-2 c = search needs
-
-enum-told-3 : tie.Need-enum-told-3
-enum-told-3 c = search needs
-
-enum-told-4 : tie.Need-enum-told-4
-enum-told-4 c = search needs
-
-enum-told-5 : tie.Need-enum-told-5
-enum-told-5 c = search needs
-
 returns : tie.Need-returns
 returns c = let k = c .before .enum-told .given in rw (k .1) (overtaken-one _ (rw (k .1) at (c .before .before .before .before .pre)) _ _ (c .overtake .ensures))
 
@@ -46,15 +28,5 @@ returns-5 c = rw (c .enum-told5 .given .1)
 pub overtaken-in-spec : {M : Type 1} → statement M
 overtaken-in-spec =
     tie.close
-    (tie.spec
-    enum-told
-    overtake-requires
-    enum-told-2
-    enum-told-3
-    enum-told-4
-    enum-told-5
-    returns
-    returns-2
-    returns-3
-    returns-4
-    returns-5)
+    (tie.spec (search needs) (search needs) (search needs) (search needs) (search needs) (search needs) returns
+    returns-2 returns-3 returns-4 returns-5)

@@ -17,27 +17,6 @@ abbrev μ-loop : tie.MeasureT-loop
 loop-holds : tie.Need-loop-holds Inv-loop μ-loop
 loop-holds c = (laid-none _ _ (c .args .t3) (c .pre .1), omega arith)
 
-array-read-bit : tie.Need-array-read-bit Inv-loop μ-loop
-array-read-bit c = search needs
-
-bit-requires : tie.Need-bit-requires Inv-loop μ-loop
-bit-requires c κs = search needs
-
-mul-column : tie.Need-mul-column Inv-loop μ-loop
-mul-column c = search needs
-
-add-column : tie.Need-add-column Inv-loop μ-loop
-add-column c = search needs
-
-element-write-column : tie.Need-element-write-column Inv-loop μ-loop
-element-write-column c = search needs
-
-add-q : tie.Need-add-q Inv-loop μ-loop
-add-q c = search needs
-
-loop-less : tie.Need-loop-less Inv-loop μ-loop
-loop-less c = search needs
-
 loop-again : tie.Need-loop-again Inv-loop μ-loop
 loop-again c = (half-at (omega arith) (half-more _ (c .before .before .loop .inv .0) (omega arith) (c .bit .ensures .0 ∙ laid-in (c .before .before .before .args .column .now) (c .before .before .before .args .a) (c .before .before .before .args .t3) (c .before .before .loop .q) (omega arith))), search needs)
 
@@ -47,16 +26,5 @@ returns c = laid-end (c .before .before .args .column .now) (c .before .loop .co
 pub put-row-spec : {M : Type 1} → statement M
 put-row-spec =
     tie.close
-    (tie.spec
-    Inv-loop
-    μ-loop
-    loop-holds
-    array-read-bit
-    bit-requires
-    mul-column
-    add-column
-    element-write-column
-    add-q
-    loop-less
-    loop-again
-    returns)
+    (tie.spec Inv-loop μ-loop loop-holds (search needs) (search needs) (search needs) (search needs) (search needs)
+    (search needs) (search needs) loop-again returns)

@@ -5,9 +5,6 @@ use Rattle.server.specs.Record.{stateIn}
 use Rattle.server.proofs.state_in.Statement.{statement}
 use Rattle.server.proofs.state_in.Tie as tie
 
-has-some-requires : tie.Need-has-some-requires
-has-some-requires c κs = search needs
-
 returns : tie.Need-returns
 unfolding stateIn
 returns c = simp (sym (c .before .has-some .ensures) ∙ c .if1 .taken)
@@ -15,9 +12,6 @@ returns c = simp (sym (c .before .has-some .ensures) ∙ c .if1 .taken)
 returns-2 : tie.Need-returns-2
 unfolding stateIn
 returns-2 c = simp (sym (c .before .before .has-some .ensures) ∙ c .before .if1 .left, c .if2 .taken)
-
-has-some-requires-2 : tie.Need-has-some-requires-2
-has-some-requires-2 c κs = search needs
 
 returns-3 : tie.Need-returns-3
 unfolding stateIn
@@ -28,6 +22,4 @@ unfolding stateIn
 returns-4 c = simp (sym (c .before .before .before .before .before .has-some .ensures) ∙ c .before .before .before .before .if1 .left, c .before .before .before .if2 .left, sym (c .before .has-some2 .ensures) ∙ c .if3 .left)
 
 pub state-in-spec : {M : Type 1} → statement M
-state-in-spec =
-    tie.close
-    (tie.spec has-some-requires returns returns-2 has-some-requires-2 returns-3 returns-4)
+state-in-spec = tie.close (tie.spec (search needs) returns returns-2 (search needs) returns-3 returns-4)

@@ -7,9 +7,6 @@ use Rattle.servers.specs.Moved.{flagAt-set}
 use Rattle.servers.proofs.put_flag.Statement.{statement}
 use Rattle.servers.proofs.put_flag.Tie as tie
 
-element-write-column : tie.Need-element-write-column
-element-write-column c = search needs
-
 returns : tie.Need-returns
 returns c = flagAt-set _ _ _ (c .before .pre)
 
@@ -17,4 +14,4 @@ returns-2 : tie.Need-returns-2
 returns-2 c = sym (set-out _ (c .before .args .p) (c .before .args .x) (omega (arith, c .before .pre, c .if1 .left))) ∙ flagAt-set _ _ _ (c .before .pre)
 
 pub put-flag-spec : {M : Type 1} → statement M
-put-flag-spec = tie.close (tie.spec element-write-column returns returns-2)
+put-flag-spec = tie.close (tie.spec (search needs) returns returns-2)

@@ -16,23 +16,11 @@ Inv-loop up member mode active₀ waiting₀ k words₀ n named me m₀ a₀ act
 abbrev μ-loop : tie.MeasureT-loop
 μ-loop up member mode active₀ waiting₀ k words₀ n named me m₀ a₀ active waiting words m a = 16 - a
 
-flag-of-requires : tie.Need-flag-of-requires Inv-loop μ-loop
-flag-of-requires c κs = search needs
-
 loop-holds : tie.Need-loop-holds Inv-loop μ-loop
 loop-holds c = (run-none _ _ _ _ _ _ _ _ _ (c .before .before .pre .1) (c .before .before .pre .2), omega arith)
 
-array-read-step : tie.Need-array-read-step Inv-loop μ-loop
-array-read-step c = search needs
-
 step-requires : tie.Need-step-requires Inv-loop μ-loop
 step-requires c κs = let h = c .before .before .before .before .loop .inv .0 in (omega arith, omega (arith, written-length (h .wrote .wrote), emit-bound 16 (actionsAt-short _ _ _ (c .before .before .before .before .before .before .before .pre .3)) (h .wrote)), h .acts .long, c .before .before .before .before .before .before .before .pre .3, c .before .before .before .before .before .flag-of .ensures)
-
-add-a : tie.Need-add-a Inv-loop μ-loop
-add-a c = search needs
-
-loop-less : tie.Need-loop-less Inv-loop μ-loop
-loop-less c = search needs
 
 loop-again : tie.Need-loop-again Inv-loop μ-loop
 loop-again c = (run-turn _ _ _ _ _ _ _ (omega arith) (c .before .before .before .before .before .before .before .loop .inv .0) (c .before .before .step .ensures), search needs)
@@ -46,15 +34,5 @@ returns c = run-end _ _ _ _ _ _ _ (c .loop-test .left) (c .before .loop .inv .1)
 pub run-spec : {M : Type 1} → statement M
 run-spec =
     tie.close
-    (tie.spec
-    Inv-loop
-    μ-loop
-    flag-of-requires
-    loop-holds
-    array-read-step
-    step-requires
-    add-a
-    loop-less
-    loop-again
-    same-length
-    returns)
+    (tie.spec Inv-loop μ-loop (search needs) loop-holds (search needs) step-requires (search needs) (search needs)
+    loop-again same-length returns)
