@@ -1,4 +1,4 @@
-/* Reads sample M of document 01, whole and with a traffic mode that there is not, and loads a plan. */
+/* Calls each entry: sample M read, whole and with a traffic mode that there is not, and written; a plan loaded; an event of each kind. */
 #include <stdio.h>
 #include <string.h>
 #include "m2ua.h"
@@ -9,6 +9,14 @@ static void expect(const char *what, uint32_t got, uint32_t want) {
     if (got == want) return;
     printf("%s: %u, expected %u\n", what, got, want);
     failures++;
+}
+
+static uint32_t words[1032];
+
+/* the first order written */
+static void expect_order(const char *what, uint32_t to, uint32_t kind, uint32_t subject, uint32_t value) {
+    const uint32_t order[4] = {to, kind, subject, value};
+    expect(what, memcmp(words, order, sizeof order) == 0, 1);
 }
 
 int main(void) {
@@ -37,13 +45,14 @@ int main(void) {
     expect("code of M written", w.code, 0);
     expect("M written", w.length == 28 && memcmp(out, m, 28) == 0, 1);
     expect("the byte behind it", out[28], 0xaa);
-    const uint8_t smallest[36] = {0, 0, 0, 24, 0, 0, 0, 1, 0, 0, 0, 32, 0, 0, 0, 1, 0, 0, 0, 36, 0, 0, 0, 0,
-                                  0, 0, 0, 7, 0, 1, 0, 0, 0, 0, 0, 1};
-    m2ua_loaded plan = m2ua_load(smallest, sizeof smallest);
-    expect("code of the smallest plan", plan.code, 0);
+    /* ASP 0 (identifier 7) in AS 0, override, with link 100 */
+    const uint8_t plan_file[44] = {0, 0, 0, 24, 0, 0, 0, 1, 0, 0, 0, 32, 0, 0, 0, 1, 0, 0, 0, 36, 0, 0, 0, 1,
+                                   0, 0, 0, 7, 0, 1, 0, 0, 0, 0, 0, 1, 0, 0, 0, 100, 0, 0, 0, 0};
+    m2ua_loaded plan = m2ua_load(plan_file, sizeof plan_file);
+    expect("code of the plan", plan.code, 0);
     expect("identifier of its ASP", plan.gateway.aspid[0], 7);
     expect("its state is consistent", m2ua_is_consistent(plan.gateway), 1);
-    static uint32_t words[1032];
+    expect("code of a plan cut short", m2ua_load(plan_file, 43).code, 201);
     const uint8_t up[8] = {1, 0, 3, 1, 0, 0, 0, 8};
     m2ua_outcome next = m2ua_message(plan.gateway, 0, up, sizeof up, words, 1032);
     expect("refusal of Up", next.refusal, 0);
@@ -52,9 +61,30 @@ int main(void) {
     expect("its Notify", words[7], 65538);
     expect("the ASP is up", next.gateway.up[0], 1);
     expect("refusal with 1,031 words", m2ua_message(plan.gateway, 0, up, sizeof up, words, 1031).refusal, 101);
+    expect("refusal of another kind", m2ua_event(plan.gateway, 6, 0, up, sizeof up, words, 1032).refusal, 102);
+    const uint8_t active[8] = {1, 0, 4, 1, 0, 0, 0, 8};
+    next = m2ua_message(next.gateway, 0, active, sizeof active, words, 1032);
+    expect_order("Active", 0, 1027, 0, 0);
+    const uint8_t establish[16] = {1, 0, 6, 2, 0, 0, 0, 16, 0, 1, 0, 8, 0, 0, 0, 100};
+    next = m2ua_message(next.gateway, 0, establish, sizeof establish, words, 1032);
+    expect_order("Establish", 255, 1538, 100, 0);
+    next = m2ua_link_up(next.gateway, 0, words, 1032);
+    expect_order("link up", 0, 1539, 100, 0);
+    expect("the link is in service", next.gateway.state[0], 2);
+    const uint8_t data[28] = {1, 0, 6, 1, 0, 0, 0, 28, 0, 1, 0, 8, 0, 0, 0, 100, 3, 0, 0, 9, 1, 2, 3, 4, 5, 0, 0, 0};
+    next = m2ua_link_message(next.gateway, data, sizeof data, words, 1032);
+    expect_order("Data of the link side", 0, 1537, 100, 0);
+    next = m2ua_link_down(next.gateway, 0, words, 1032);
+    expect_order("link down", 0, 1542, 100, 0);
+    expect("the link is idle", next.gateway.state[0], 0);
+    next = m2ua_lost(next.gateway, 0, words, 1032);
+    expect("orders of lost", (uint32_t)next.count, 0);
+    expect("the AS waits", next.gateway.waiting[0], 1);
+    next = m2ua_recovery(next.gateway, 0, words, 1032);
+    expect("refusal of recovery", next.refusal, 0);
+    expect("the AS waits no more", next.gateway.waiting[0], 0);
     plan.gateway.up[0] = 2;
-    expect("a flag of 2 is not", m2ua_is_consistent(plan.gateway), 0);
-    expect("code of a plan cut short", m2ua_load(smallest, 35).code, 201);
+    expect("a flag of 2 is not consistent", m2ua_is_consistent(plan.gateway), 0);
     printf("C example: %s\n", failures ? "FAILED" : "ok");
     return failures != 0;
 }
