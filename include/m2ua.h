@@ -1,5 +1,5 @@
-/* The M2UA gateway library (what it does is in docs/RULES.md): the entries that `rt staticlib host` and `rt staticlib host_events` export (crates/host, crates/host_events). Link
- * target/staticlib/libhost.a and libhost_events.a.
+/* The M2UA gateway library (what it does is in docs/RULES.md): the entries that `rt staticlib host` and `rt staticlib events` export (crates/host,
+ * crates/events). Link target/staticlib/libhost.a and libevents.a.
  * Nothing checks this header against the Rattle source; examples/c tries each entry. */
 #ifndef M2UA_H
 #define M2UA_H
@@ -68,13 +68,43 @@ typedef struct {
     m2ua_gateway gateway;
 } m2ua_outcome;
 
-/* The six events (Rule 6.1). Actions are written to `words`, four words each (Rule 8.1): the number of an ASP, or 255 for the link side; class * 256 + type; subject;
- * value. The words behind them are left alone; a list of fewer than 1,032 words is refused with 101. */
-m2ua_outcome m2ua_message(m2ua_gateway g, size_t asp, const uint8_t *msg, size_t len, uint32_t *words, size_t count);
-m2ua_outcome m2ua_lost(m2ua_gateway g, size_t asp, uint32_t *words, size_t count);
-m2ua_outcome m2ua_recovery(m2ua_gateway g, size_t as, uint32_t *words, size_t count);
-m2ua_outcome m2ua_link_up(m2ua_gateway g, size_t link, uint32_t *words, size_t count);
-m2ua_outcome m2ua_link_down(m2ua_gateway g, size_t link, uint32_t *words, size_t count);
-m2ua_outcome m2ua_link_message(m2ua_gateway g, const uint8_t *msg, size_t len, uint32_t *words, size_t count);
+/* The kinds of event. */
+enum { M2UA_MESSAGE, M2UA_LOST, M2UA_RECOVERY, M2UA_LINK_UP, M2UA_LINK_DOWN, M2UA_LINK_MESSAGE };
+
+/* Every event (Rule 6.1): its kind, the ASP, AS or link place that it names, and its message where it has one. Actions are written to `words`, four words each
+ * (Rule 8.1): the number of an ASP, or 255 for the link side; class * 256 + type; subject; value. The words behind them are left alone; a list of fewer than 1,032
+ * words is refused with 101. A kind that there is not is refused as an ASP beyond the plan is. */
+m2ua_outcome m2ua_event(m2ua_gateway g, uint32_t kind, size_t index, const uint8_t *msg, size_t len, uint32_t *words, size_t count);
+
+/* The six kinds by name. */
+static inline m2ua_outcome m2ua_message(m2ua_gateway g, size_t asp, const uint8_t *msg, size_t len, uint32_t *words, size_t count) {
+    return m2ua_event(g, M2UA_MESSAGE, asp, msg, len, words, count);
+}
+
+/* An event without a message lends none of a byte's bytes: a pointer that is lent is never null. */
+static inline m2ua_outcome m2ua_without_message(m2ua_gateway g, uint32_t kind, size_t index, uint32_t *words, size_t count) {
+    const uint8_t none = 0;
+    return m2ua_event(g, kind, index, &none, 0, words, count);
+}
+
+static inline m2ua_outcome m2ua_lost(m2ua_gateway g, size_t asp, uint32_t *words, size_t count) {
+    return m2ua_without_message(g, M2UA_LOST, asp, words, count);
+}
+
+static inline m2ua_outcome m2ua_recovery(m2ua_gateway g, size_t as, uint32_t *words, size_t count) {
+    return m2ua_without_message(g, M2UA_RECOVERY, as, words, count);
+}
+
+static inline m2ua_outcome m2ua_link_up(m2ua_gateway g, size_t link, uint32_t *words, size_t count) {
+    return m2ua_without_message(g, M2UA_LINK_UP, link, words, count);
+}
+
+static inline m2ua_outcome m2ua_link_down(m2ua_gateway g, size_t link, uint32_t *words, size_t count) {
+    return m2ua_without_message(g, M2UA_LINK_DOWN, link, words, count);
+}
+
+static inline m2ua_outcome m2ua_link_message(m2ua_gateway g, const uint8_t *msg, size_t len, uint32_t *words, size_t count) {
+    return m2ua_event(g, M2UA_LINK_MESSAGE, 0, msg, len, words, count);
+}
 
 #endif

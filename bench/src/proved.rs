@@ -1,4 +1,4 @@
-//! The proved library's entries, as `rt staticlib host` exports them. Nothing checks these declarations against the Rattle source: each is
+//! The proved library's entries, as `rt staticlib host` and `rt staticlib events` export them. Nothing checks these declarations against the Rattle source: each is
 //! compared with the second program before it is timed.
 use second::read::Reading;
 use second::{Gateway, Loaded};
@@ -35,20 +35,10 @@ extern "C" {
         out_bytes: usize,
     ) -> Written;
     fn m2ua_load(file: *const u8, len: usize) -> Loaded;
-    fn m2ua_message(
+    fn m2ua_event(
         g: Gateway,
-        p: usize,
-        msg: *const u8,
-        len: usize,
-        words: *mut u32,
-        count: usize,
-    ) -> Outcome;
-    fn m2ua_lost(g: Gateway, p: usize, words: *mut u32, count: usize) -> Outcome;
-    fn m2ua_recovery(g: Gateway, a: usize, words: *mut u32, count: usize) -> Outcome;
-    fn m2ua_link_up(g: Gateway, l: usize, words: *mut u32, count: usize) -> Outcome;
-    fn m2ua_link_down(g: Gateway, l: usize, words: *mut u32, count: usize) -> Outcome;
-    fn m2ua_link_message(
-        g: Gateway,
+        kind: u32,
+        index: usize,
         msg: *const u8,
         len: usize,
         words: *mut u32,
@@ -97,12 +87,15 @@ pub fn write(
     }
 }
 
-pub fn message(g: Gateway, p: usize, msg: &[u8], words: &mut [u32]) -> Outcome {
-    // SAFETY: each pointer and length are those of one slice, any bytes are a state, and the entry has no `requires`. So for all events.
+/// An event by the number of its kind (include/m2ua.h).
+#[inline(always)]
+fn event(g: Gateway, kind: u32, index: usize, msg: &[u8], words: &mut [u32]) -> Outcome {
+    // SAFETY: each pointer and length are those of one slice, any bytes are a state, and the entry has no `requires`.
     unsafe {
-        m2ua_message(
+        m2ua_event(
             g,
-            p,
+            kind,
+            index,
             msg.as_ptr(),
             msg.len(),
             words.as_mut_ptr(),
@@ -111,22 +104,26 @@ pub fn message(g: Gateway, p: usize, msg: &[u8], words: &mut [u32]) -> Outcome {
     }
 }
 
+pub fn message(g: Gateway, p: usize, msg: &[u8], words: &mut [u32]) -> Outcome {
+    event(g, 0, p, msg, words)
+}
+
 pub fn lost(g: Gateway, p: usize, words: &mut [u32]) -> Outcome {
-    unsafe { m2ua_lost(g, p, words.as_mut_ptr(), words.len()) }
+    event(g, 1, p, &[], words)
 }
 
 pub fn recovery(g: Gateway, a: usize, words: &mut [u32]) -> Outcome {
-    unsafe { m2ua_recovery(g, a, words.as_mut_ptr(), words.len()) }
+    event(g, 2, a, &[], words)
 }
 
 pub fn link_up(g: Gateway, l: usize, words: &mut [u32]) -> Outcome {
-    unsafe { m2ua_link_up(g, l, words.as_mut_ptr(), words.len()) }
+    event(g, 3, l, &[], words)
 }
 
 pub fn link_down(g: Gateway, l: usize, words: &mut [u32]) -> Outcome {
-    unsafe { m2ua_link_down(g, l, words.as_mut_ptr(), words.len()) }
+    event(g, 4, l, &[], words)
 }
 
 pub fn link_message(g: Gateway, msg: &[u8], words: &mut [u32]) -> Outcome {
-    unsafe { m2ua_link_message(g, msg.as_ptr(), msg.len(), words.as_mut_ptr(), words.len()) }
+    event(g, 5, 0, msg, words)
 }

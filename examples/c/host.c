@@ -82,6 +82,7 @@ static void events(m2ua_gateway g) {
     expect("AS 0 waits", g.waiting[0], 1);
     g = orders("recovery of AS 0 over", m2ua_recovery(g, 0, words, 1032), 1, (uint32_t[]){1, 1, 0, 65538});
     expect("AS 0 waits no longer", g.waiting[0], 0);
+    expect("a kind that there is not", m2ua_event(g, 6, 0, up, sizeof up, words, 1032).refusal, 102);
     expect("a link beyond the plan", m2ua_link_up(g, 17, words, 1032).refusal, 102);
 }
 

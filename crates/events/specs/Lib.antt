@@ -1,4 +1,4 @@
-pub mod Active
-pub mod Kinds
 pub mod Perform
+pub mod Active
 pub mod Work
+pub mod View

@@ -170,7 +170,7 @@ fn within(ases: usize, row: [bool; 16]) -> [bool; 16]
 fn refused(g: Gateway, known: bool, room: usize) -> u32
     ensures { λ r. ⌜ r ≡ refusalOf (consistent g) known room ⌝ }
 {
-    events::refusal(g.is_consistent(), known, room)
+    ask::refusal(g.is_consistent(), known, room)
 }
 
 // The same of a message of the link side: the identifier is looked up only where the state is consistent.
@@ -183,7 +183,7 @@ fn refused_side(g: Gateway, read: Reading, room: usize) -> u32
     }
     let links = g.links;
     let known = links::is_in_plan(&g.iid, gateway::wide(links), read);
-    events::refusal(sound, known, room)
+    ask::refusal(sound, known, room)
 }
 
 // ---- the six kinds

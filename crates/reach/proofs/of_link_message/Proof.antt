@@ -7,7 +7,7 @@ use Rattle.rules.specs.Event.{linkMessage}
 use Rattle.rules.specs.Rules.{refusalOf, refusal}
 use Rattle.ranges.specs.Laws.{table}
 use Rattle.links.specs.Side.{in-plan}
-use Rattle.events.specs.Perform.{accepted}
+use Rattle.ask.specs.Inner.Refused.{accepted}
 use Rattle.reach.specs.Reached.{eventOf}
 use Rattle.reach.specs.Rows.{id-same, reached-no, reached-yes}
 use borrow.Author.Needs.{needs}

@@ -2,7 +2,7 @@
 use mathlib.Core.Path.{refl, sym, _∙_}
 use borrow.Author.Tests.{not-true, not-false}
 use Rattle.ranges.specs.Laws.{table}
-use Rattle.events.specs.Perform.{unsound}
+use Rattle.ask.specs.Inner.Refused.{unsound}
 use borrow.Author.Needs.{needs}
 use Rattle.reach.proofs.refused_side.Statement.{statement}
 use Rattle.reach.proofs.refused_side.Tie as tie

@@ -1,0 +1,50 @@
+-- Which event a call says: by the number of its kind, an index and a message.
+-- Assumes nothing.
+use Prim.Native.Nat.{ℕ}
+use mathlib.Core.Bool.{cond}
+use mathlib.Core.List.{List, [], _∷_}
+use lib.Dec.{eqb}
+use lib.ListN.{length}
+use Rattle.rules.specs.Event.{Kind, message, lost, recovery, linkUp, linkDown, linkMessage, Event}
+
+-- the numbers of the six kinds
+abbrev pub messageKind : ℕ
+messageKind = 0
+
+abbrev pub lostKind : ℕ
+lostKind = 1
+
+abbrev pub recoveryKind : ℕ
+recoveryKind = 2
+
+abbrev pub linkUpKind : ℕ
+linkUpKind = 3
+
+abbrev pub linkDownKind : ℕ
+linkDownKind = 4
+
+abbrev pub linkMessageKind : ℕ
+linkMessageKind = 5
+
+-- the event of the kind k; any other number is that of an ASP that no plan has, which is refused
+abbrev pub happened : ℕ → ℕ → List ℕ → Kind
+happened k i s =
+    cond (eqb k messageKind) (message i s)
+    (cond (eqb k lostKind) (lost i)
+    (cond (eqb k recoveryKind) (recovery i)
+    (cond (eqb k linkUpKind) (linkUp i)
+    (cond (eqb k linkDownKind) (linkDown i)
+    (cond (eqb k linkMessageKind) (linkMessage s)
+    (lost 65536))))))
+
+-- an event of a kind, with the length of its list
+abbrev pub eventOf : Kind → ℕ → Event
+eventOf k room = record { kind = k; room = room }
+
+-- the same of the lent list
+abbrev pub event : Kind → List ℕ → Event
+event k ws = eventOf k (length ws)
+
+-- the message of a class and type that has no parameters: 8 bytes
+abbrev pub plain : ℕ → ℕ → List ℕ
+plain class kind = 1 ∷ 0 ∷ class ∷ kind ∷ 0 ∷ 0 ∷ 0 ∷ 8 ∷ []

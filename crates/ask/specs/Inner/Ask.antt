@@ -1,0 +1,158 @@
+-- What an event asks of the gateway, as the code passes it: the rules' deed of it, and whether it is in the plan.
+-- Assumes nothing.
+use Prim.Native.Nat.{ℕ, _<_}
+use mathlib.Core.Path.{_≡_, refl, sym, ap, _∙_}
+use mathlib.Core.Bool.{Bool, true, false, cond, _||_}
+use mathlib.Core.List.{List, []}
+use native.Mathlib.Omega.{arith}
+use lib.Dec.{eqb, ltb}
+use borrow.Author.Tests.{ltb-true, eqb-true, eqb-false, ne-eqb}
+use Rattle.laws.specs.Tab.{tab}
+use Rattle.message.specs.Meaning.{readingOf}
+use Rattle.message.specs.declared.Reading.{Reading}
+use Rattle.gateway.specs.Laws.{Limits}
+use Rattle.gateway.specs.declared.Gateway.{Gateway}
+use Rattle.server.specs.declared.Change.the-variants.{Recover}
+use Rattle.rules.specs.Event.{Kind, message, lost, recovery, linkUp, linkDown, linkMessage}
+use Rattle.rules.specs.Deed.{Deed, change}
+use Rattle.wire.specs.Walk.{walk}
+use Rattle.rules.specs.Asp.{upDeed, downDeed, lostDeed, trafficDeed, activeDeed, inactiveDeed}
+use Rattle.rules.specs.Link.{linkUpDeed, linkDownDeed, linkMessageDeed}
+use Rattle.rules.specs.Rules.{isError, deedOf, inPlan}
+use Rattle.decide.specs.Other.{otherDeed, typeIn, message-up, message-down, message-active, message-inactive, message-other}
+use Rattle.links.specs.Side.{passes, Side, side, in-plan}
+use Rattle.ask.specs.Happened.{happened}
+use Rattle.ask.specs.declared.Ask.{Ask}
+use Rattle.ask.specs.declared.Ask.the-variants.{Up, Down, Traffic, Other, Lost, Recovery, LinkUp, LinkDown, LinkMessage}
+
+-- Active where on holds, else Inactive
+abbrev pub activeOrNot : Gateway → Bool → ℕ → List ℕ → Reading → Deed
+activeOrNot g true p s r = trafficDeed g p r (walk s 8 .pars) (activeDeed g p (r .mode))
+activeOrNot g false p s r = trafficDeed g p r (walk s 8 .pars) (inactiveDeed p)
+
+-- the rules' deed, where s is the message
+abbrev pub askDeed : Gateway → List ℕ → Ask → Deed
+askDeed g s (Up p r) = upDeed g p r
+askDeed g s (Down p) = downDeed g p
+askDeed g s (Traffic on p r) = activeOrNot g on p s r
+askDeed g s (Other p wrong r) = otherDeed g p wrong r
+askDeed g s (Lost p) = lostDeed g p
+askDeed g s (Recovery a) = change [] Recover (tab 16 (λ c. eqb c a))
+askDeed g s (LinkUp l) = linkUpDeed g l
+askDeed g s (LinkDown l) = linkDownDeed g l
+askDeed g s (LinkMessage r) = linkMessageDeed g r
+
+-- what it names is in the plan
+abbrev pub askKnown : ℕ → ℕ → ℕ → List ℕ → Ask → Bool
+askKnown asps ases links iid (Up p r) = ltb p asps
+askKnown asps ases links iid (Down p) = ltb p asps
+askKnown asps ases links iid (Traffic on p r) = ltb p asps
+askKnown asps ases links iid (Other p wrong r) = ltb p asps
+askKnown asps ases links iid (Lost p) = ltb p asps
+askKnown asps ases links iid (Recovery a) = ltb a ases
+askKnown asps ases links iid (LinkUp l) = ltb l links
+askKnown asps ases links iid (LinkDown l) = ltb l links
+askKnown asps ases links iid (LinkMessage r) = passes iid links r
+
+-- class and type are bytes
+abbrev pub AskSmall : Ask → Type 0
+AskSmall (Up p r) = _≡_ {A = ℕ} 0 0
+AskSmall (Down p) = _≡_ {A = ℕ} 0 0
+AskSmall (Traffic on p r) = _≡_ {A = ℕ} 0 0
+AskSmall (Other p wrong r) = (r .class < 256) × (r .kind < 256)
+AskSmall (Lost p) = _≡_ {A = ℕ} 0 0
+AskSmall (Recovery a) = _≡_ {A = ℕ} 0 0
+AskSmall (LinkUp l) = _≡_ {A = ℕ} 0 0
+AskSmall (LinkDown l) = _≡_ {A = ℕ} 0 0
+AskSmall (LinkMessage r) = _≡_ {A = ℕ} 0 0
+
+-- a message of ASP p by its class and type t; wrong says that it is an Error
+unfoldable pub askOf : ℕ → ℕ → Bool → Reading → Ask
+askOf p t wrong r =
+    cond (eqb t 769) (Up p r)
+    (cond (eqb t 770) (Down p)
+    (cond (eqb t 1025 || eqb t 1026) (Traffic (eqb t 1025) p r)
+    (Other p wrong r)))
+
+-- what it names is within the tables, and class and type are bytes
+abbrev pub AskFits : ℕ → List ℕ → Ask → Type 0
+AskFits links iid (Up p r) = p < 16
+AskFits links iid (Down p) = p < 16
+AskFits links iid (Traffic on p r) = p < 16
+AskFits links iid (Other p wrong r) = (p < 16) × (r .class < 256) × (r .kind < 256)
+AskFits links iid (Lost p) = p < 16
+AskFits links iid (Recovery a) = _≡_ {A = ℕ} 0 0
+AskFits links iid (LinkUp l) = l < links
+AskFits links iid (LinkDown l) = l < links
+AskFits links iid (LinkMessage r) = Side iid links r
+
+-- what is asked is that event
+pub record AsksKind (e : Kind) (s : List ℕ) (ask : Ask) : Type 0 where
+  pub deed : (g : Gateway) → askDeed g s ask ≡ deedOf g e
+  pub known : (g : Gateway) → askKnown (g .asps) (g .ases) (g .links) (g .iid) ask ≡ inPlan g e
+  pub small : AskSmall ask
+
+abbrev pub Asks : ℕ → ℕ → List ℕ → Ask → Type 0
+Asks k i s ask = AsksKind (happened k i s) s ask
+
+-- ---- laws
+
+-- what is in the plan is within the tables
+pub ask-fits : (asps ases links : ℕ) (iid : List ℕ) (ask : Ask) → Limits asps ases links → askKnown asps ases links iid ask ≡ true
+    → AskSmall ask → AskFits links iid ask
+ask-fits n m k iid (Up p r) c h q = omega (arith, ltb-true p n h, c .asps)
+ask-fits n m k iid (Down p) c h q = omega (arith, ltb-true p n h, c .asps)
+ask-fits n m k iid (Traffic on p r) c h q = omega (arith, ltb-true p n h, c .asps)
+ask-fits n m k iid (Other p wrong r) c h q = (omega (arith, ltb-true p n h, c .asps), q .0, q .1)
+ask-fits n m k iid (Lost p) c h q = omega (arith, ltb-true p n h, c .asps)
+ask-fits n m k iid (Recovery a) c h q = refl
+ask-fits n m k iid (LinkUp l) c h q = ltb-true l k h
+ask-fits n m k iid (LinkDown l) c h q = ltb-true l k h
+ask-fits n m k iid (LinkMessage r) c h q = side iid k r h
+
+pub ask-fits-at : (g : Gateway) (ask : Ask) {n : ℕ} → n ≡ g .links → Limits (g .asps) (g .ases) (g .links) → askKnown (g .asps) (g .ases) (g .links) (g .iid) ask ≡ true → AskSmall ask → AskFits n (g .iid) ask
+ask-fits-at g ask e c h q = rw e (ask-fits (g .asps) (g .ases) (g .links) (g .iid) ask c h q)
+
+-- ---- what is asked is the event
+
+pub asks-message : (p : ℕ) (s : List ℕ) → readingOf s .class < 256 → readingOf s .kind < 256 → AsksKind (message p s) s (askOf p (typeIn (isError s) (readingOf s)) (isError s) (readingOf s))
+unfolding askOf
+asks-message p s c k =
+    let t = typeIn (isError s) (readingOf s) in
+    go t refl (eqb t 769) (eqb t 770) (eqb t 1025) (eqb t 1026) refl refl refl refl
+  where
+    go : (t : ℕ) → typeIn (isError s) (readingOf s) ≡ t → (u v x y : Bool) → eqb t 769 ≡ u → eqb t 770 ≡ v → eqb t 1025 ≡ x → eqb t 1026 ≡ y
+        → AsksKind (message p s) s (cond u (Up p (readingOf s)) (cond v (Down p) (cond (x || y) (Traffic x p (readingOf s)) (Other p (isError s) (readingOf s)))))
+    go t e true v x y a b c₁ d = record { deed = λ g. sym (message-up g p s (e ∙ eqb-true t 769 a)); known = λ g. refl; small = refl }
+    go t e false true x y a b c₁ d = record { deed = λ g. sym (message-down g p s (e ∙ eqb-true t 770 b)); known = λ g. refl; small = refl }
+    go t e false false true y a b c₁ d = record { deed = λ g. sym (message-active g p s (e ∙ eqb-true t 1025 c₁)); known = λ g. refl; small = refl }
+    go t e false false false true a b c₁ d = record { deed = λ g. sym (message-inactive g p s (e ∙ eqb-true t 1026 d)); known = λ g. refl; small = refl }
+    go t e false false false false a b c₁ d =
+        record {
+          deed = λ g. sym (message-other g p s (λ z. eqb-false t 769 a (sym e ∙ z)) (λ z. eqb-false t 770 b (sym e ∙ z)) (λ z. eqb-false t 1025 c₁ (sym e ∙ z)) (λ z. eqb-false t 1026 d (sym e ∙ z)));
+          known = λ g. refl;
+          small = (c, k);
+        }
+
+module _ (k i : ℕ) (s : List ℕ) where
+  pub asks-0 : k ≡ 0 → (p : ℕ) → p ≡ i → readingOf s .class < 256 → readingOf s .kind < 256 → Asks k i s (askOf p (typeIn (isError s) (readingOf s)) (isError s) (readingOf s))
+  asks-0 e p q a b = rw (e, ← q) (asks-message p s a b)
+
+  pub asks-1 : k ≡ 1 → Asks k i s (Lost i)
+  asks-1 e = rw e (record { deed = λ g. refl; known = λ g. refl; small = refl })
+
+  pub asks-2 : k ≡ 2 → Asks k i s (Recovery i)
+  asks-2 e = rw e (record { deed = λ g. refl; known = λ g. refl; small = refl })
+
+  pub asks-3 : k ≡ 3 → Asks k i s (LinkUp i)
+  asks-3 e = rw e (record { deed = λ g. refl; known = λ g. refl; small = refl })
+
+  pub asks-4 : k ≡ 4 → Asks k i s (LinkDown i)
+  asks-4 e = rw e (record { deed = λ g. refl; known = λ g. refl; small = refl })
+
+  pub asks-5 : k ≡ 5 → Asks k i s (LinkMessage (readingOf s))
+  asks-5 e = rw e (record { deed = λ g. refl; known = λ g. in-plan g s; small = refl })
+
+  pub asks-none : (k ≡ 0 → ⊥) → (k ≡ 1 → ⊥) → (k ≡ 2 → ⊥) → (k ≡ 3 → ⊥) → (k ≡ 4 → ⊥) → (k ≡ 5 → ⊥) → Asks k i s (Lost 65536)
+  asks-none a b c d e f =
+      rw (ne-eqb k 0 a, ne-eqb k 1 b, ne-eqb k 2 c, ne-eqb k 3 d, ne-eqb k 4 e, ne-eqb k 5 f) (record { deed = λ g. refl; known = λ g. refl; small = refl })

@@ -1,0 +1,166 @@
+// What an event asks of the gateway, its message read, and whether it is refused: for the events and for reach alike.
+use message::Reading;
+ghost use mathlib.Core.Path.{_≡_};
+ghost use mathlib.Core.Bool.{true};
+ghost use Prim.Native.Nat.{_≤_};
+ghost use Rattle.gateway.specs.Sound.{ascends, consistentOf};
+ghost use Rattle.rules.specs.Rules.{refusalOf};
+ghost use Rattle.ask.specs.Inner.Ask.{askKnown, askOf, Asks};
+
+// The numbers of the six kinds of event.
+pub const MESSAGE: u32 = 0;
+pub const LOST: u32 = 1;
+pub const RECOVERY: u32 = 2;
+pub const LINK_UP: u32 = 3;
+pub const LINK_DOWN: u32 = 4;
+pub const LINK_MESSAGE: u32 = 5;
+
+// What an event asks of the gateway, its message read.
+pub enum Ask {
+    Up(usize, Reading),
+    Down(usize),
+    // Active, or Inactive
+    Traffic(bool, usize, Reading),
+    // any other message of an ASP; whether it is an Error
+    Other(usize, bool, Reading),
+    Lost(usize),
+    Recovery(usize),
+    LinkUp(usize),
+    LinkDown(usize),
+    LinkMessage(Reading),
+}
+
+// ---- refusals
+
+// "Refusals in order: 105 board not sound; 102 ..; 101 list under 1,032 words": known is that what the event names is in the plan.
+pub fn refusal(sound: bool, known: bool, room: usize) -> u32
+    ensures { λ r. ⌜ r ≡ refusalOf sound known room ⌝ }
+{
+    if sound {
+        if known {
+            if room < 1032 {
+                return 101;
+            }
+            return 0;
+        }
+        return 102;
+    }
+    105
+}
+
+// Whether what an event names is in the plan.
+fn is_known(ask: Ask, asps: usize, ases: usize, links: usize, iid: &[u32; 128]) -> bool
+    requires { ⌜ (links ≤ 128) × (ascends (now iid) links ≡ true) ⌝ }
+    ensures { λ r. ⌜ r ≡ askKnown asps ases links (now (iid .entry)) ask ⌝ }
+{
+    match ask {
+        Ask::Up(p, _) => p < asps,
+        Ask::Down(p) => p < asps,
+        Ask::Traffic(_, p, _) => p < asps,
+        Ask::Other(p, _, _) => p < asps,
+        Ask::Lost(p) => p < asps,
+        Ask::Recovery(a) => a < ases,
+        Ask::LinkUp(l) => l < links,
+        Ask::LinkDown(l) => l < links,
+        Ask::LinkMessage(r) => links::is_in_plan(iid, links, r),
+    }
+}
+
+// The refusal of an event, or 0. What it names is looked up only where the state is consistent.
+pub fn refused<'a>(
+    asps: u8,
+    ases: u8,
+    links: u8,
+    aspid: &'a [u32; 16],
+    up: &'a [u8; 16],
+    member: &'a [u8; 256],
+    active: &'a [u8; 256],
+    mode: &'a [u8; 16],
+    waiting: &'a [u8; 16],
+    iid: &'a [u32; 128],
+    owner: &'a [u8; 128],
+    state: &'a [u8; 128],
+    ask: Ask,
+    room: usize,
+) -> u32
+    ensures { λ r. ⌜ r ≡ refusalOf (consistentOf asps ases links (now (aspid .entry)) (now (up .entry)) (now (member .entry)) (now (active .entry)) (now (mode .entry)) (now (waiting .entry)) (now (iid .entry)) (now (owner .entry)) (now (state .entry))) (askKnown asps ases links (now (iid .entry)) ask) room ⌝ }
+{
+    let sound = gateway::consistent_of(
+        asps,
+        ases,
+        links,
+        aspid,
+        up,
+        member,
+        active,
+        mode,
+        waiting,
+        iid,
+        owner,
+        state,
+    );
+    if !sound {
+        return 105;
+    }
+    let known = is_known(
+        ask,
+        gateway::wide(asps),
+        gateway::wide(ases),
+        gateway::wide(links),
+        iid,
+    );
+    refusal(sound, known, room)
+}
+
+// ---- what is asked
+
+// The message of an ASP, by its class and type.
+fn ask_of(p: usize, t: u32, error: bool, read: Reading) -> Ask
+    ensures { λ r. ⌜ r ≡ askOf p t error read ⌝ }
+{
+    if t == 769 {
+        return Ask::Up(p, read);
+    }
+    if t == 770 {
+        return Ask::Down(p);
+    }
+    if (t == 1025) | (t == 1026) {
+        return Ask::Traffic(t == 1025, p, read);
+    }
+    Ask::Other(p, error, read)
+}
+
+// A message of ASP p.
+fn ask_message(p: usize, msg: &[u8]) -> Ask
+    ensures { λ r. ⌜ Asks 0 p (now (msg .entry)) r ⌝ }
+{
+    let read = message::read(msg);
+    let error = decide::is_error(msg);
+    let t = decide::type_of(error, read);
+    ask_of(p, t, error, read)
+}
+
+// An event by the number of its kind, with the index and the message that it has.
+pub fn asked(kind: u32, i: usize, msg: &[u8]) -> Ask
+    ensures { λ r. ⌜ Asks kind i (now (msg .entry)) r ⌝ }
+{
+    if kind == MESSAGE {
+        return ask_message(i, msg);
+    }
+    if kind == LOST {
+        return Ask::Lost(i);
+    }
+    if kind == RECOVERY {
+        return Ask::Recovery(i);
+    }
+    if kind == LINK_UP {
+        return Ask::LinkUp(i);
+    }
+    if kind == LINK_DOWN {
+        return Ask::LinkDown(i);
+    }
+    if kind == LINK_MESSAGE {
+        return Ask::LinkMessage(message::read(msg));
+    }
+    Ask::Lost(65536)
+}

@@ -1,0 +1,118 @@
+-- `events::m2ua_event`: refused, or what is decided is done. Assumes nothing.
+use mathlib.Core.Path.{_≡_, ap, sym, _∙_}
+use mathlib.Core.Bool.{Bool}
+use mathlib.Core.List.{List}
+use Prim.Native.Nat.{ℕ}
+use lib.ListN.{length}
+use Rattle.gateway.specs.Sound.{consistent}
+use Rattle.gateway.specs.Laws.{counts-within}
+use Rattle.gateway.specs.declared.Gateway.{Gateway}
+use Rattle.ranges.specs.Laws.{table}
+use Rattle.rules.specs.Event.{Kind}
+use Rattle.rules.specs.Rules.{refusalOf, inPlan, deedOf}
+use Rattle.rules.specs.Work.{deedIn}
+use Rattle.ask.specs.Happened.{happened}
+use Rattle.ask.specs.Inner.Ask.{ask-fits-at}
+use Rattle.events.specs.View.{ask-same-at}
+use Rattle.events.specs.Work.{performed}
+use Rattle.ask.specs.Inner.Refused.{Accepted, accepted}
+use Rattle.events.specs.Perform.{handed-no, handed-yes}
+use borrow.Author.Needs.{needs}
+use Rattle.events.proofs.m2ua_event.Statement.{statement}
+use Rattle.events.proofs.m2ua_event.Tie as tie
+
+-- the way back: a further column that is lent makes it one longer
+abbrev to-asked : tie.After-refused → tie.After-asked
+to-asked c = c .before .before .before .before .before .before .before .before .before .before .before
+
+abbrev start : tie.After-asked → tie.Start
+start c = c .before .before .before
+
+abbrev to-refused : tie.After-decided → tie.After-refused
+to-refused c = c .before .before .before .before .before .before .before .before .before .before .before .before
+
+abbrev to-decided : tie.After-enact → tie.After-decided
+to-decided c = c .before .before .before .before .before .before .before .before .before .before .before
+
+-- the event
+abbrev happens : tie.After-asked → Kind
+happens c = happened (start c .args .kind) (start c .args .i) (start c .args .msg .now)
+
+-- the lengths of the columns that change
+up-long : (c : tie.Start) → length (c .args .g .up) ≡ 16
+up-long c = search needs
+
+active-long : (c : tie.Start) → length (c .args .g .active) ≡ 256
+active-long c = search needs
+
+waiting-long : (c : tie.Start) → length (c .args .g .waiting) ≡ 16
+waiting-long c = search needs
+
+state-long : (c : tie.Start) → length (c .args .g .state) ≡ 128
+state-long c = search needs
+
+refusal-is : (c : tie.After-refused) → c .refused .result ≡ refusalOf (consistent (start (to-asked c) .args .g)) (inPlan (start (to-asked c) .args .g) (happens (to-asked c))) (length (start (to-asked c) .args .words .now))
+refusal-is c =
+    c .refused .ensures
+    ∙ ap (λ (k : Bool). refusalOf (consistent (start (to-asked c) .args .g)) k (length (start (to-asked c) .args .words .now))) (to-asked c .asked .ensures .known (start (to-asked c) .args .g))
+
+taken : (c : tie.After-refused) → c .refused .result ≡ 0 → Accepted (consistent (start (to-asked c) .args .g)) (inPlan (start (to-asked c) .args .g) (happens (to-asked c))) (length (start (to-asked c) .args .words .now))
+taken c h = accepted _ _ _ (sym (refusal-is c) ∙ h)
+
+deed-is : (c : tie.After-decided) → deedIn (c .decided .result) ≡ deedOf (start (to-asked (to-refused c)) .args .g) (happens (to-asked (to-refused c)))
+deed-is c =
+    c .decided .ensures .is
+    ∙ ask-same-at (start (to-asked (to-refused c)) .args .g) _ (to-asked (to-refused c) .asked .result) (c .before .before .before .before .before .before .before .before .before .before .wide .ensures)
+    ∙ to-asked (to-refused c) .asked .ensures .deed (start (to-asked (to-refused c)) .args .g)
+
+asked-requires : tie.Need-asked-requires
+asked-requires c κs = search needs
+
+refused-requires : tie.Need-refused-requires
+refused-requires c κs = search needs
+
+returns : tie.Need-returns
+returns c = handed-no _ (happens (to-asked (c .before))) (refusal-is (c .before)) (c .if1 .taken)
+
+wide-requires : tie.Need-wide-requires
+wide-requires c κs = search needs
+
+decided-requires : tie.Need-decided-requires
+decided-requires c κs =
+    let r = c .before .before .before .before .before .before .before .before .before .before .before in
+    let g = start (to-asked r) .args .g in
+    let a = to-asked r .asked .ensures in
+    let t = taken r (c .before .before .before .before .before .before .before .before .before .before .if1 .left) in
+    (rw (c .before .before .before .before .before .before .before .before .before .wide .ensures) (table g (t .sound-yes)), ask-fits-at g (to-asked r .asked .result) (c .before .before .before .before .before .before .before .before .before .wide .ensures) (counts-within g (t .sound-yes)) (a .known g ∙ t .known-yes) (a .small))
+
+enact-requires : tie.Need-enact-requires
+enact-requires c κs =
+    let d = c .before .before .before .before .before .before .before .before .before .before in
+    let z = start (to-asked (to-refused d)) in
+    (taken (to-refused d) (d .before .before .before .before .before .before .before .before .before .before .before .if1 .left) .enough, d .decided .ensures .asp, up-long z, active-long z, waiting-long z)
+
+settle-requires : tie.Need-settle-requires
+settle-requires c κs = let d = to-decided (c .before .before .before) in (d .decided .ensures .place, state-long (start (to-asked (to-refused d))))
+
+same-length : tie.Need-same-length
+same-length c = search needs
+
+returns-2 : tie.Need-returns-2
+returns-2 c =
+    let d = to-decided (c .before .before .before .before) in
+    let r = to-refused d in
+    handed-yes _ (happens (to-asked r)) (refusal-is r) (d .before .before .before .before .before .before .before .before .before .before .before .if1 .left) (deed-is d) (performed (start (to-asked r) .args .g) _ (c .before .before .before .before .enact .ensures) (c .settle .ensures))
+
+pub m2ua-event-spec : {M : Type 1} → statement M
+m2ua-event-spec =
+    tie.close
+    (tie.spec
+    asked-requires
+    refused-requires
+    returns
+    wide-requires
+    decided-requires
+    enact-requires
+    settle-requires
+    same-length
+    returns-2)
