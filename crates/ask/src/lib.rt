@@ -32,7 +32,7 @@ pub enum Ask {
 
 // ---- refusals
 
-// "Refusals in order: 105 board not sound; 102 ..; 101 list under 1,032 words": known is that what the event names is in the plan.
+// Rule 6.3: 105, then 102, then 101; known is that what the event names is in the plan.
 pub fn refusal(sound: bool, known: bool, room: usize) -> u32
     ensures { λ r. ⌜ r ≡ refusalOf sound known room ⌝ }
 {
