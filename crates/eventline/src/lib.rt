@@ -196,20 +196,6 @@ fn put_order(out: &mut [u8; 65536], at: usize, a: u32, c: u32, s: u32, v: u32) -
     put_field(out, w, v, b')')
 }
 
-// The first orders of a list; as many as it has, and at most 258.
-fn orders_in(list: &[u32], count: u32) -> usize
-    ensures { λ r. ⌜ (r ≤ 258) × (4 * r ≤ length (now (list .entry))) ⌝ }
-{
-    let room = list.len() / 4;
-    if count > 258 {
-        return 0;
-    }
-    if (count as usize) > room {
-        return 0;
-    }
-    count as usize
-}
-
 fn put_orders(out: &mut [u8; 65536], from: usize, list: &[u32], n: usize) -> usize
     requires { ⌜ (from + 11868 ≤ 65536) × (n ≤ 258) × (4 * n ≤ length (now list)) ⌝ }
     ensures { λ r. ⌜ r ≤ from + 11868 ⌝ }
@@ -228,9 +214,9 @@ fn put_orders(out: &mut [u8; 65536], from: usize, list: &[u32], n: usize) -> usi
     at
 }
 
-// `N COUNT (a,c,s,v) ..`, or `R NUMBER`
+// `N COUNT (a,c,s,v) ..`, or `R NUMBER`. No event has more than 258 orders (Rule 8.7).
 pub fn put_outcome(out: &mut [u8; 65536], at: usize, code: u32, count: u32, list: &[u32]) -> usize
-    requires { ⌜ at + 17000 ≤ 65536 ⌝ }
+    requires { ⌜ (at + 17000 ≤ 65536) × (count ≤ 258) × (4 * count ≤ length (now list)) ⌝ }
     ensures { λ r. ⌜ r ≤ at + 17000 ⌝ }
 {
     if code != 0 {
@@ -239,7 +225,7 @@ pub fn put_outcome(out: &mut [u8; 65536], at: usize, code: u32, count: u32, list
     }
     let next = put_bytes(out, at, b"N ");
     let from = put_number(out, next, count);
-    put_orders(out, from, list, orders_in(list, count))
+    put_orders(out, from, list, count as usize)
 }
 
 // A number after a comma; the first has none.

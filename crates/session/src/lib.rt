@@ -246,20 +246,12 @@ fn write(rest: &[u8], bytes: &mut [u8; 32768], out: &mut [u8; 65536], s: State) 
 
 // ---- `msg`, `lost`, `recovery`, `up`, `down`, `linkmsg`
 
-// The count as a number of 32 bits. The entries never count more than 258.
-fn count_of(n: usize) -> u32 {
-    if n > 258 {
-        return 0;
-    }
-    n as u32
-}
-
 // The text of an outcome; its gateway becomes the current one.
 fn told(o: Outcome, list: &[u32; 2048], out: &mut [u8; 65536], used: usize) -> State
-    requires { ⌜ used + 17000 ≤ 65536 ⌝ }
+    requires { ⌜ (used + 17000 ≤ 65536) × (o .count ≤ 258) ⌝ }
     ensures { λ r. ⌜ r .used ≤ used + 17000 ⌝ }
 {
-    let next = put_outcome(out, used, o.refusal, count_of(o.count), list);
+    let next = put_outcome(out, used, o.refusal, o.count as u32, list);
     let gateway = o.gateway;
     State {
         used: next,
