@@ -102,15 +102,15 @@ rows asps ases links aspid mask spare mode iid owner h =
     let d = allBelow (differs aspid) asps in
     let e = ascends iid links in
     let f = allUnder owner ases links in
-    let l = and-left ((a && b) && (c && d)) (e && f) h in
-    let r = and-right ((a && b) && (c && d)) (e && f) h in
+    let l = and-left (a && (b && c)) (d && (e && f)) h in
+    let r = and-right (a && (b && c)) (d && (e && f)) h in
     record {
-      traffic = and-left a b (and-left (a && b) (c && d) l);
-      inside = and-right a b (and-left (a && b) (c && d) l);
-      zero = and-left c d (and-right (a && b) (c && d) l);
-      differ = and-right c d (and-right (a && b) (c && d) l);
-      order = and-left e f r;
-      owned = and-right e f r;
+      traffic = and-left a (b && c) l;
+      inside = and-left b c (and-right a (b && c) l);
+      zero = and-right b c (and-right a (b && c) l);
+      differ = and-left d (e && f) r;
+      order = and-left e f (and-right d (e && f) r);
+      owned = and-right e f (and-right d (e && f) r);
     }
 
 -- a row of a table is what was read

@@ -2,3 +2,4 @@ pub mod Fresh
 pub mod Laws
 pub mod Layout
 pub mod Plan
+pub mod Inner

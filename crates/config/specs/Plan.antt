@@ -1,4 +1,4 @@
--- The plan file: what it says, and which files are refused (Rules 4.1 to 4.7).
+-- The plan file: what it says (Rules 4.1 to 4.3), and which files are refused (Rules 4.4, 4.5).
 -- Assumes nothing.
 use Prim.Native.Nat.{ℕ, _+_, _*_, _/_, _%_, _^_}
 use mathlib.Core.Bool.{Bool, _&&_, cond}
@@ -12,12 +12,13 @@ use Rattle.gateway.specs.Sound.{zeros, differs, ascends, allUnder}
 use Rattle.gateway.specs.declared.Gateway.{Gateway}
 use Rattle.config.specs.declared.Loaded.{Loaded}
 
--- A body (Rule 4.2): the size of its rows, its least and its most rows.
+-- A body: the size of its rows, its least and its most rows.
 pub record Body : Type 0 where
   pub row : ℕ
   pub least : ℕ
   pub most : ℕ
 
+-- ASPs: identifier, mask, spare. ASes: mode. Links: identifier, owner. (Rule 4.2)
 abbrev pub aspBody : Body
 aspBody = record { row = 8; least = 1; most = 16 }
 
@@ -30,25 +31,25 @@ linkBody = record { row = 8; least = 0; most = 128 }
 abbrev pub bodies : List Body
 bodies = aspBody ∷ asBody ∷ linkBody ∷ []
 
--- the bytes before the bodies (Rule 4.1)
+-- the bytes in front of the bodies: an offset and a count for each (Rule 4.1)
 abbrev pub contents : ℕ
 contents = 24
 
--- where body i starts, and how many rows it has
+-- those of body i
 unfoldable pub offset : List ℕ → ℕ → ℕ
 offset s i = be 4 s (i * 8)
 
 unfoldable pub count : List ℕ → ℕ → ℕ
 count s i = be 4 s (i * 8 + 4)
 
--- the bodies from number i on lie one behind the other from a position to the file's end (Rule 4.2)
+-- Each body starts where the one before it ends, and the last ends with the file: the bodies from number i on, the first of which starts at a position.
 unfoldable pub follow : List Body → List ℕ → ℕ → ℕ → Bool
 follow [] s i at = eqb at (length s)
 follow (b ∷ bs) s i at =
     (eqb (offset s i) at && (leb (b .least) (count s i) && leb (count s i) (b .most)))
     && follow bs s (i + 1) (at + b .row * count s i)
 
--- what must hold, or else 201 (Rule 4.4)
+-- else 201 (Rule 4.4)
 unfoldable pub laidOut : List ℕ → Bool
 laidOut s = leb contents (length s) && follow bodies s 0 contents
 
@@ -56,12 +57,9 @@ laidOut s = leb contents (length s) && follow bodies s 0 contents
 unfoldable pub column : ℕ → ℕ → (ℕ → ℕ) → List ℕ
 column places n f = tab places (λ i. cond (ltb i n) (f i) 0)
 
--- the n rows of a body, a field of which stands at a position in the first row: words and halves of ASP rows, words of AS and link rows
+-- a word of each of n rows, which stands at a position in the first of them: of ASP rows, AS rows and link rows
 abbrev pub aspWords : List ℕ → ℕ → ℕ → List ℕ
 aspWords s at n = column 16 n (λ p. be 4 s (at + aspBody .row * p))
-
-abbrev pub aspHalves : List ℕ → ℕ → ℕ → List ℕ
-aspHalves s at n = column 16 n (λ p. be 2 s (at + aspBody .row * p))
 
 abbrev pub asWords : List ℕ → ℕ → ℕ → List ℕ
 asWords s at n = column 16 n (λ a. be 4 s (at + asBody .row * a))
@@ -69,39 +67,46 @@ asWords s at n = column 16 n (λ a. be 4 s (at + asBody .row * a))
 abbrev pub linkWords : List ℕ → ℕ → ℕ → List ℕ
 linkWords s at n = column 128 n (λ l. be 4 s (at + linkBody .row * l))
 
--- a row of an ASP: identifier, mask, spare
+-- the fields of ASPs
 unfoldable pub aspIds : List ℕ → List ℕ
 aspIds s = aspWords s (offset s 0) (count s 0)
 
+-- the second word of an ASP's row: a mask of 16 bits, and 16 spare bits
+abbrev pub high : ℕ → ℕ
+high x = x / 65536
+
+abbrev pub low : ℕ → ℕ
+low x = x % 65536
+
 unfoldable pub masks : List ℕ → List ℕ
-masks s = aspHalves s (offset s 0 + 4) (count s 0)
+masks s = column 16 (count s 0) (λ p. high (be 4 s (offset s 0 + 4 + aspBody .row * p)))
 
 unfoldable pub spares : List ℕ → List ℕ
-spares s = aspHalves s (offset s 0 + 6) (count s 0)
+spares s = column 16 (count s 0) (λ p. low (be 4 s (offset s 0 + 4 + aspBody .row * p)))
 
--- a row of an AS: its traffic mode
+-- the field of ASes
 unfoldable pub modes : List ℕ → List ℕ
 modes s = asWords s (offset s 1) (count s 1)
 
--- a row of a link: identifier, owner
+-- the fields of links
 unfoldable pub linkIds : List ℕ → List ℕ
 linkIds s = linkWords s (offset s 2) (count s 2)
 
 unfoldable pub owners : List ℕ → List ℕ
 owners s = linkWords s (offset s 2 + 4) (count s 2)
 
--- bit a of a mask, 0 or 1, and the bits from a on as one number (Rule 4.3)
+-- bit a of a mask, 0 or 1, and the bits from a on as one number
 abbrev pub bit : ℕ → ℕ → ℕ
 bit mask a = mask / 2 ^ a % 2
 
 abbrev pub bitsFrom : ℕ → ℕ → ℕ
 bitsFrom mask a = mask / 2 ^ a
 
--- every AS has one of the three traffic modes
+-- each AS has one of the three modes
 unfoldable pub modesOk : List ℕ → ℕ → Bool
 modesOk mode ases = allBelow (λ a. leb 1 (col mode a) && leb (col mode a) 3) ases
 
--- no mask has a bit for an AS that is not there
+-- no mask has a bit for an AS that the plan has not
 unfoldable pub masksOk : List ℕ → ℕ → ℕ → Bool
 masksOk mask asps ases = allBelow (λ p. eqb (bitsFrom (col mask p) ases) 0) asps
 
@@ -109,17 +114,17 @@ masksOk mask asps ases = allBelow (λ p. eqb (bitsFrom (col mask p) ases) 0) asp
 unfoldable pub sparesOk : List ℕ → ℕ → Bool
 sparesOk spare asps = allBelow (λ p. eqb (col spare p) 0) asps
 
--- what must hold of the rows, or else 202 (Rule 4.5)
+-- else 202 (Rule 4.5): besides, no two ASPs share an identifier, those of links ascend, and owners are the plan's
 unfoldable pub rowsOk : ℕ → ℕ → ℕ → List ℕ → List ℕ → List ℕ → List ℕ → List ℕ → List ℕ → Bool
 rowsOk asps ases links aspid mask spare mode iid owner =
-    ((modesOk mode ases && masksOk mask asps ases) && (sparesOk spare asps && allBelow (differs aspid) asps))
-    && (ascends iid links && allUnder owner ases links)
+    (modesOk mode ases && (masksOk mask asps ases && sparesOk spare asps))
+    && (allBelow (differs aspid) asps && (ascends iid links && allUnder owner ases links))
 
 -- member or not, pair by pair, of the masks
 unfoldable pub members : List ℕ → List ℕ
 members mask = tab 256 (λ i. bit (col mask (i % 16)) (i / 16))
 
--- the fresh state of a plan (Rule 4.6)
+-- the state with the plan's tables in which nothing has happened yet (Rule 4.6)
 unfoldable pub fresh : ℕ → ℕ → ℕ → List ℕ → List ℕ → List ℕ → List ℕ → List ℕ → Gateway
 fresh asps ases links aspid mask mode iid owner =
     record {

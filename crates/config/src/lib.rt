@@ -1,12 +1,14 @@
-// The plan file: a fresh state of the gateway, or a refusal (Rules 4.4 to 4.7).
+// The plan file: a fresh state of the gateway (Rule 4.6), or a refusal (Rules 4.4, 4.5, 4.7).
 ghost use mathlib.Core.Path.{_≡_};
 ghost use mathlib.Core.Bool.{true, _&&_};
 ghost use Prim.Native.Nat.{_+_, _*_, _<_, _≤_};
-ghost use lib.Dec.{leb, eqb};
+ghost use lib.Dec.{leb, ltb, eqb};
 ghost use lib.ListN.{length};
-ghost use Rattle.gateway.specs.Sound.{allUnder};
-ghost use Rattle.config.specs.Plan.{offset, count, laidOut, aspWords, aspHalves, asWords, linkWords, modesOk, masksOk, sparesOk, rowsOk, bit, members, fresh, accepted, built, loadOf};
+ghost use Rattle.laws.specs.Below.{allBelow};
+ghost use Rattle.laws.specs.Tab.{col, HalfCol};
+ghost use Rattle.config.specs.Plan.{offset, count, laidOut, column, asWords, linkWords, rowsOk, bit, bitsFrom, high, low, members, fresh, accepted, built, loadOf};
 ghost use Rattle.config.specs.Layout.{Inside, placesOf};
+ghost use Rattle.config.specs.Inner.Tables.{wordOf, RowsIn, AllIn, highs, lows};
 use gateway::Gateway;
 
 const CONTENTS: usize = 24;
@@ -67,88 +69,68 @@ fn laid_out(s: &[u8]) -> bool
 
 // ---- the rows, as tables with zeros beyond them
 
-fn asp_words(s: &[u8], at: usize, n: usize) -> [u32; 16]
-    requires { ⌜ (n ≤ 16) × (at + 8 * n ≤ length (now s) + 4) ⌝ }
-    ensures { λ r. ⌜ r ≡ aspWords (now (s .entry)) at n ⌝ }
+// One word of each of n rows: the first at a position, every next one a row further on.
+fn fill(s: &[u8], at: usize, row: usize, n: usize, out: &mut [u32])
+    requires { ⌜ (n ≤ length (now out)) × RowsIn (length (now s)) at row n ⌝ }
+    ensures { λ _. ⌜ HalfCol (wordOf (now (s .entry)) at row) (col (now (out .entry))) (length (now (out .entry))) n (now (out .exit)) ⌝ }
+{
+    for i in 0..n {
+        out[i] = wire::get32(s, at + row * i);
+    }
+}
+
+fn words_16(s: &[u8], at: usize, row: usize, n: usize) -> [u32; 16]
+    requires { ⌜ (n ≤ 16) × RowsIn (length (now s)) at row n ⌝ }
+    ensures { λ r. ⌜ r ≡ column 16 n (wordOf (now (s .entry)) at row) ⌝ }
 {
     let mut r = [0u32; 16];
-    for p in 0..n {
-        r[p] = wire::get32(s, at + ASP_ROW * p);
-    }
+    fill(s, at, row, n, &mut r);
     r
 }
 
-fn asp_halves(s: &[u8], at: usize, n: usize) -> [u16; 16]
-    requires { ⌜ (n ≤ 16) × (at + 8 * n ≤ length (now s) + 6) ⌝ }
-    ensures { λ r. ⌜ r ≡ aspHalves (now (s .entry)) at n ⌝ }
-{
-    let mut r = [0u16; 16];
-    for p in 0..n {
-        r[p] = wire::get16(s, at + ASP_ROW * p);
-    }
-    r
-}
-
-fn link_words(s: &[u8], at: usize, n: usize) -> [u32; 128]
-    requires { ⌜ (n ≤ 128) × (at + 8 * n ≤ length (now s) + 4) ⌝ }
-    ensures { λ r. ⌜ r ≡ linkWords (now (s .entry)) at n ⌝ }
+fn words_128(s: &[u8], at: usize, row: usize, n: usize) -> [u32; 128]
+    requires { ⌜ (n ≤ 128) × RowsIn (length (now s)) at row n ⌝ }
+    ensures { λ r. ⌜ r ≡ column 128 n (wordOf (now (s .entry)) at row) ⌝ }
 {
     let mut r = [0u32; 128];
-    for l in 0..n {
-        r[l] = wire::get32(s, at + LINK_ROW * l);
-    }
+    fill(s, at, row, n, &mut r);
     r
 }
 
-// ---- the conditions on rows
+// The same for words that are bytes.
+fn fill_bytes(s: &[u8], at: usize, row: usize, n: usize, out: &mut [u8])
+    requires { ⌜ (n ≤ length (now out)) × RowsIn (length (now s)) at row n × AllIn (wordOf (now s) at row) n 256 ⌝ }
+    ensures { λ _. ⌜ HalfCol (wordOf (now (s .entry)) at row) (col (now (out .entry))) (length (now (out .entry))) n (now (out .exit)) ⌝ }
+{
+    for i in 0..n {
+        out[i] = wire::get32(s, at + row * i) as u8;
+    }
+}
 
-fn modes_ok(s: &[u8], at: usize, ases: usize) -> bool
-    requires { ⌜ (ases ≤ 16) × (at + 4 * ases ≤ length (now s)) ⌝ }
-    ensures { λ r. ⌜ r ≡ modesOk (asWords (now (s .entry)) at ases) ases ⌝ }
+// ---- the conditions on rows (Rule 4.5)
+
+// The words of n rows are from least on, and below an end.
+fn all_in(s: &[u8], at: usize, row: usize, n: usize, least: u32, end: u32) -> bool
+    requires { ⌜ RowsIn (length (now s)) at row n ⌝ }
+    ensures { λ r. ⌜ r ≡ allBelow (λ i. leb least (wordOf (now (s .entry)) at row i) && ltb (wordOf (now (s .entry)) at row i) end) n ⌝ }
 {
     let mut ok = true;
-    for a in 0..ases {
-        let x = wire::get32(s, at + AS_ROW * a);
-        ok = ok & ((1 <= x) & (x <= 3));
+    for i in 0..n {
+        let x = wire::get32(s, at + row * i);
+        ok = ok & ((least <= x) & (x < end));
     }
     ok
 }
 
-fn long(x: u16) -> u32
-    ensures { λ r. ⌜ (r ≡ x) × (r < 65536) ⌝ }
-{
-    x as u32
-}
-
-fn masks_ok(mask: &[u16; 16], asps: usize, ases: u32) -> bool
+// The second word of an ASP's row: its mask, then the spare.
+fn masks_ok(second: &[u32; 16], asps: usize, ases: u32) -> bool
     requires { ⌜ (asps ≤ 16) × (ases ≤ 16) ⌝ }
-    ensures { λ r. ⌜ r ≡ masksOk (now (mask .entry)) asps ases ⌝ }
+    ensures { λ r. ⌜ r ≡ allBelow (λ p. eqb (bitsFrom (high (col (now (second .entry)) p)) ases) 0 && eqb (low (col (now (second .entry)) p)) 0) asps ⌝ }
 {
     let mut ok = true;
     for p in 0..asps {
-        ok = ok & (long(mask[p]) >> ases == 0);
-    }
-    ok
-}
-
-fn spares_ok(s: &[u8], at: usize, asps: usize) -> bool
-    requires { ⌜ (asps ≤ 16) × (at + 8 * asps ≤ length (now s) + 6) ⌝ }
-    ensures { λ r. ⌜ r ≡ sparesOk (aspHalves (now (s .entry)) at asps) asps ⌝ }
-{
-    let mut ok = true;
-    for p in 0..asps {
-        ok = ok & (wire::get16(s, at + ASP_ROW * p) == 0);
-    }
-    ok
-}
-
-fn owners_ok(s: &[u8], at: usize, ases: u32, links: usize) -> bool
-    requires { ⌜ (links ≤ 128) × (at + 8 * links ≤ length (now s) + 4) ⌝ }
-    ensures { λ r. ⌜ r ≡ allUnder (linkWords (now (s .entry)) at links) ases links ⌝ }
-{
-    let mut ok = true;
-    for l in 0..links {
-        ok = ok & (wire::get32(s, at + LINK_ROW * l) < ases);
+        let x = second[p];
+        ok = ok & (((x / 65536) >> ases == 0) & (x % 65536 == 0));
     }
     ok
 }
@@ -167,79 +149,57 @@ fn rows_ok<'a>(
     s: &[u8],
     t: Places,
     aspid: &'a [u32; 16],
-    mask: &'a [u16; 16],
+    second: &'a [u32; 16],
     iid: &'a [u32; 128],
 ) -> bool
     requires { ⌜ Inside t (length (now s)) ⌝ }
-    ensures { λ r. ⌜ r ≡ rowsOk (t .asps) (t .ases) (t .links) (now (aspid .entry)) (now (mask .entry)) (aspHalves (now (s .entry)) (t .x + 6) (t .asps)) (asWords (now (s .entry)) (t .y) (t .ases)) (now (iid .entry)) (linkWords (now (s .entry)) (t .z + 4) (t .links)) ⌝ }
+    ensures { λ r. ⌜ r ≡ rowsOk (t .asps) (t .ases) (t .links) (now (aspid .entry)) (highs (now (second .entry))) (lows (now (second .entry))) (asWords (now (s .entry)) (t .y) (t .ases)) (now (iid .entry)) (linkWords (now (s .entry)) (t .z + 4) (t .links)) ⌝ }
 {
     let m = t.ases as u32;
-    let traffic = modes_ok(s, t.y, t.ases);
-    let inside = masks_ok(mask, t.asps, m);
-    let zero = spares_ok(s, t.x + 6, t.asps);
+    let traffic = all_in(s, t.y, AS_ROW, t.ases, 1, 4);
+    let masked = masks_ok(second, t.asps, m);
     let differ = gateway::all_new(aspid, t.asps);
     let order = gateway::ascending(iid, t.links);
-    let owned = owners_ok(s, t.z + 4, m, t.links);
-    ((traffic & inside) & (zero & differ)) & (order & owned)
+    let owned = all_in(s, t.z + 4, LINK_ROW, t.links, 0, m);
+    (traffic & masked) & (differ & (order & owned))
 }
 
-// ---- the fresh state
+// ---- the fresh state (Rule 4.6)
 
-fn bit_of(mask: u16, a: u16) -> u8
+fn bit_of(word: u32, a: u32) -> u8
     requires { ⌜ a < 16 ⌝ }
-    ensures { λ r. ⌜ r ≡ bit mask a ⌝ }
+    ensures { λ r. ⌜ r ≡ bit (high word) a ⌝ }
 {
-    ((mask >> a) % 2) as u8
+    (((word / 65536) >> a) % 2) as u8
 }
 
-fn members_of(mask: &[u16; 16]) -> [u8; 256]
-    ensures { λ r. ⌜ r ≡ members (now (mask .entry)) ⌝ }
+fn members_of(second: &[u32; 16]) -> [u8; 256]
+    ensures { λ r. ⌜ r ≡ members (highs (now (second .entry))) ⌝ }
 {
     let mut r = [0u8; 256];
-    for a in 0..16u16 {
+    for a in 0..16u32 {
         for q in 0..16usize {
-            r[(a as usize) * 16 + q] = bit_of(mask[q], a);
+            r[(a as usize) * 16 + q] = bit_of(second[q], a);
         }
     }
     r
 }
 
-fn as_modes(s: &[u8], at: usize, n: usize) -> [u8; 16]
-    requires { ⌜ (n ≤ 16) × (at + 4 * n ≤ length (now s)) × (modesOk (asWords (now s) at n) n ≡ true) ⌝ }
-    ensures { λ r. ⌜ r ≡ asWords (now (s .entry)) at n ⌝ }
-{
-    let mut r = [0u8; 16];
-    for a in 0..n {
-        r[a] = wire::get32(s, at + AS_ROW * a) as u8;
-    }
-    r
-}
-
-fn link_owners(s: &[u8], at: usize, ases: usize, n: usize) -> [u8; 128]
-    requires { ⌜ (n ≤ 128) × (at + 8 * n ≤ length (now s) + 4) × (ases ≤ 16) × (allUnder (linkWords (now s) at n) ases n ≡ true) ⌝ }
-    ensures { λ r. ⌜ r ≡ linkWords (now (s .entry)) at n ⌝ }
-{
-    let mut r = [0u8; 128];
-    for l in 0..n {
-        r[l] = wire::get32(s, at + LINK_ROW * l) as u8;
-    }
-    r
-}
-
-// The fresh state (Rule 4.6).
 fn build<'a>(
     s: &[u8],
     t: Places,
     aspid: &'a [u32; 16],
-    mask: &'a [u16; 16],
+    second: &'a [u32; 16],
     iid: &'a [u32; 128],
 ) -> Loaded
-    requires { ⌜ Inside t (length (now s)) × (modesOk (asWords (now s) (t .y) (t .ases)) (t .ases) ≡ true) × (allUnder (linkWords (now s) (t .z + 4) (t .links)) (t .ases) (t .links) ≡ true) ⌝ }
-    ensures { λ r. ⌜ r ≡ accepted (fresh (t .asps) (t .ases) (t .links) (now (aspid .entry)) (now (mask .entry)) (asWords (now (s .entry)) (t .y) (t .ases)) (now (iid .entry)) (linkWords (now (s .entry)) (t .z + 4) (t .links))) ⌝ }
+    requires { ⌜ Inside t (length (now s)) × AllIn (wordOf (now s) (t .y) 4) (t .ases) 256 × AllIn (wordOf (now s) (t .z + 4) 8) (t .links) 256 ⌝ }
+    ensures { λ r. ⌜ r ≡ accepted (fresh (t .asps) (t .ases) (t .links) (now (aspid .entry)) (highs (now (second .entry))) (asWords (now (s .entry)) (t .y) (t .ases)) (now (iid .entry)) (linkWords (now (s .entry)) (t .z + 4) (t .links))) ⌝ }
 {
-    let member = members_of(mask);
-    let traffic = as_modes(s, t.y, t.ases);
-    let owned = link_owners(s, t.z + 4, t.ases, t.links);
+    let member = members_of(second);
+    let mut modes = [0u8; 16];
+    fill_bytes(s, t.y, AS_ROW, t.ases, &mut modes);
+    let mut owners = [0u8; 128];
+    fill_bytes(s, t.z + 4, LINK_ROW, t.links, &mut owners);
     let asp_ids = *aspid;
     let link_ids = *iid;
     Loaded {
@@ -252,10 +212,10 @@ fn build<'a>(
             up: [0; 16],
             member: member,
             active: [0; 256],
-            mode: traffic,
+            mode: modes,
             waiting: [0; 16],
             iid: link_ids,
-            owner: owned,
+            owner: owners,
             state: [0; 128],
         },
     }
@@ -266,19 +226,19 @@ fn answer<'a>(
     s: &[u8],
     t: Places,
     aspid: &'a [u32; 16],
-    mask: &'a [u16; 16],
+    second: &'a [u32; 16],
     iid: &'a [u32; 128],
 ) -> Loaded
     requires { ⌜ Inside t (length (now s)) ⌝ }
-    ensures { λ r. ⌜ r ≡ built (t .asps) (t .ases) (t .links) (now (aspid .entry)) (now (mask .entry)) (aspHalves (now (s .entry)) (t .x + 6) (t .asps)) (asWords (now (s .entry)) (t .y) (t .ases)) (now (iid .entry)) (linkWords (now (s .entry)) (t .z + 4) (t .links)) ⌝ }
+    ensures { λ r. ⌜ r ≡ built (t .asps) (t .ases) (t .links) (now (aspid .entry)) (highs (now (second .entry))) (lows (now (second .entry))) (asWords (now (s .entry)) (t .y) (t .ases)) (now (iid .entry)) (linkWords (now (s .entry)) (t .z + 4) (t .links)) ⌝ }
 {
-    if !rows_ok(s, t, aspid, mask, iid) {
+    if !rows_ok(s, t, aspid, second, iid) {
         return Loaded {
             code: 202,
             gateway: Gateway::zeros(),
         };
     }
-    build(s, t, aspid, mask, iid)
+    build(s, t, aspid, second, iid)
 }
 
 fn places_of(s: &[u8]) -> Places
@@ -306,10 +266,10 @@ fn rows(s: &[u8]) -> Loaded
     ensures { λ r. ⌜ r ≡ loadOf (now (s .entry)) ⌝ }
 {
     let t = places_of(s);
-    let aspid = asp_words(s, t.x, t.asps);
-    let mask = asp_halves(s, t.x + 4, t.asps);
-    let iid = link_words(s, t.z, t.links);
-    answer(s, t, &aspid, &mask, &iid)
+    let aspid = words_16(s, t.x, ASP_ROW, t.asps);
+    let second = words_16(s, t.x + 4, ASP_ROW, t.asps);
+    let iid = words_128(s, t.z, LINK_ROW, t.links);
+    answer(s, t, &aspid, &second, &iid)
 }
 
 pub fn load(file: &[u8]) -> Loaded

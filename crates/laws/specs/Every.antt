@@ -5,7 +5,7 @@ use mathlib.Core.Path.{_≡_, refl, _∙_, sym}
 use mathlib.Core.Bool.{Bool, true, false, _&&_, false≢true}
 use native.Mathlib.Omega.{arith}
 use native.Mathlib.Decide.{decLt}
-use Rattle.laws.specs.Below.{allBelow, countBelow, anyBelow, any-at, any-in}
+use Rattle.laws.specs.Below.{allBelow, countBelow, anyBelow, any-at, any-in, all-of, all-at}
 
 pub all-ext : (f g : ℕ → Bool) (n : ℕ) → ((i : ℕ) → i < n → f i ≡ g i) → allBelow f n ≡ allBelow g n
 unfolding allBelow
@@ -42,3 +42,10 @@ any-rest f l n b h = same-truth (anyBelow f n) (anyBelow f l) (λ e. let x = any
     go : (i : ℕ) → i < n → f i ≡ true → Dec (i < l) → anyBelow f l ≡ true
     go i p q (yes z) = any-in f l i z q
     go i p q (no z) = absurd (false≢true (sym (h i (omega arith) p) ∙ q))
+
+-- two tests at once
+pub all-two : (f g : ℕ → Bool) (n : ℕ) → allBelow (λ i. f i && g i) n ≡ (allBelow f n && allBelow g n)
+all-two f g n =
+    same-truth (allBelow (λ i. f i && g i) n) (allBelow f n && allBelow g n)
+    (λ h. and-both (allBelow f n) (allBelow g n) (all-of f n (λ i b. and-left (f i) (g i) (all-at (λ i. f i && g i) n h i b))) (all-of g n (λ i b. and-right (f i) (g i) (all-at (λ i. f i && g i) n h i b))))
+    (λ h. all-of (λ i. f i && g i) n (λ i b. and-both (f i) (g i) (all-at f n (and-left (allBelow f n) (allBelow g n) h) i b) (all-at g n (and-right (allBelow f n) (allBelow g n) h) i b)))

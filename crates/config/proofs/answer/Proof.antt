@@ -5,6 +5,7 @@ use mathlib.Core.Bool.{true, false}
 use borrow.Author.Needs.{needs}
 use Rattle.config.specs.Plan.{built, rowsOk}
 use Rattle.config.specs.Laws.{rows}
+use Rattle.config.specs.Inner.Tables.{mode-bytes, owner-bytes}
 use Rattle.gateway.specs.Sound.{zeros}
 use Rattle.config.proofs.answer.Statement.{statement}
 use Rattle.config.proofs.answer.Tie as tie
@@ -14,7 +15,10 @@ unfolding built zeros
 returns c = let e : rowsOk _ _ _ _ _ _ _ _ _ ≡ false = sym (c .before .before .rows-ok .ensures) ∙ not-true _ (c .before .if1 .taken) in rw (e, c .zeros .ensures)
 
 build-requires : tie.Need-build-requires
-build-requires c κs = let h = rows _ _ _ _ _ _ _ _ _ (sym (c .before .rows-ok .ensures) ∙ not-false _ (c .if1 .left)) in (c .before .before .before .pre, h .traffic, h .owned)
+build-requires c κs =
+    let h = rows _ _ _ _ _ _ _ _ _ (sym (c .before .rows-ok .ensures) ∙ not-false _ (c .if1 .left)) in
+    let i = c .before .before .before .pre in
+    (i, mode-bytes _ _ (i .ases) (h .traffic), owner-bytes _ _ _ (i .links) (i .ases) (h .owned))
 
 returns-2 : tie.Need-returns-2
 unfolding built
