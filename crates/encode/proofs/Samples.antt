@@ -10,7 +10,7 @@ use Rattle.put.specs.Bytes.{par, parBytes, parsBytes}
 use Rattle.encode.specs.Encode.{sizeOf, encode, parsIn}
 use Rattle.encode.specs.RoundTrip.{isPadding, plain}
 
--- document 01's message M, from its lent list
+-- message M (Rule 11.2), from its lent list
 sample-m : encode 4 1 (parsIn (0xb ∷ 0x8 ∷ []) (4 ∷ 8 ∷ []) (0 ∷ 0 ∷ 0 ∷ 1 ∷ 0 ∷ 0 ∷ 0 ∷ 0x64 ∷ 0 ∷ 0 ∷ 0 ∷ 0x73 ∷ []))
     ≡ 1 ∷ 0 ∷ 4 ∷ 1 ∷ 0 ∷ 0 ∷ 0 ∷ 0x1c ∷ 0 ∷ 0xb ∷ 0 ∷ 8 ∷ 0 ∷ 0 ∷ 0 ∷ 1 ∷ 0 ∷ 8 ∷ 0 ∷ 0xc ∷ 0 ∷ 0 ∷ 0 ∷ 0x64 ∷ 0 ∷ 0 ∷ 0 ∷ 0x73 ∷ []
 unfolding encode sizeOf parsIn parsBytes parBytes

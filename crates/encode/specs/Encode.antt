@@ -8,12 +8,12 @@ use lib.Dec.{eqb}
 use Rattle.wire.specs.Walk.{Par}
 use Rattle.put.specs.Bytes.{par, headBytes, parsBytes}
 
--- "32-bit length that counts header and padding"
+-- the length of the message of a list (Rule 1.2)
 unfoldable pub sizeOf : List Par → ℕ
 sizeOf ps = 8 + length (parsBytes ps)
 
--- "Given class, type and a list of tags and values, the writer keeps their order and writes spare and padding as zero."
--- It is defined for every list: one with a value that a 16-bit length cannot say is over 2,048 bytes long, which the reader's check 1 refuses.
+-- The message of a class, a type and a list (Rule 3.1). It is defined for every list: one with a value that a length of 16 bits cannot say is refused
+-- for its size (Rule 3.4).
 unfoldable pub encode : ℕ → ℕ → List Par → List ℕ
 encode c t ps = headBytes c t (sizeOf ps) ++ parsBytes ps
 
@@ -28,7 +28,7 @@ parsIn [] ns vs = []
 parsIn (t ∷ ts) [] vs = []
 parsIn (t ∷ ts) (n ∷ ns) vs = par t (take n vs) ∷ parsIn ts ns (drop n vs)
 
--- a list is whole if each tag has a length and the values are as long as their lengths add up to
+-- the list is whole (Rule 3.2)
 unfoldable pub whole : List ℕ → List ℕ → List ℕ → Bool
 whole ts ns vs = eqb (length ns) (length ts) && eqb (total ns) (length vs)
 

@@ -13,16 +13,14 @@ use Rattle.put.specs.Bytes.{overlay, room}
 use Rattle.encode.specs.Encode.{encode, total, parsIn, whole}
 use Rattle.encode.specs.declared.Written.{Written}
 
--- The number of a write into a buffer of so many bytes. A list that is not whole means no message: 7. "It refuses with the number the reader would
--- give that message; then 103 if the lent buffer is short."
+-- the number of a write into a buffer of n bytes (Rule 3.3)
 unfoldable pub writeCode : ℕ → ℕ → List ℕ → List ℕ → List ℕ → ℕ → ℕ
 writeCode c t ts ns vs n =
     (7 if not (whole ts ns vs))
     orElse verdict (encode c t (parsIn ts ns vs))
     orElse (103 if ltb n (length (encode c t (parsIn ts ns vs))))
 
--- The promise of `write`, of the buffer before and after: refused, "length 0" and no byte changed; else the message stands at the buffer's start
--- and "bytes after the message stay".
+-- the promise of `write`, of the buffer before and after (Rule 3.5)
 pub record Writes (c t : ℕ) (ts ns vs out : List ℕ) (r : Written) (out′ : List ℕ) : Type 0 where
   pub code-is : r .code ≡ writeCode c t ts ns vs (length out)
   pub length-is : r .length ≡ cond (eqb (r .code) 0) (length (encode c t (parsIn ts ns vs))) 0

@@ -1,4 +1,4 @@
--- Numbers, parameters and the message header as bytes. "All numbers are big-endian."
+-- Numbers, parameters and the message header as bytes.
 -- Assumes nothing.
 use mathlib.Core.Path.{_≡_}
 use Prim.Native.Nat.{ℕ, _+_, _-_, _/_, _%_, _≤_}
@@ -11,7 +11,7 @@ use Rattle.wire.specs.Walk.{Par, padded}
 unfoldable pub overlay : List ℕ → ℕ → List ℕ → List ℕ
 overlay l at vs = sets l at vs
 
--- a number of 16 bits
+-- a number of 16 bits (Rule 1.1)
 abbrev pub two : ℕ → List ℕ
 two n = n / 256 ∷ n % 256 ∷ []
 
@@ -26,8 +26,7 @@ par t v = record { tag = t; body = v }
 abbrev pub room : ℕ → ℕ
 room n = padded (4 + n)
 
--- "16-bit tag, 16-bit length that counts these 4 bytes and the value but no padding, then 0 to 3 padding bytes .. to a multiple of 4";
--- "writes spare and padding as zero"
+-- a parameter as it is written (Rules 1.3, 1.4 and 3.1): the padding is zeros
 unfoldable pub parBytes : Par → List ℕ
 parBytes p =
     two (p .tag)
@@ -35,12 +34,12 @@ parBytes p =
     ++ (p .body
     ++ replicate (room (length (p .body)) - (4 + length (p .body))) 0))
 
--- parameters one after the other: "the writer keeps their order"
+-- parameters one after the other, in the list's order
 unfoldable pub parsBytes : List Par → List ℕ
 parsBytes [] = []
 parsBytes (p ∷ ps) = parBytes p ++ parsBytes ps
 
--- "Header: version 1, a spare byte, class, type, 32-bit length"; "writes spare .. as zero"
+-- the header (Rule 1.2) as it is written: the spare byte is 0
 abbrev pub headBytes : ℕ → ℕ → ℕ → List ℕ
 headBytes c t n = 1 ∷ 0 ∷ c ∷ t ∷ four n
 

@@ -1,4 +1,4 @@
--- Messages as text: the line of `read` and the lines of `show`.
+-- Messages as text: the line of `read` (docs/SCRIPT.md) and the lines of `show` (Rule 12.1).
 -- Assumes nothing.
 use Prim.Native.Nat.{ℕ, _+_}
 use mathlib.Core.Bool.{cond}
@@ -37,15 +37,15 @@ joint Lines = 10 ∷ []
 unfoldable pub two : ℕ → ℕ → ℕ → List ℕ
 two a c b = decimal a ++ ((c ∷ []) ++ decimal b)
 
--- "`TAG:LEN:HEX`" (decimal tag and length, value in hex without padding, which may be empty)
+-- a parameter in the line of `read`: tag, length field and value with colons between them, as 11:8:00000001
 unfoldable pub fields : ℕ → List ℕ → List ℕ
 fields t v = two t colon (4 + length v) ++ ((colon ∷ []) ++ hex v)
 
--- "value in lower-case hex without padding (if empty, the line ends after length)"
+-- a value in a line of `show`: nothing for an empty one (Rule 12.2)
 unfoldable pub value : List ℕ → List ℕ
 value v = cond (eqb (length v) 0) [] ((blank ∷ []) ++ hex v)
 
--- "param 11 8 00000001": tag, length, value
+-- a parameter in a line of `show`, as param 11 8 00000001
 unfoldable pub named : ℕ → List ℕ → List ℕ
 named t v = paramWord ++ (two t blank (4 + length v) ++ value v)
 
@@ -67,18 +67,18 @@ parsText style (p ∷ ps) = parText style p ++ parsText style ps
 unfoldable pub verdictLine : ℕ → List ℕ
 verdictLine code = verdictWord ++ decimal code
 
--- "message 4 1 28": class, type, bytes
+-- class, type and number of bytes, as message 4 1 28
 unfoldable pub headLine : ℕ → ℕ → ℕ → List ℕ
 headLine class kind size = messageWord ++ (two class blank kind ++ ((blank ∷ []) ++ decimal size))
 
 unfoldable pub acceptedText : Style → ℕ → ℕ → List ℕ → List ℕ
 acceptedText style class kind s = headLine class kind (length s) ++ (parsText style (walk s 8 .pars) ++ (joint style ++ verdictLine 0))
 
--- "A refused message prints only `verdict` and its number."
+-- what `show` says of any bytes (Rule 12.1)
 unfoldable pub shownText : Style → List ℕ → List ℕ
 shownText style s =
     cond (eqb (readingOf s .code) 0) (acceptedText style (readingOf s .class) (readingOf s .kind) s) (verdictLine (readingOf s .code))
 
--- "`0 TAG:LEN:HEX TAG:LEN:HEX ..`, or the refusal number alone. No parameters: `0`"
+-- what `read` says of any bytes: the verdict, and the parameters of an accepted message
 unfoldable pub readText : List ℕ → List ℕ
 readText s = decimal (readingOf s .code) ++ cond (eqb (readingOf s .code) 0) (parsText Plain (walk s 8 .pars)) []

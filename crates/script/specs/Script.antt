@@ -45,11 +45,11 @@ answerOf Read rest = onBytes readText rest
 answerOf Show rest = onBytes (shownText Bars) rest
 answerOf Bad rest = badText
 
--- "longer than 65,535 characters gives `?`"
+-- a line of more than 65,535 characters is no command
 unfoldable pub answerText : List ℕ → List ℕ
 answerText line = cond (ltb 65535 (length line)) badText (answerOf (commandIn (wordIn line)) (restIn line))
 
--- "A blank line, or one that begins with `#`, is passed over with no result."
+-- a line with nothing in it, or a comment, has no answer
 unfoldable pub lineText : List ℕ → List ℕ
 lineText line = cond (eqb (length line) 0) [] (cond (eqb (getD line 0 0) 35) [] (answerText line ++ (10 ∷ [])))
 

@@ -9,12 +9,11 @@ use Rattle.wire.specs.Number.{be}
 use Rattle.wire.specs.declared.Step.{Step}
 use Rattle.wire.specs.declared.Step.the-variants.{Param, End, Fault}
 
--- "0 to 3 padding bytes (ignored) to a multiple of 4": a length with its padding
+-- a length with its padding (Rule 1.4)
 abbrev pub padded : ℕ → ℕ
 padded n = (n + 3) / 4 * 4
 
--- What stands at a position. "16-bit tag, 16-bit length that counts these 4 bytes and the value but no padding": a parameter, with the position
--- after its padding. Nothing left: the end. "a length below 4, or a padded end beyond the message", or fewer than 4 bytes left: a fault.
+-- What stands at a position (Rules 1.3 and 1.5): the end, a fault, or a parameter with its tag, its length field and the position behind its padding.
 unfoldable pub stepAt : List ℕ → ℕ → Step
 stepAt s at =
     cond (leb (length s) at) End
@@ -29,18 +28,18 @@ pub record Par : Type 0 where
   pub tag : ℕ
   pub body : List ℕ
 
--- document 01's number for each case of a reading: "a length below 4, or a padded end beyond the message: 18"
+-- the number of a reading (Rule 1.5)
 abbrev pub stepCode : Step → ℕ
 stepCode (Param t l n) = 0
 stepCode End = 0
 stepCode Fault = 18
 
--- "the first reading that isn't a parameter ends the walk": the parameters before it, and the number of that reading
+-- what a walk finds: the parameters up to the end or the fault that stops it, and the number of that
 pub record Walk : Type 0 where
   pub pars : List Par
   pub code : ℕ
 
--- one reading, and the walk from the next position on. "The value of a parameter is read as a part of the message that starts at its fifth byte."
+-- one reading, and the walk from the next position on. A value lies behind tag and length, without the padding (Rule 1.6).
 abbrev pub onStep : List ℕ → ℕ → Step → (ℕ → Walk) → Walk
 onStep s at (Param t l n) rest =
     record { pars = record { tag = t; body = take (l - 4) (drop (at + 4) s) } ∷ rest n .pars; code = rest n .code }
@@ -56,7 +55,7 @@ walkF (suc f) s at = onStep s at (stepAt s at) (walkF f s)
 unfoldable pub walk : List ℕ → ℕ → Walk
 walk s at = walkF (suc (length s - at)) s at
 
--- the value of the parameter at a position whose length field is len; nothing where it does not lie within the message
+-- the value of the parameter at a position, whose length field is len; nothing where it does not lie within the message (Rule 1.6)
 unfoldable pub partOf : List ℕ → ℕ → ℕ → List ℕ
 partOf s at len =
     cond (ltb len 4) []
