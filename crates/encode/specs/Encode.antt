@@ -8,15 +8,16 @@ use lib.Dec.{eqb}
 use Rattle.wire.specs.Walk.{Par}
 use Rattle.put.specs.Bytes.{par, headBytes, parsBytes}
 
--- what the header's length field says (Rule 1.2)
+-- the length of the message of a list (Rule 1.2)
 unfoldable pub sizeOf : List Par → ℕ
 sizeOf ps = 8 + length (parsBytes ps)
 
--- Rule 3.1. It is defined for every list: one with a value that a 16-bit length cannot say takes more than 2,048 bytes, and is refused (Rule 3.4).
+-- The message of a class, a type and a list (Rule 3.1). It is defined for every list: one with a value that a length of 16 bits cannot say is refused
+-- for its size (Rule 3.4).
 unfoldable pub encode : ℕ → ℕ → List Par → List ℕ
 encode c t ps = headBytes c t (sizeOf ps) ++ parsBytes ps
 
--- ---- the list as it is lent (Rule 3.2): the tags, the lengths of the values, and the values one after the other
+-- ---- the list as it is lent: the tags, the lengths of the values, and the values one after the other
 
 unfoldable pub total : List ℕ → ℕ
 total [] = 0
@@ -27,7 +28,7 @@ parsIn [] ns vs = []
 parsIn (t ∷ ts) [] vs = []
 parsIn (t ∷ ts) (n ∷ ns) vs = par t (take n vs) ∷ parsIn ts ns (drop n vs)
 
--- a list is whole if each tag has a length and the values are as long as their lengths add up to
+-- the list is whole (Rule 3.2)
 unfoldable pub whole : List ℕ → List ℕ → List ℕ → Bool
 whole ts ns vs = eqb (length ns) (length ts) && eqb (total ns) (length vs)
 

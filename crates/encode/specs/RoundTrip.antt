@@ -15,13 +15,13 @@ use Rattle.encode.specs.Encode.{encode, parsIn, whole, tagsOf, lensOf, v
 use Rattle.encode.specs.Write.{Writes}
 use Rattle.encode.specs.declared.Written.{Written}
 
--- Rule 3.6: the walk over a message s finds the parameters ps and no fault, the verdict is 0, and the meaning is that of ps.
+-- a message s reads as the list ps (Rule 3.6): the walk finds ps and no fault, the verdict is 0, and the meaning is that of ps
 pub record ReadsBack (c t : ℕ) (ps : List Par) (s : List ℕ) : Type 0 where
   pub walked : walk s 8 ≡ record { pars = ps; code = 0 }
   pub accepted : verdict s ≡ 0
   pub means : readingOf s ≡ meaning c t ps
 
--- ---- a message with 0 as the spare byte and in the padding (Rule 3.7)
+-- ---- a message with zeros where the reader does not look (Rule 3.7)
 
 -- the position i is padding of one of the parameters ps, which stand one after the other from the position `at` on: it lies behind the parameter's
 -- length and before its padded end
@@ -58,13 +58,13 @@ pub record WrittenBack (s out : List ℕ) (r : Written) (out′ : List ℕ) : Ty
 abbrev pub WalkGivesList : Type 0
 WalkGivesList = (c t : ℕ) (ps : List Par) → walk (encode c t ps) 8 ≡ record { pars = ps; code = 0 }
 
--- Rule 3.6: what a write that was not refused has put at the buffer's start.
+-- What a write that was not refused has put at the buffer's start reads as the list.
 abbrev pub ReadingGivesList : Type 0
 ReadingGivesList =
     (c t : ℕ) (ts ns vs out : List ℕ) (r : Written) (out′ : List ℕ) → Writes c t ts ns vs out r out′ → r .code ≡ 0
     → ReadsBack c t (parsIn ts ns vs) (take (r .length) out′)
 
--- Rule 3.7, for all bytes that read.
+-- Every message that is accepted is written back (Rule 3.7).
 abbrev pub WritingGivesBytes : Type 0
 WritingGivesBytes = (s : List ℕ) → Bytes s → verdict s ≡ 0 → WritesBack s
 

@@ -13,14 +13,14 @@ use Rattle.put.specs.Bytes.{overlay, room}
 use Rattle.encode.specs.Encode.{encode, total, parsIn, whole}
 use Rattle.encode.specs.declared.Written.{Written}
 
--- The number of a write into a buffer of so many bytes (Rule 3.3): 7 for a list that is not whole, then the verdict of the encoding, then 103.
+-- the number of a write into a buffer of n bytes (Rule 3.3)
 unfoldable pub writeCode : ℕ → ℕ → List ℕ → List ℕ → List ℕ → ℕ → ℕ
 writeCode c t ts ns vs n =
     (7 if not (whole ts ns vs))
     orElse verdict (encode c t (parsIn ts ns vs))
     orElse (103 if ltb n (length (encode c t (parsIn ts ns vs))))
 
--- The promise of `write`, of the buffer before and after (Rule 3.5).
+-- the promise of `write`, of the buffer before and after (Rule 3.5)
 pub record Writes (c t : ℕ) (ts ns vs out : List ℕ) (r : Written) (out′ : List ℕ) : Type 0 where
   pub code-is : r .code ≡ writeCode c t ts ns vs (length out)
   pub length-is : r .length ≡ cond (eqb (r .code) 0) (length (encode c t (parsIn ts ns vs))) 0

@@ -2,3 +2,4 @@ pub mod Seen
 pub mod Turns
 pub mod Order
 pub mod Samples
+pub mod Places

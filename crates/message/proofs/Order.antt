@@ -9,14 +9,11 @@ use lib.Dec.{ltb, eqb}
 use native.Mathlib.Omega.{arith}
 use borrow.Author.Tests.{ne-eqb}
 use Rattle.wire.specs.Number.{be}
-use Rattle.wire.specs.Walk.{Par}
-use Rattle.parameter.specs.Table.{table, hasClass, rowIn, key}
-use Rattle.parameter.specs.Slot.{slot}
-use Rattle.parameter.proofs.Slots.{same-slot}
+use Rattle.parameter.specs.Table.{table, hasClass, rowIn}
 use Rattle.laws.specs.Choice.{_orElse_, _if_}
 use Rattle.message.specs.Verdict.{most, check2, check3, check4, check5, lastChecks, verdict}
-use Rattle.message.specs.Meaning.{refusal, outcome, readingOf, bodyIn}
-use Rattle.message.specs.Seen.{bodyAt, rowOutcome, kindOutcome, checksOutcome}
+use Rattle.message.specs.Meaning.{refusal, outcome, readingOf}
+use Rattle.message.specs.Seen.{rowOutcome, kindOutcome, checksOutcome}
 use Rattle.message.specs.declared.Reading.{Reading}
 
 -- a check that applies decides; else the rest does
@@ -53,9 +50,3 @@ order-same s =
     ∙ ap (λ (x : Reading). cond (ltb (length s) 8) (refusal 7) (cond (ltb most (length s)) (refusal 7) x)) (first-applies 0 (not (eqb (getD s 0 0) 1)) _ s
     ∙ turned (eqb (getD s 0 0) 1) (refusal 1) _
     ∙ ap (λ (x : Reading). cond (eqb (getD s 0 0) 1) x (refusal 1)) (order-row s)))
-
--- the first parameter of a tag is the first of its slot
-pub body-same : (t : ℕ) → slot t < 31 → (ps : List Par) → bodyAt (slot t) ps ≡ bodyIn t ps
-unfolding bodyAt bodyIn
-body-same t h [] = refl
-body-same t h (p ∷ ps) = rw (body-same t h ps, same-slot (p .tag) t h)

@@ -1,14 +1,16 @@
--- What reading a message gives (Rule 2.18).
+-- What reading a message gives (Rule 2.18), and where its protocol data lies (Rule 1.7).
 -- Assumes nothing.
-use Prim.Native.Nat.{ℕ}
+use mathlib.Core.Path.{_≡_}
+use Prim.Native.Nat.{ℕ, _+_, _≤_}
 use mathlib.Core.Bool.{Bool, true, false, cond, _||_}
 use mathlib.Core.List.{List, [], _∷_}
-use lib.ListN.{getD}
+use lib.ListN.{length, getD, take, drop}
 use lib.Dec.{eqb}
-use Rattle.wire.specs.Walk.{Par, walk}
+use Rattle.wire.specs.Walk.{Par, padded, walk}
 use Rattle.parameter.specs.Table.{key}
 use Rattle.message.specs.Verdict.{has, number, verdict}
 use Rattle.message.specs.declared.Reading.{Reading}
+use Rattle.message.specs.declared.DataAt.{DataAt}
 
 -- a flag as a number
 abbrev pub flag : Bool → ℕ
@@ -63,6 +65,24 @@ unfoldable pub bodyIn : ℕ → List Par → List ℕ
 bodyIn t [] = []
 bodyIn t (p ∷ ps) = cond (eqb (key (p .tag)) (key t)) (p .body) (bodyIn t ps)
 
--- the protocol data: the value of the first 0x300 or 0x301; nothing where there is none (Rule 1.7)
+-- where that value lies, if the first of the parameters stands at a position
+unfoldable pub placeIn : ℕ → ℕ → List Par → DataAt
+placeIn t at [] = record { start = 0; length = 0 }
+placeIn t at (p ∷ ps) =
+    cond (eqb (key (p .tag)) (key t)) (record { start = at + 4; length = length (p .body) }) (placeIn t (at + padded (4 + length (p .body))) ps)
+
+-- the protocol data (Rule 1.7): its bytes, and where they lie in the message
 unfoldable pub dataOf : List ℕ → List ℕ
 dataOf s = bodyIn 0x300 (walk s 8 .pars)
+
+unfoldable pub dataAt : List ℕ → DataAt
+dataAt s = placeIn 0x300 8 (walk s 8 .pars)
+
+-- bytes are those that lie in a message at a place
+pub record LiesAt (s : List ℕ) (d : DataAt) (v : List ℕ) : Type 0 where
+  pub bytes : v ≡ take (d .length) (drop (d .start) s)
+  pub within : d .start + d .length ≤ length s
+
+-- the two say the same
+abbrev pub DataLies : Type 0
+DataLies = (s : List ℕ) → LiesAt s (dataAt s) (dataOf s)

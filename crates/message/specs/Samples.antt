@@ -1,11 +1,11 @@
--- The reader's samples as a claim (Rule 11.3); rules/specs/Samples has them all.
+-- The reader's samples that are proved (Rule 11.3), as one claim. It is a part of the claim on all proved samples, in the crate rules.
 -- Assumes nothing.
 use mathlib.Core.Path.{_≡_}
 use mathlib.Core.List.{List, [], _∷_}
 use Prim.Native.Nat.{ℕ}
 use Rattle.message.specs.Verdict.{verdict}
 
--- message M (Rule 11.2), with its mode, start and stop
+-- message M (Rule 11.2), with its mode and the ends of its range
 unfoldable pub active : ℕ → ℕ → ℕ → List ℕ
 active mode start stop =
     0x01 ∷ 0x00 ∷ 0x04 ∷ 0x01 ∷ 0x00 ∷ 0x00 ∷ 0x00 ∷ 0x1c
@@ -13,16 +13,16 @@ active mode start stop =
     ∷ 0x00 ∷ 0x08 ∷ 0x00 ∷ 0x0c ∷ 0x00 ∷ 0x00 ∷ 0x00 ∷ start ∷ 0x00 ∷ 0x00 ∷ 0x00 ∷ stop
     ∷ []
 
--- Up of 8 bytes, with its version and length field
+-- an Up without parameters, with its version and length field
 unfoldable pub up : ℕ → ℕ → List ℕ
 up version len = version ∷ 0x00 ∷ 0x03 ∷ 0x01 ∷ 0x00 ∷ 0x00 ∷ 0x00 ∷ len ∷ []
 
 pub record ReaderSamples : Type 0 where
-  -- message M, its range turned around, its mode 4
+  -- M is accepted; not with its range turned around, and not with a mode that there is not
   pub m-reads : verdict (active 1 0x64 0x73) ≡ 0
   pub traded : verdict (active 1 0x73 0x64) ≡ 17
   pub mode-4 : verdict (active 4 0x64 0x73) ≡ 5
-  -- no bytes; a bare Up, with a wrong length field, and with a wrong version as well
+  -- nothing at all; an Up; one whose length field says more than there is; the same of another version
   pub no-bytes : verdict [] ≡ 7
   pub up-reads : verdict (up 1 8) ≡ 0
   pub up-length-12 : verdict (up 1 12) ≡ 7

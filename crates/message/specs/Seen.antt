@@ -2,19 +2,20 @@
 -- The checks and the meaning, asked of that.
 -- Assumes nothing.
 use mathlib.Core.Path.{_≡_}
-use Prim.Native.Nat.{ℕ, _%_, _<_}
+use Prim.Native.Nat.{ℕ, _+_, _%_, _<_}
 use mathlib.Core.Bool.{Bool, true, false, cond, not, _&&_, _||_}
 use mathlib.Core.List.{List, [], _∷_}
 use lib.ListN.{length, getD}
 use lib.Dec.{ltb, eqb}
 use Rattle.laws.specs.Choice.{_orElse_, _if_}
 use Rattle.wire.specs.Number.{be}
-use Rattle.wire.specs.Walk.{Par}
+use Rattle.wire.specs.Walk.{Par, padded}
 use Rattle.parameter.specs.Table.{table, hasClass, rowIn}
 use Rattle.parameter.specs.Slot.{slot, allAsked}
-use Rattle.message.specs.Verdict.{head, exactly, most, lastChecks}
+use Rattle.message.specs.Verdict.{head, exactly, getBsn, getMessages, most, lastChecks}
 use Rattle.message.specs.Meaning.{flag, refusal, outcome}
 use Rattle.message.specs.declared.Reading.{Reading}
+use Rattle.message.specs.declared.DataAt.{DataAt}
 
 -- a tag of the slot is there
 unfoldable pub there : ℕ → List Par → Bool
@@ -35,8 +36,8 @@ pub record Seen (met : List Bool) (words : List ℕ) (ps : List Par) : Type 0 wh
 unfoldable pub sequenceAt : ℕ → ℕ → ℕ → ℕ → Bool → ℕ
 sequenceAt c t action result given =
     cond (eqb c 6)
-    (cond (eqb t 10) (exactly (eqb action 2) given)
-    (cond (eqb t 11) (cond (eqb action 1) (exactly (eqb result 0) given) (exactly false given))
+    (cond (eqb t 10) (exactly (eqb action getMessages) given)
+    (cond (eqb t 11) (cond (eqb action getBsn) (exactly (eqb result 0) given) (exactly false given))
     0))
     0
 
@@ -67,10 +68,10 @@ meaningAt c t met words =
 unfoldable pub outcomeAt : ℕ → ℕ → ℕ → List Bool → List ℕ → Reading
 outcomeAt n c t met words = cond (eqb n 0) (meaningAt c t met words) (refusal n)
 
--- the value of the first parameter of a slot
-unfoldable pub bodyAt : ℕ → List Par → List ℕ
-bodyAt k [] = []
-bodyAt k (p ∷ ps) = cond (eqb (slot (p .tag)) k) (p .body) (bodyAt k ps)
+-- where the value of the first parameter of a slot lies, if the first of the parameters stands at a position
+unfoldable pub placeAt : ℕ → ℕ → List Par → DataAt
+placeAt k at [] = record { start = 0; length = 0 }
+placeAt k at (p ∷ ps) = cond (eqb (slot (p .tag)) k) (record { start = at + 4; length = length (p .body) }) (placeAt k (at + padded (4 + length (p .body))) ps)
 
 -- The checks in the order in which the code asks: 3 to 8, of whether the class is listed, the row and the length field
 unfoldable pub rowOutcome : Bool → ℕ → ℕ → List ℕ → Reading

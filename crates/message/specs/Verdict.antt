@@ -1,5 +1,4 @@
--- Document 01, "Reading a message": the checks 1 to 8, in the stated order. A check gives its number, or 0 where it does not
--- apply. "The first that applies decides."
+-- The verdict on a message: the checks of Rules 2.1 to 2.8 in this order. A check gives its number, or 0 where it finds nothing.
 -- Assumes nothing.
 use Prim.Native.Nat.{ℕ, zero, suc, _+_, _%_}
 use mathlib.Core.Bool.{Bool, true, false, cond, not, _&&_, _||_}
@@ -12,7 +11,7 @@ use Rattle.wire.specs.Walk.{Par, walk}
 use Rattle.parameter.specs.Table.{isMandatory, Entry, table, hasClass, rowIn, entriesIn, key, usage}
 use Rattle.parameter.specs.Check.{parCode}
 
--- "over 2,048 (house)"
+-- the most bytes of a message (Rule 2.1)
 abbrev pub most : ℕ
 most = 2048
 
@@ -38,7 +37,7 @@ unfoldable pub isNone : List Par → Bool
 isNone [] = true
 isNone (p ∷ ps) = false
 
--- "each parameter in turn": the row's index, the parameters before, and those left
+-- one parameter after the other (Rule 2.7): the row's index, the parameters before, and those left
 unfoldable pub inTurn : ℕ → List Par → List Par → ℕ
 inTurn i before [] = 0
 inTurn i before (p ∷ ps) =
@@ -52,48 +51,61 @@ unfoldable pub allThere : List Entry → List Par → Bool
 allThere [] ps = true
 allThere (e ∷ es) ps = cond (isMandatory (e .use-as)) (has (e .tag) ps && allThere es ps) (allThere es ps)
 
--- "Present wrongly: 19; absent wrongly: 22."
+-- a sequence number where one is wanted, and only there (Rule 2.17)
 abbrev pub exactly : Bool → Bool → ℕ
 exactly wanted there = cond wanted (cond there 0 22) (cond there 19 0)
 
--- "6.10 has 0x307 exactly with action 2; 6.11 exactly with action 1 and result 0."
+-- 6.10, 6.11, and the two retrieval actions (Rule 2.16)
+abbrev pub isRetrievalRequest : ℕ → ℕ → Bool
+isRetrievalRequest c t = eqb c 6 && eqb t 10
+
+abbrev pub isRetrievalConfirm : ℕ → ℕ → Bool
+isRetrievalConfirm c t = eqb c 6 && eqb t 11
+
+abbrev pub getBsn : ℕ
+getBsn = 1
+
+abbrev pub getMessages : ℕ
+getMessages = 2
+
+-- the sequence number of a Retrieval Request and of a Retrieval Confirm (Rule 2.17)
 unfoldable pub sequenceCode : ℕ → ℕ → List Par → ℕ
 sequenceCode c t ps =
-    cond (eqb c 6 && eqb t 10) (exactly (eqb (number 0x306 ps) 2) (has 0x307 ps))
-    (cond (eqb c 6 && eqb t 11) (exactly (eqb (number 0x306 ps) 1 && eqb (number 0x308 ps) 0) (has 0x307 ps))
+    cond (isRetrievalRequest c t) (exactly (eqb (number 0x306 ps) getMessages) (has 0x307 ps))
+    (cond (isRetrievalConfirm c t) (exactly (eqb (number 0x306 ps) getBsn && eqb (number 0x308 ps) 0) (has 0x307 ps))
     0)
 
 -- ---- the checks on a whole message
 
--- 1. under 8 bytes, or over 2,048: 7
+-- 1. the size (Rule 2.1)
 abbrev pub check1 : List ℕ → ℕ
 check1 s = 7 if (ltb (length s) 8 || ltb most (length s))
 
--- 2. version not 1: 1
+-- 2. the version
 abbrev pub check2 : List ℕ → ℕ
 check2 s = 1 if not (eqb (getD s 0 0) 1)
 
--- 3. class not listed: 3
+-- 3. the class
 abbrev pub check3 : ℕ → ℕ
 check3 c = 3 if not (hasClass table c)
 
--- 4. type not listed: 4
+-- 4. the type: there is no row where the index is the number of rows
 abbrev pub check4 : ℕ → ℕ
 check4 i = 4 if eqb i (length table)
 
--- 5. length field not the byte count, or count not a multiple of 4: 7
+-- 5. the length field
 abbrev pub check5 : List ℕ → ℕ
 check5 s = 7 if (not (eqb (be 4 s 4) (length s)) || not (eqb (length s % 4) 0))
 
--- 6. walk of all parameters
+-- 6. the walk over the parameters
 abbrev pub check6 : List ℕ → ℕ
 check6 s = walk s 8 .code
 
--- 7. each parameter in turn
+-- 7. the parameters
 abbrev pub check7 : ℕ → List Par → ℕ
 check7 i ps = inTurn i [] ps
 
--- 8. "missing mandatory parameter: 22; then the sequence number rules"
+-- 8. what is mandatory, then the sequence number
 abbrev pub check8 : ℕ → ℕ → ℕ → List Par → ℕ
 check8 i c t ps = (22 if not (allThere (entriesIn table i) ps)) orElse sequenceCode c t ps
 
@@ -105,7 +117,7 @@ parsCode c t ps = check7 (rowIn table c t) ps orElse check8 (rowIn table c t) c 
 unfoldable pub lastChecks : List ℕ → ℕ
 lastChecks s = check6 s orElse parsCode (getD s 2 0) (getD s 3 0) (walk s 8 .pars)
 
--- The verdict on a message: 0, or the number of the first check that applies.
+-- the number of the first check that finds something, or 0 (Rule 2.9)
 unfoldable pub verdict : List ℕ → ℕ
 verdict s =
     check1 s

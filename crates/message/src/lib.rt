@@ -20,8 +20,8 @@ ghost use Rattle.wire.specs.Walk.{walk};
 ghost use Rattle.parameter.specs.Table.{table, rowIn};
 ghost use Rattle.parameter.specs.Slot.{slot, infoOf};
 ghost use Rattle.message.specs.Verdict.{exactly, head, lastChecks};
-ghost use Rattle.message.specs.Meaning.{flag, refusal, outcome, readingOf, dataOf};
-ghost use Rattle.message.specs.Seen.{sequenceAt, endAt, meaningAt, outcomeAt, bodyAt, rowOutcome, kindOutcome, checksOutcome};
+ghost use Rattle.message.specs.Meaning.{flag, refusal, outcome, readingOf, dataAt, dataOf};
+ghost use Rattle.message.specs.Seen.{sequenceAt, endAt, meaningAt, outcomeAt, placeAt, rowOutcome, kindOutcome, checksOutcome};
 
 // The slots of the tags that are asked for.
 const ID: usize = 1;
@@ -335,28 +335,51 @@ pub fn read(s: &[u8]) -> Reading
     read_checks(s)
 }
 
-// The value of the first parameter of a tag's slot from a position on, as a part of the message; nothing where there is none.
-fn find(s: &[u8], from: usize, k: usize) -> &[u8]
-    ensures { λ r. ⌜ now r ≡ bodyAt k (walk (now (s .entry)) from .pars) ⌝ }
+// Where the protocol data of a message lies: its first byte and the number of its bytes; both 0 where there is none.
+#[repr(C)]
+pub struct DataAt {
+    pub start: usize,
+    pub length: usize,
+}
+
+// Where the value of the first parameter of a slot lies, from a position on.
+fn find(s: &[u8], from: usize, k: usize) -> DataAt
+    ensures { λ r. ⌜ r ≡ placeAt k from (walk (now (s .entry)) from .pars) ⌝ }
 {
     let mut at = from;
     loop {
-        let w = wire::step_at(s, at);
+        let w = wire::reading_at(s, at);
         let Step::Param { tag, len, next } = w else {
-            return &s[..0];
+            return DataAt {
+                start: 0,
+                length: 0,
+            };
         };
         if parameter::slot_of(tag) == k {
             let start = at + 4;
             let stop = at + len as usize;
-            return &s[start..stop];
+            return DataAt {
+                start,
+                length: stop - start,
+            };
         }
         at = next;
     }
 }
 
-// The protocol data of a message, the SS7 signalling unit: the value of 0x300 or 0x301, as a part of the message; nothing where there is none.
+// Where the protocol data of a message, the SS7 signalling unit, lies: the value of the first 0x300 or 0x301 (Rule 1.7).
+pub fn data_at(s: &[u8]) -> DataAt
+    ensures { λ r. ⌜ r ≡ dataAt (now (s .entry)) ⌝ }
+{
+    find(s, HEADER, DATA)
+}
+
+// The protocol data as a part of the message; nothing where there is none.
 pub fn protocol_data(s: &[u8]) -> &[u8]
     ensures { λ r. ⌜ now r ≡ dataOf (now (s .entry)) ⌝ }
 {
-    find(s, HEADER, DATA)
+    let d = data_at(s);
+    let start = d.start;
+    let stop = start + d.length;
+    &s[start..stop]
 }

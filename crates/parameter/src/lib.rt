@@ -11,7 +11,7 @@ ghost use Rattle.laws.specs.Choice.{_orElse_};
 ghost use Rattle.wire.specs.Number.{be};
 ghost use Rattle.parameter.specs.Table.{table, hasClass, rowIn};
 ghost use Rattle.parameter.specs.Value.{bytesOf, numberOf, limitsOf, plainCode, wordCode, valueCode, idCode, rangeCode, bodyCode};
-ghost use Rattle.parameter.specs.Slot.{slot, infoOf, rowBits, useBits, usageOf, packedUse, asked, allAsked};
+ghost use Rattle.parameter.specs.Slot.{slot, info, infoOf, rowBits, useBits, usageOf, packedUse, asked, allAsked};
 ghost use Rattle.parameter.specs.Check.{textCode, allowedCode, parCode};
 
 // Tags that the checks ask for.
@@ -91,79 +91,34 @@ pub fn row_of(c: u8, t: u8) -> usize
     }
 }
 
+fn packed_row(uses: u64, musts: u32) -> RowInfo
+    ensures { λ r. ⌜ r ≡ info uses musts ⌝ }
+{
+    RowInfo { uses, musts }
+}
+
 // A row, packed.
 pub fn row_info(row: usize) -> RowInfo
     ensures { λ r. ⌜ r ≡ infoOf row ⌝ }
 {
     match row {
-        0 => RowInfo {
-            uses: 0x203400c,
-            musts: 12,
-        },
-        1 => RowInfo {
-            uses: 0x40803010c,
-            musts: 13,
-        },
-        2 => RowInfo {
-            uses: 0x400000100,
-            musts: 0,
-        },
-        3 => RowInfo {
-            uses: 0x100,
-            musts: 0,
-        },
-        4 => RowInfo {
-            uses: 0x40000,
-            musts: 0,
-        },
-        5 => RowInfo {
-            uses: 0x43010c,
-            musts: 0,
-        },
-        6 => RowInfo {
-            uses: 0x3010c,
-            musts: 0,
-        },
-        7 => RowInfo {
-            uses: 0xa4000000008,
-            musts: 641,
-        },
-        8 => RowInfo {
-            uses: 0x8,
-            musts: 1,
-        },
-        9 => RowInfo {
-            uses: 0x200000000008,
-            musts: 705,
-        },
-        10 => RowInfo {
-            uses: 0x800000000008,
-            musts: 737,
-        },
-        11 => RowInfo {
-            uses: 0x60000000000008,
-            musts: 833,
-        },
-        12 => RowInfo {
-            uses: 0x260000000000008,
-            musts: 29505,
-        },
-        13 => RowInfo {
-            uses: 0xa0000000008,
-            musts: 641,
-        },
-        14 => RowInfo {
-            uses: 0x50000000008,
-            musts: 1,
-        },
-        15 => RowInfo {
-            uses: 0x6000000000008,
-            musts: 769,
-        },
-        _ => RowInfo {
-            uses: 0x8000000008,
-            musts: 609,
-        },
+        0 => packed_row(0x203400c, 12),
+        1 => packed_row(0x40803010c, 13),
+        2 => packed_row(0x400000100, 0),
+        3 => packed_row(0x100, 0),
+        4 => packed_row(0x40000, 0),
+        5 => packed_row(0x43010c, 0),
+        6 => packed_row(0x3010c, 0),
+        7 => packed_row(0xa4000000008, 641),
+        8 => packed_row(0x8, 1),
+        9 => packed_row(0x200000000008, 705),
+        10 => packed_row(0x800000000008, 737),
+        11 => packed_row(0x60000000000008, 833),
+        12 => packed_row(0x260000000000008, 29505),
+        13 => packed_row(0xa0000000008, 641),
+        14 => packed_row(0x50000000008, 1),
+        15 => packed_row(0x6000000000008, 769),
+        _ => packed_row(0x8000000008, 609),
     }
 }
 

@@ -1,4 +1,4 @@
--- Numbers, parameters and the message header as bytes (Rules 1.1 to 1.4).
+-- Numbers, parameters and the message header as bytes.
 -- Assumes nothing.
 use mathlib.Core.Path.{_≡_}
 use Prim.Native.Nat.{ℕ, _+_, _-_, _/_, _%_, _≤_}
@@ -11,7 +11,7 @@ use Rattle.wire.specs.Walk.{Par, padded}
 unfoldable pub overlay : List ℕ → ℕ → List ℕ → List ℕ
 overlay l at vs = sets l at vs
 
--- a number of 16 bits
+-- a number of 16 bits (Rule 1.1)
 abbrev pub two : ℕ → List ℕ
 two n = n / 256 ∷ n % 256 ∷ []
 
@@ -26,7 +26,7 @@ par t v = record { tag = t; body = v }
 abbrev pub room : ℕ → ℕ
 room n = padded (4 + n)
 
--- a parameter: tag, length, value, and zeros as padding (Rules 1.3, 1.4, 3.1)
+-- a parameter as it is written (Rules 1.3, 1.4 and 3.1): the padding is zeros
 unfoldable pub parBytes : Par → List ℕ
 parBytes p =
     two (p .tag)
@@ -39,7 +39,7 @@ unfoldable pub parsBytes : List Par → List ℕ
 parsBytes [] = []
 parsBytes (p ∷ ps) = parBytes p ++ parsBytes ps
 
--- the header of a message of n bytes, its spare byte 0 (Rules 1.2, 3.1)
+-- the header (Rule 1.2) as it is written: the spare byte is 0
 abbrev pub headBytes : ℕ → ℕ → ℕ → List ℕ
 headBytes c t n = 1 ∷ 0 ∷ c ∷ t ∷ four n
 

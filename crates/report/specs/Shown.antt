@@ -1,4 +1,4 @@
--- Messages as text: the line of `read` and the lines of `show` (Rule 12.1).
+-- Messages as text: the line of `read` (docs/SCRIPT.md) and the lines of `show` (Rule 12.1).
 -- Assumes nothing.
 use Prim.Native.Nat.{ℕ, _+_}
 use mathlib.Core.Bool.{cond}
@@ -37,15 +37,15 @@ joint Lines = 10 ∷ []
 unfoldable pub two : ℕ → ℕ → ℕ → List ℕ
 two a c b = decimal a ++ ((c ∷ []) ++ decimal b)
 
--- a parameter in the answer of `read`: tag and length in decimal, the value in hex
+-- a parameter in the line of `read`: tag, length field and value with colons between them, as 11:8:00000001
 unfoldable pub fields : ℕ → List ℕ → List ℕ
 fields t v = two t colon (4 + length v) ++ ((colon ∷ []) ++ hex v)
 
--- the value on a line of `show`; of an empty one nothing, not even the blank (Rule 12.2)
+-- a value in a line of `show`: nothing for an empty one (Rule 12.2)
 unfoldable pub value : List ℕ → List ℕ
 value v = cond (eqb (length v) 0) [] ((blank ∷ []) ++ hex v)
 
--- a line `param`: tag, length, value
+-- a parameter in a line of `show`, as param 11 8 00000001
 unfoldable pub named : ℕ → List ℕ → List ℕ
 named t v = paramWord ++ (two t blank (4 + length v) ++ value v)
 
@@ -67,18 +67,18 @@ parsText style (p ∷ ps) = parText style p ++ parsText style ps
 unfoldable pub verdictLine : ℕ → List ℕ
 verdictLine code = verdictWord ++ decimal code
 
--- the line `message`: class, type, number of bytes
+-- class, type and number of bytes, as message 4 1 28
 unfoldable pub headLine : ℕ → ℕ → ℕ → List ℕ
 headLine class kind size = messageWord ++ (two class blank kind ++ ((blank ∷ []) ++ decimal size))
 
 unfoldable pub acceptedText : Style → ℕ → ℕ → List ℕ → List ℕ
 acceptedText style class kind s = headLine class kind (length s) ++ (parsText style (walk s 8 .pars) ++ (joint style ++ verdictLine 0))
 
--- all lines; of a refused message the verdict alone
+-- what `show` says of any bytes (Rule 12.1)
 unfoldable pub shownText : Style → List ℕ → List ℕ
 shownText style s =
     cond (eqb (readingOf s .code) 0) (acceptedText style (readingOf s .class) (readingOf s .kind) s) (verdictLine (readingOf s .code))
 
--- the answer of `read` (docs/SCRIPT.md)
+-- what `read` says of any bytes: the verdict, and the parameters of an accepted message
 unfoldable pub readText : List ℕ → List ℕ
 readText s = decimal (readingOf s .code) ++ cond (eqb (readingOf s .code) 0) (parsText Plain (walk s 8 .pars)) []

@@ -114,7 +114,7 @@ fn put_pars(style: Style, s: &[u8], out: &mut [u8; 65536], from: usize) -> usize
     let mut at = 8;
     let mut used = from;
     loop {
-        let w = wire::step_at(s, at);
+        let w = wire::reading_at(s, at);
         let Step::Param { tag, len, next } = w else {
             return used;
         };
@@ -136,7 +136,7 @@ fn put_at(
     requires { ⌜ used + 31 + 2 * length (partOf (now s) at len) ≤ 65536 ⌝ }
     ensures { λ r. ⌜ Put (now (out .entry)) (now (out .exit)) used (parText style (par tag (partOf (now (s .entry)) at len))) r ⌝ }
 {
-    let v = wire::part_at(s, at, len as usize);
+    let v = wire::value_at(s, at, len as usize);
     put_par(style, tag, v, out, used)
 }
 

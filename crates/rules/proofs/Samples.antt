@@ -13,7 +13,7 @@ use Rattle.parameter.specs.Table.{table, among, hasClass, rowIn, entriesIn, use
 use Rattle.parameter.specs.Value.{limitsOf, wordCode, plainCode, idCode, rangeCode, bodyCode}
 use Rattle.message.specs.Meaning.{meaning, outcome, readingOf, bodyIn, dataOf}
 use Rattle.message.specs.Samples.{active, up}
-use Rattle.message.specs.Seen.{there, word, sequenceAt, endAt, meaningAt, outcomeAt, bodyAt, rowOutcome, checksOutcome}
+use Rattle.message.specs.Seen.{there, word, sequenceAt, endAt, meaningAt, outcomeAt, rowOutcome, checksOutcome}
 use Rattle.message.specs.Verdict.{has, head, number, isNone, inTurn, allThere, sequenceCode, parsCode, lastChecks, verdict}
 use Rattle.gateway.specs.Sound.{countsIn, blankFrom, differs, upAt, soundAsps, memberAt, activeAt, soundRow, activeIn, modeAt, waitingAt, overrideAt, soundAs, soundAses, ascends, allUnder, soundLinks, consistent, zeros}
 use Rattle.config.specs.Plan.{offset, count, follow, laidOut, column, aspIds, masks, spares, modes, linkIds, owners, modesOk, masksOk, sparesOk, rowsOk, members, fresh, built, loadOf}
@@ -35,7 +35,7 @@ use Rattle.rules.specs.Samples.{planS, fresh as fresh-rules, bare, m, g�
 use Rattle.rules.specs.Work.{given, spread, deedIn}
 
 computed : Samples × ReachApart
-unfolding anyBelow allBelow concatBelow firstBelow countBelow tab be stepAt walkF walk partOf textCode allowedCode parCode slot tagAt infoOf allMet allAsked rowBits table among hasClass rowIn entriesIn useIn usage limitsOf wordCode plainCode idCode rangeCode bodyCode meaning outcome readingOf bodyIn dataOf active up there word sequenceAt endAt meaningAt outcomeAt bodyAt rowOutcome checksOutcome has head number isNone inTurn allThere sequenceCode parsCode lastChecks verdict countsIn blankFrom differs upAt soundAsps memberAt activeAt soundRow activeIn modeAt waitingAt overrideAt soundAs ascends allUnder soundLinks consistent soundAses zeros offset count follow laidOut column aspIds masks spares modes linkIds owners modesOk masksOk sparesOk rowsOk members fresh built loadOf indexOf known rank stateOf before receives ownerOf isRefused isOf firstIn someIn startAt stopAt entries firstOf refusedIn refusedEntry someOf someEntry wordsOf toEach toAll putAt place without joined turned overtaken nobody settle isTold notifiesTo notifies actionsIn announced spoken row membersUp recordFrom some stateIn laid columnOf flagAt actionsAt newActive newWaiting moved allActions upDeed downDeed lostDeed otherMode activeDeed inactiveDeed trafficDeed actions next firstRefused ownsNamed ownersNamed isKnown linkOf establish release dataWork linkWork classSixDeed recipientsOf toRecipients linkUpDeed linkDownDeed linkMessageDeed ownsId readReach messageReach reach isError fromAsp readDeed messageDeed fromLink refusalOf planS fresh-rules bare m g₁ g₂ g₃ g₄ g₅ takes rises given spread deedIn
+unfolding anyBelow allBelow concatBelow firstBelow countBelow tab be stepAt walkF walk partOf textCode allowedCode parCode slot tagAt infoOf allMet allAsked rowBits table among hasClass rowIn entriesIn useIn usage limitsOf wordCode plainCode idCode rangeCode bodyCode meaning outcome readingOf bodyIn dataOf active up there word sequenceAt endAt meaningAt outcomeAt rowOutcome checksOutcome has head number isNone inTurn allThere sequenceCode parsCode lastChecks verdict countsIn blankFrom differs upAt soundAsps memberAt activeAt soundRow activeIn modeAt waitingAt overrideAt soundAs ascends allUnder soundLinks consistent soundAses zeros offset count follow laidOut column aspIds masks spares modes linkIds owners modesOk masksOk sparesOk rowsOk members fresh built loadOf indexOf known rank stateOf before receives ownerOf isRefused isOf firstIn someIn startAt stopAt entries firstOf refusedIn refusedEntry someOf someEntry wordsOf toEach toAll putAt place without joined turned overtaken nobody settle isTold notifiesTo notifies actionsIn announced spoken row membersUp recordFrom some stateIn laid columnOf flagAt actionsAt newActive newWaiting moved allActions upDeed downDeed lostDeed otherMode activeDeed inactiveDeed trafficDeed actions next firstRefused ownsNamed ownersNamed isKnown linkOf establish release dataWork linkWork classSixDeed recipientsOf toRecipients linkUpDeed linkDownDeed linkMessageDeed ownsId readReach messageReach reach isError fromAsp readDeed messageDeed fromLink refusalOf planS fresh-rules bare m g₁ g₂ g₃ g₄ g₅ takes rises given spread deedIn
 computed = (
   record { reader = reader-samples; takes-over = refl; overrides = refl; pends = refl; recovers = refl },
   record { ases = refl; first = (refl, refl); second = (refl, refl) },

@@ -1,4 +1,4 @@
--- The answer to each line of a script (docs/SCRIPT.md).
+-- The answer to each line of a script.
 -- Assumes nothing.
 use mathlib.Core.Path.{_≡_}
 use mathlib.Core.Bool.{cond}
@@ -45,11 +45,11 @@ answerOf Read rest = onBytes readText rest
 answerOf Show rest = onBytes (shownText Bars) rest
 answerOf Bad rest = badText
 
--- the answer to a line; one that is too long is no command
+-- a line of more than 65,535 characters is no command
 unfoldable pub answerText : List ℕ → List ℕ
 answerText line = cond (ltb 65535 (length line)) badText (answerOf (commandIn (wordIn line)) (restIn line))
 
--- no answer to a blank line or a comment, which begins with `#`
+-- a line with nothing in it, or a comment, has no answer
 unfoldable pub lineText : List ℕ → List ℕ
 lineText line = cond (eqb (length line) 0) [] (cond (eqb (getD line 0 0) 35) [] (answerText line ++ (10 ∷ [])))
 

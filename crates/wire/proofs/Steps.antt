@@ -44,6 +44,7 @@ module _ (s : List ℕ) (at : ℕ) where
     pub low : 4 ≤ l
     pub past : at + l ≤ n
     pub within : n ≤ length s
+    pub place : n ≡ at + padded l
 
   pub step-next : (t l n : ℕ) → stepAt s at ≡ Param t l n → Next l n
   unfolding stepAt
@@ -61,7 +62,7 @@ module _ (s : List ℕ) (at : ℕ) where
           let h₁ : at < length s = leb-false _ _ ea in
           let h₂ : 4 ≤ be 2 s (at + 2) = ltb-false _ _ ec in
           let h₃ : padded (be 2 s (at + 2)) ≤ length s - at = leb-true _ _ ed in
-          record { low = omega arith; past = omega arith; within = omega arith }
+          record { low = omega arith; past = omega arith; within = omega arith; place = sym en ∙ ap (λ (x : ℕ). at + padded x) el }
 
 -- any count that is large enough gives the same walk
 same : (s : List ℕ) (f g at : ℕ) → length s - at < f → length s - at < g → walkF f s at ≡ walkF g s at

@@ -1,4 +1,4 @@
--- Numbers in a list of bytes (Rule 1.1).
+-- Numbers in a list of bytes, the highest byte first (Rule 1.1).
 -- Assumes nothing.
 use Prim.Native.Nat.{ℕ, zero, suc, _+_, _*_}
 use mathlib.Core.List.{List}

@@ -1,4 +1,4 @@
--- What the walk over a message's parameters finds (Rules 1.3 to 1.6).
+-- What the walk over a message's parameters finds.
 -- Assumes nothing.
 use Prim.Native.Nat.{ℕ, zero, suc, _+_, _-_, _*_, _/_}
 use mathlib.Core.Bool.{cond}
@@ -9,12 +9,11 @@ use Rattle.wire.specs.Number.{be}
 use Rattle.wire.specs.declared.Step.{Step}
 use Rattle.wire.specs.declared.Step.the-variants.{Param, End, Fault}
 
--- a length with its padding, a multiple of 4 (Rule 1.4)
+-- a length with its padding (Rule 1.4)
 abbrev pub padded : ℕ → ℕ
 padded n = (n + 3) / 4 * 4
 
--- What stands at a position (Rule 1.5): nothing is left, the end; a parameter that is whole with its padding, and the position behind it; else a
--- fault.
+-- What stands at a position (Rules 1.3 and 1.5): the end, a fault, or a parameter with its tag, its length field and the position behind its padding.
 unfoldable pub stepAt : List ℕ → ℕ → Step
 stepAt s at =
     cond (leb (length s) at) End
@@ -29,25 +28,25 @@ pub record Par : Type 0 where
   pub tag : ℕ
   pub body : List ℕ
 
--- the number of each case (Rule 1.5)
+-- the number of a reading (Rule 1.5)
 abbrev pub stepCode : Step → ℕ
 stepCode (Param t l n) = 0
 stepCode End = 0
 stepCode Fault = 18
 
--- the parameters up to where the walk stops, and the number of what stopped it
+-- what a walk finds: the parameters up to the end or the fault that stops it, and the number of that
 pub record Walk : Type 0 where
   pub pars : List Par
   pub code : ℕ
 
--- one step, and the walk from the next position on; a value is a part of the message (Rule 1.6)
+-- one reading, and the walk from the next position on. A value lies behind tag and length, without the padding (Rule 1.6).
 abbrev pub onStep : List ℕ → ℕ → Step → (ℕ → Walk) → Walk
 onStep s at (Param t l n) rest =
     record { pars = record { tag = t; body = take (l - 4) (drop (at + 4) s) } ∷ rest n .pars; code = rest n .code }
 onStep s at End rest = record { pars = []; code = stepCode End }
 onStep s at Fault rest = record { pars = []; code = stepCode Fault }
 
--- the walk in at most so many steps
+-- the walk in at most so many readings
 unfoldable pub walkF : ℕ → List ℕ → ℕ → Walk
 walkF zero s at = record { pars = []; code = stepCode Fault }
 walkF (suc f) s at = onStep s at (stepAt s at) (walkF f s)
@@ -56,7 +55,7 @@ walkF (suc f) s at = onStep s at (stepAt s at) (walkF f s)
 unfoldable pub walk : List ℕ → ℕ → Walk
 walk s at = walkF (suc (length s - at)) s at
 
--- the value of the parameter at a position whose length field is len; nothing where it does not lie within the message
+-- the value of the parameter at a position, whose length field is len; nothing where it does not lie within the message (Rule 1.6)
 unfoldable pub partOf : List ℕ → ℕ → ℕ → List ℕ
 partOf s at len =
     cond (ltb len 4) []

@@ -138,11 +138,11 @@ pub struct Place<'a> {
     pub at: usize,
 }
 
-// The place of the first parameter, behind the header.
-pub fn start<'a>(msg: &'a [u8]) -> Place<'a>
-    ensures { λ r. ⌜ (r .msg ≡ msg .entry) × (r .at ≡ 8) ⌝ }
+// The place at a position of a message.
+pub fn place_at<'a>(msg: &'a [u8], at: usize) -> Place<'a>
+    ensures { λ r. ⌜ (r .msg ≡ msg .entry) × (r .at ≡ at) ⌝ }
 {
-    Place { msg, at: HEADER }
+    Place { msg, at }
 }
 
 // What stands at the place.
@@ -159,9 +159,16 @@ pub fn value<'a>(p: Place<'a>, len: usize) -> &'a [u8]
     part_at(p.msg, p.at, len)
 }
 
-// The first reading of a message.
-pub fn first_reading(s: &[u8]) -> Step
-    ensures { λ r. ⌜ r ≡ stepAt (now (s .entry)) 8 ⌝ }
+// What stands at a position, read by a place made there.
+pub fn reading_at(s: &[u8], at: usize) -> Step
+    ensures { λ r. ⌜ r ≡ stepAt (now (s .entry)) at ⌝ }
 {
-    reading(start(s))
+    reading(place_at(s, at))
+}
+
+// The value of the parameter at a position, whose length field is len, read by a place made there.
+pub fn value_at(s: &[u8], at: usize, len: usize) -> &[u8]
+    ensures { λ r. ⌜ now r ≡ partOf (now (s .entry)) at len ⌝ }
+{
+    value(place_at(s, at), len)
 }

@@ -5,25 +5,19 @@ use borrow.Author.Needs.{needs}
 use Rattle.parameter.proofs.limits_of.Statement.{statement}
 use Rattle.parameter.proofs.limits_of.Tie as tie
 
-returns : tie.Need-returns
-unfolding limitsOf
-returns c = c .bytes-of .ensures ∙ ap limitsOf (sym (c .before .match .keys1))
-
-returns-6 : tie.Need-returns-6
-unfolding limitsOf
-returns-6 c = c .number-of .ensures ∙ ap limitsOf (sym (c .before .match .keys6))
-
 pub limits-of-spec : {M : Type 1} → statement M
 unfolding limitsOf
 limits-of-spec =
     tie.close
     (tie.spec
     (search needs) (search needs) (search needs) (search needs) (search needs) (search needs) (search needs) (search needs) (search needs)
-    (search needs) (search needs) (search needs) (search needs) (search needs) returns
+    (search needs) (search needs) (search needs) (search needs) (search needs)
+    (λ c. c .bytes-of .ensures ∙ ap limitsOf (sym (c .before .match .keys1)))
     (λ c. c .bytes-of2 .ensures ∙ ap limitsOf (sym (c .before .match .keys2)))
     (λ c. c .bytes-of3 .ensures ∙ ap limitsOf (sym (c .before .match .keys3)))
     (λ c. c .bytes-of4 .ensures ∙ ap limitsOf (sym (c .before .match .keys4)))
-    (λ c. c .bytes-of5 .ensures ∙ ap limitsOf (sym (c .before .match .keys5))) returns-6
+    (λ c. c .bytes-of5 .ensures ∙ ap limitsOf (sym (c .before .match .keys5)))
+    (λ c. c .number-of .ensures ∙ ap limitsOf (sym (c .before .match .keys6)))
     (λ c. c .number-of2 .ensures ∙ ap limitsOf (sym (c .before .match .keys7)))
     (λ c. c .number-of3 .ensures ∙ ap limitsOf (sym (c .before .match .keys8)))
     (λ c. c .number-of4 .ensures ∙ ap limitsOf (sym (c .before .match .keys9)))

@@ -18,20 +18,20 @@ loop-holds : tie.Need-loop-holds Inv-loop μ-loop
 loop-holds c = record { bytes = refl; place = refl }
 
 returns : tie.Need-returns Inv-loop μ-loop
-returns c = (rest-stop (c .before .before .loop .inv) _ (sym (c .before .step-at .ensures)) (c .match .keys2), rest-used (c .before .before .loop .inv))
+returns c = (rest-stop (c .before .before .loop .inv) _ (sym (c .before .reading-at .ensures)) (c .match .keys2), rest-used (c .before .before .loop .inv))
 
 put-at-requires : tie.Need-put-at-requires Inv-loop μ-loop
 put-at-requires c κs =
-    let k = rest-room (c .before .before .before .before .before .loop .inv) _ _ _ (sym (c .before .before .before .before .step-at .ensures) ∙ c .before .before .w .given .1) in
+    let k = rest-room (c .before .before .before .before .before .loop .inv) _ _ _ (sym (c .before .before .before .before .reading-at .ensures) ∙ c .before .before .w .given .1) in
     omega arith
 
 loop-less : tie.Need-loop-less Inv-loop μ-loop
 loop-less c =
-    let k = step-next _ _ _ _ _ (sym (c .before .before .before .before .before .step-at .ensures) ∙ c .before .before .before .w .given .1) in
+    let k = step-next _ _ _ _ _ (sym (c .before .before .before .before .before .reading-at .ensures) ∙ c .before .before .before .w .given .1) in
     omega arith
 
 loop-again : tie.Need-loop-again Inv-loop μ-loop
-loop-again c = rest-next (c .before .before .before .before .before .before .loop .inv) _ _ _ (sym (c .before .before .before .before .before .step-at .ensures) ∙ c .before .before .before .w .given .1) _ _ (c .put-at .ensures)
+loop-again c = rest-next (c .before .before .before .before .before .before .loop .inv) _ _ _ (sym (c .before .before .before .before .before .reading-at .ensures) ∙ c .before .before .before .w .given .1) _ _ (c .put-at .ensures)
 
 pub put-pars-spec : {M : Type 1} → statement M
 put-pars-spec =
