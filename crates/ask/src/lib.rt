@@ -9,10 +9,15 @@ ghost use Rattle.ask.specs.Inner.Ask.{askKnown, askOf, Asks};
 
 // The numbers of the six kinds of event.
 pub const MESSAGE: u32 = 0;
+
 pub const LOST: u32 = 1;
+
 pub const RECOVERY: u32 = 2;
+
 pub const LINK_UP: u32 = 3;
+
 pub const LINK_DOWN: u32 = 4;
+
 pub const LINK_MESSAGE: u32 = 5;
 
 // What an event asks of the gateway, its message read.

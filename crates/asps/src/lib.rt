@@ -16,8 +16,7 @@ ghost use Rattle.servers.specs.Moved.{columnOf};
 ghost use Rattle.server.specs.declared.Change.the-variants.{Rise, Recover};
 ghost use Rattle.rules.specs.Deed.{change};
 ghost use Rattle.rules.specs.Asp.{upDeed, downDeed, lostDeed};
-ghost use Rattle.work.specs.Decides.{Decides};
-ghost use Rattle.asps.specs.View.{aspView};
+ghost use Rattle.work.specs.Decides.{Decides, DecidesOn};
 
 // AS a alone.
 pub fn only(a: usize) -> [bool; 16]
@@ -32,7 +31,7 @@ pub fn only(a: usize) -> [bool; 16]
 
 // ---- up and down
 
-// "Else Ack. If p was active anywhere: also Error 6, and p is inactive everywhere. p is up.": mine are p's ASes.
+// Up that is taken (Rule 7.4): was says that p was active in some AS, mine are its ASes.
 fn rise(p: usize, was: bool, mine: [bool; 16]) -> Work
     requires { ⌜ p < 16 ⌝ }
     ensures { λ w. ⌜ Decides w (change (action p 772 0 0 ∷ cond was (action p 0 0 6 ∷ []) []) (Rise p) mine) ⌝ }
@@ -45,14 +44,14 @@ fn rise(p: usize, was: bool, mine: [bool; 16]) -> Work
     work::change_one(ack, Change::Rise(p), mine)
 }
 
-// "an identifier given and not the plan's"
+// Whether an ASP identifier is given that is not p's own.
 fn is_other(r: Reading, own: u32) -> bool
     ensures { λ w. ⌜ w ≡ (eqb (r .identified) 1 && not (eqb (r .aspid) own)) ⌝ }
 {
     (r.identified == 1) & (r.aspid != own)
 }
 
-// "Up: an identifier given and not the plan's: Error 15. Else .."
+// Up (Rule 7.4).
 pub fn up_work<'a>(
     aspid: &'a [u32; 16],
     member: &'a [u8; 256],
@@ -61,7 +60,7 @@ pub fn up_work<'a>(
     r: Reading,
 ) -> Work
     requires { ⌜ p < 16 ⌝ }
-    ensures { λ w. ⌜ Decides w (upDeed (aspView (now (aspid .entry)) (now (member .entry)) (now (active .entry))) p r) ⌝ }
+    ensures { λ w. ⌜ DecidesOn (λ g. (g .aspid ≡ now (aspid .entry)) × (g .member ≡ now (member .entry)) × (g .active ≡ now (active .entry))) (λ g. upDeed g p r) w ⌝ }
 {
     if is_other(r, aspid[p]) {
         return work::error(p, 15);
@@ -69,10 +68,10 @@ pub fn up_work<'a>(
     rise(p, has_some(column_of(active, p)), column_of(member, p))
 }
 
-// "Down: Ack; p down, inactive everywhere."
+// Down (Rule 7.5).
 pub fn down_work(member: &[u8; 256], p: usize) -> Work
     requires { ⌜ p < 16 ⌝ }
-    ensures { λ w. ⌜ Decides w (downDeed (aspView [] (now (member .entry)) []) p) ⌝ }
+    ensures { λ w. ⌜ DecidesOn (λ g. g .member ≡ now (member .entry)) (λ g. downDeed g p) w ⌝ }
 {
     work::change_one(
         work::to_asp(p, 773, 0, 0),
@@ -81,15 +80,15 @@ pub fn down_work(member: &[u8; 256], p: usize) -> Work
     )
 }
 
-// "Lost: the same without Ack."
+// The association is lost (Rule 7.6).
 pub fn lost_work(member: &[u8; 256], p: usize) -> Work
     requires { ⌜ p < 16 ⌝ }
-    ensures { λ w. ⌜ Decides w (lostDeed (aspView [] (now (member .entry)) []) p) ⌝ }
+    ensures { λ w. ⌜ DecidesOn (λ g. g .member ≡ now (member .entry)) (λ g. lostDeed g p) w ⌝ }
 {
     work::change_only(Change::Fall(p), column_of(member, p))
 }
 
-// "Recovery over: waiting ends."
+// The recovery time is over (Rule 7.13).
 pub fn recovery_work(a: usize) -> Work
     ensures { λ w. ⌜ Decides w (change [] Recover (tab 16 (λ c. eqb c a))) ⌝ }
 {

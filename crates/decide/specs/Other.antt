@@ -17,30 +17,24 @@ use Rattle.rules.specs.Deed.{Deed, say, error, sent}
 use Rattle.rules.specs.Asp.{upDeed, downDeed, trafficDeed, activeDeed, inactiveDeed}
 use Rattle.rules.specs.Link.{classSixDeed}
 use Rattle.rules.specs.Rules.{isError, typeOf, fromAsp, readDeed, messageDeed}
-use Rattle.links.specs.View as links
 use Rattle.links.specs.Side.{code-is}
 
 -- the class and type as one number; 0 of an Error (wrong) and of what cannot be read
 unfoldable pub typeIn : Bool → Reading → ℕ
 typeIn wrong r = cond wrong 0 (cond (eqb (r .code) 0) (typeOf r) 0)
 
--- "Beat: Beat Ack. Beat Ack: nothing.", class 6, "Any other message: Error 6.", as the code asks; six says that the type is one of class 6 that ASPs send
-unfoldable pub otherTree : Gateway → ℕ → Reading → Bool → Deed
-otherTree g p r six =
+-- Beat, Beat Ack, class 6 and any other (Rules 7.7, 7.14, 7.23), as the code asks; six says that the type is one of class 6 that ASPs send, d what it does
+unfoldable pub otherTree : Deed → ℕ → Reading → Bool → Deed
+otherTree d p r six =
     cond (eqb (typeOf r) 771) (say (sent p 774 0 0))
     (cond (eqb (typeOf r) 774) (say [])
-    (cond (eqb (r .class) 6) (cond six (classSixDeed g p r) (say (error p 6)))
+    (cond (eqb (r .class) 6) (cond six d (say (error p 6)))
     (say (error p 6))))
 
 -- nothing for an Error, and an Error for what cannot be read
 unfoldable pub otherDeed : Gateway → ℕ → Bool → Reading → Deed
 otherDeed g p wrong r =
-    cond wrong (say []) (cond (eqb (r .code) 0) (otherTree g p r (fromAsp (r .kind))) (say (error p (r .code))))
-
--- the rules ask no other columns
-pub other-same : (g : Gateway) (p : ℕ) (wrong : Bool) (r : Reading) → otherDeed (links.sixView (g .links) (g .up) (g .member) (g .active) (g .iid) (g .owner) (g .state)) p wrong r ≡ otherDeed g p wrong r
-unfolding otherDeed otherTree
-other-same g p wrong r = rw (links.six-same g p r)
+    cond wrong (say []) (cond (eqb (r .code) 0) (otherTree (classSixDeed g p r) p r (fromAsp (r .kind))) (say (error p (r .code))))
 
 -- ---- a readable message, by its type
 
@@ -61,7 +55,7 @@ module _ (g : Gateway) (p : ℕ) (s : List ℕ) (r : Reading) where
   unfolding readDeed
   read-inactive e = rw e
 
-  read-other : (typeOf r ≡ 769 → ⊥) → (typeOf r ≡ 770 → ⊥) → (typeOf r ≡ 1025 → ⊥) → (typeOf r ≡ 1026 → ⊥) → readDeed g p s r ≡ otherTree g p r (fromAsp (r .kind))
+  read-other : (typeOf r ≡ 769 → ⊥) → (typeOf r ≡ 770 → ⊥) → (typeOf r ≡ 1025 → ⊥) → (typeOf r ≡ 1026 → ⊥) → readDeed g p s r ≡ otherTree (classSixDeed g p r) p r (fromAsp (r .kind))
   unfolding readDeed otherTree
   read-other up down on off =
       rw (ne-eqb (typeOf r) 769 up, ne-eqb (typeOf r) 770 down, ne-eqb (typeOf r) 1025 on, ne-eqb (typeOf r) 1026 off)
@@ -74,12 +68,12 @@ module _ (g : Gateway) (p : ℕ) (s : List ℕ) (r : Reading) where
 -- ---- any message, by its type
 
 -- a type is that of a message that is no Error and can be read
-record Typed (wrong : Bool) (r : Reading) (t : ℕ) : Type 0 where
-  right : wrong ≡ false
-  code : r .code ≡ 0
-  type : typeOf r ≡ t
+pub record Typed (wrong : Bool) (r : Reading) (t : ℕ) : Type 0 where
+  pub right : wrong ≡ false
+  pub code : r .code ≡ 0
+  pub type : typeOf r ≡ t
 
-typed : (wrong : Bool) (r : Reading) (t : ℕ) → typeIn wrong r ≡ t → (0 ≡ t → ⊥) → Typed wrong r t
+pub typed : (wrong : Bool) (r : Reading) (t : ℕ) → typeIn wrong r ≡ t → (0 ≡ t → ⊥) → Typed wrong r t
 unfolding typeIn
 typed wrong r t = go wrong (eqb (r .code) 0) refl
   where
@@ -110,7 +104,7 @@ module _ (g : Gateway) (p : ℕ) (s : List ℕ) where
   message-other = rw (← code-is s) (go (isError s) (eqb (readingOf s .code) 0))
     where
       go : (u v : Bool) → (cond u 0 (cond v (typeOf (readingOf s)) 0) ≡ 769 → ⊥) → (cond u 0 (cond v (typeOf (readingOf s)) 0) ≡ 770 → ⊥) → (cond u 0 (cond v (typeOf (readingOf s)) 0) ≡ 1025 → ⊥) → (cond u 0 (cond v (typeOf (readingOf s)) 0) ≡ 1026 → ⊥)
-          → cond u (say []) (cond v (readDeed g p s (readingOf s)) (say (error p (readingOf s .code)))) ≡ cond u (say []) (cond v (otherTree g p (readingOf s) (fromAsp (readingOf s .kind))) (say (error p (readingOf s .code))))
+          → cond u (say []) (cond v (readDeed g p s (readingOf s)) (say (error p (readingOf s .code)))) ≡ cond u (say []) (cond v (otherTree (classSixDeed g p (readingOf s)) p (readingOf s) (fromAsp (readingOf s .kind))) (say (error p (readingOf s .code))))
       go true v a b c d = refl
       go false true a b c d = read-other g p s (readingOf s) a b c d
       go false false a b c d = refl

@@ -5,11 +5,12 @@ ghost use mathlib.Core.Path.{_≡_};
 ghost use Prim.Native.Nat.{_<_};
 ghost use Rattle.ranges.specs.Laws.{Table};
 ghost use Rattle.rules.specs.Rules.{isError, fromAsp};
-ghost use Rattle.work.specs.Decides.{Decides};
-ghost use Rattle.links.specs.View.{sixView};
+ghost use Rattle.rules.specs.Link.{classSixDeed};
+ghost use Rattle.work.specs.Decides.{DecidesOn};
+ghost use Rattle.links.specs.Six.{SixColumns};
 ghost use Rattle.decide.specs.Other.{otherTree, otherDeed, typeIn};
 
-// "Bytes 2 and 3, from 0, both 0 in 4 or more bytes (an Error)"
+// Whether a message is an Error (Rule 7.2).
 pub fn is_error(s: &[u8]) -> bool
     ensures { λ r. ⌜ r ≡ isError (now (s .entry)) ⌝ }
 {
@@ -19,14 +20,14 @@ pub fn is_error(s: &[u8]) -> bool
     (s[2] == 0) & (s[3] == 0)
 }
 
-// 6.1, 6.2, 6.4, 6.7, 6.10, 6.15
+// The types of class 6 that ASPs send (Rule 7.14).
 fn from_asp(k: u32) -> bool
     ensures { λ r. ⌜ r ≡ fromAsp k ⌝ }
 {
     (((((k == 1) | (k == 2)) | (k == 4)) | (k == 7)) | (k == 10)) | (k == 15)
 }
 
-// Beat, Beat Ack, class 6 and any other, by class and type; six says that the type is one of class 6 that ASPs send.
+// Beat, Beat Ack, class 6 and any other (Rules 7.7, 7.14, 7.23), by class and type; six says that the type is one of class 6 that ASPs send.
 fn other_tree<'a>(
     links: usize,
     up: &'a [u8; 16],
@@ -40,7 +41,7 @@ fn other_tree<'a>(
     six: bool,
 ) -> Work
     requires { ⌜ Table (now iid) (now owner) links × (p < 16) × (r .class < 256) × (r .kind < 256) ⌝ }
-    ensures { λ w. ⌜ Decides w (otherTree (sixView links (now (up .entry)) (now (member .entry)) (now (active .entry)) (now (iid .entry)) (now (owner .entry)) (now (state .entry))) p r six) ⌝ }
+    ensures { λ w. ⌜ DecidesOn (SixColumns links (now (up .entry)) (now (member .entry)) (now (active .entry)) (now (iid .entry)) (now (owner .entry)) (now (state .entry))) (λ g. otherTree (classSixDeed g p r) p r six) w ⌝ }
 {
     let t = r.class * 256 + r.kind;
     if t == 771 {
@@ -72,7 +73,7 @@ pub fn other_work<'a>(
     r: Reading,
 ) -> Work
     requires { ⌜ Table (now iid) (now owner) links × (p < 16) × (r .class < 256) × (r .kind < 256) ⌝ }
-    ensures { λ w. ⌜ Decides w (otherDeed (sixView links (now (up .entry)) (now (member .entry)) (now (active .entry)) (now (iid .entry)) (now (owner .entry)) (now (state .entry))) p error r) ⌝ }
+    ensures { λ w. ⌜ DecidesOn (SixColumns links (now (up .entry)) (now (member .entry)) (now (active .entry)) (now (iid .entry)) (now (owner .entry)) (now (state .entry))) (λ g. otherDeed g p error r) w ⌝ }
 {
     if error {
         return work::nothing();

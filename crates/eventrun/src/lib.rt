@@ -1,11 +1,11 @@
 // The event that a script's line says: run by the entry of its kind, and what it reaches.
 use eventline::Kind;
-use node::Node;
 use gateway::Gateway;
+use node::Node;
 use rules::Outcome;
 ghost use mathlib.Core.Path.{_≡_};
-ghost use Rattle.ask.specs.Happened.{event};
-ghost use Rattle.reach.specs.Reached.{eventOf, reached};
+ghost use Rattle.ask.specs.Happened.{event, eventOf};
+ghost use Rattle.reach.specs.Reached.{reached};
 ghost use Rattle.rules.specs.Entry.{Handed};
 ghost use Rattle.eventrun.specs.Line.{said};
 

@@ -1,4 +1,3 @@
 pub mod Perform
-pub mod Active
 pub mod Work
-pub mod View
+pub mod Columns

@@ -10,11 +10,11 @@ ghost use Rattle.action.specs.Words.{Written};
 ghost use Rattle.ranges.specs.Laws.{Table};
 ghost use Rattle.rules.specs.Entry.{Handed};
 ghost use Rattle.rules.specs.Work.{given, spread, deedIn};
-ghost use Rattle.work.specs.Decides.{aspOf, Decides};
+ghost use Rattle.work.specs.Decides.{aspOf, DecidesOn};
 ghost use Rattle.ask.specs.Happened.{happened, event};
 ghost use Rattle.ask.specs.Inner.Ask.{askDeed, AskFits};
-ghost use Rattle.events.specs.View.{askView};
-ghost use Rattle.events.specs.Work.{firstOf, asesView, Enacted, linkAfter};
+ghost use Rattle.events.specs.Columns.{AskColumns};
+ghost use Rattle.events.specs.Work.{firstOf, AsesColumns, EnactedOn, linkAfter};
 
 // ---- what is done
 
@@ -33,7 +33,7 @@ fn decided<'a>(
     state: &'a [u8; 128],
 ) -> Work
     requires { ⌜ Table (now iid) (now owner) links × AskFits links (now iid) ask ⌝ }
-    ensures { λ w. ⌜ Decides w (askDeed (askView links (now (aspid .entry)) (now (up .entry)) (now (member .entry)) (now (active .entry)) (now (mode .entry)) (now (iid .entry)) (now (owner .entry)) (now (state .entry))) (now (msg .entry)) ask) ⌝ }
+    ensures { λ w. ⌜ DecidesOn (AskColumns links (now (aspid .entry)) (now (up .entry)) (now (member .entry)) (now (active .entry)) (now (mode .entry)) (now (iid .entry)) (now (owner .entry)) (now (state .entry))) (λ g. askDeed g (now (msg .entry)) ask) w ⌝ }
 {
     match ask {
         Ask::Up(p, r) => asps::up_work(aspid, member, active, p, r),
@@ -95,7 +95,7 @@ fn enact<'a>(
     words: &mut [u32],
 ) -> usize
     requires { ⌜ (1032 ≤ length (now words)) × (aspOf (w .change) < 16) × (length (now up) ≡ 16) × (length (now active) ≡ 256) × (length (now waiting) ≡ 16) ⌝ }
-    ensures { λ r. ⌜ Enacted (asesView (now (up .entry)) (now (member .entry)) (now (active .entry)) (now (mode .entry)) (now (waiting .entry))) (deedIn w) (now (words .entry)) (now (up .exit)) (now (active .exit)) (now (waiting .exit)) (now (words .exit)) r ⌝ }
+    ensures { λ r. ⌜ EnactedOn (AsesColumns (now (up .entry)) (now (member .entry)) (now (active .entry)) (now (mode .entry)) (now (waiting .entry))) (deedIn w) (now (words .entry)) (now (up .exit)) (now (active .exit)) (now (waiting .exit)) (now (words .exit)) r ⌝ }
 {
     let n = first(w, words);
     if w.what == 2 {

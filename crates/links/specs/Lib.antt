@@ -1,3 +1,3 @@
-pub mod View
 pub mod Six
 pub mod Side
+pub mod Recipients

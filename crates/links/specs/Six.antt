@@ -1,4 +1,4 @@
--- The rules of class 6 in the order in which the code asks, of the index l of the message's link.
+-- The rules of class 6 (Rule 7.14) in the order in which the code asks, of the index l of the message's link.
 -- Assumes nothing.
 use mathlib.Core.Path.{_≡_, refl}
 use mathlib.Core.Bool.{Bool, true, false, cond, not, _&&_}
@@ -10,10 +10,12 @@ use Rattle.message.specs.declared.Reading.{Reading}
 use Rattle.action.specs.Words.{action, linkSide}
 use Rattle.gateway.specs.Sound.{pair}
 use Rattle.gateway.specs.declared.Gateway.{Gateway}
-use Rattle.lookup.specs.Links.{known}
+use Rattle.lookup.specs.Links.{indexOf, known}
 use Rattle.rules.specs.Deed.{Deed, say, error, error2}
 use Rattle.rules.specs.Identifiers.{isKnown, linkOf}
 use Rattle.rules.specs.Link.{dataWork, linkWork, classSixDeed}
+use Rattle.rules.specs.declared.Work.{Work}
+use Rattle.work.specs.Decides.{Decides, DecidesOn, decided}
 
 -- Data, as a tree
 unfoldable pub dataTree : ℕ → ℕ → ℕ → Reading → Deed
@@ -34,17 +36,17 @@ data-tree p x st r = go (eqb st 2) (eqb (r .correlated) 1)
     go false v = refl
 
 -- p is up; the link at l is there, and owned by an AS of p; p is active in it
-unfoldable pub sixAt : Gateway → ℕ → ℕ → Reading → Deed
-sixAt g p l r =
-    cond (eqb (col (g .up) p) 1)
-    (cond (ltb l (g .links))
-    (cond (eqb (col (g .member) (pair (col (g .owner) l) p)) 1)
-    (cond (eqb (col (g .active) (pair (col (g .owner) l) p)) 1) (linkWork p (r .id) l (col (g .state) l) r) (say (error p 6)))
+unfoldable pub sixAt : ℕ → List ℕ → List ℕ → List ℕ → List ℕ → List ℕ → ℕ → ℕ → Reading → Deed
+sixAt links up member active owner state p l r =
+    cond (eqb (col up p) 1)
+    (cond (ltb l links)
+    (cond (eqb (col member (pair (col owner l) p)) 1)
+    (cond (eqb (col active (pair (col owner l) p)) 1) (linkWork p (r .id) l (col state l) r) (say (error p 6)))
     (say (error2 p (r .id))))
     (say (error2 p (r .id))))
     (say (error p 6))
 
-pub six-at : (g : Gateway) (p : ℕ) (r : Reading) → sixAt g p (linkOf g (r .id)) r ≡ classSixDeed g p r
+six-at : (g : Gateway) (p : ℕ) (r : Reading) → sixAt (g .links) (g .up) (g .member) (g .active) (g .owner) (g .state) p (linkOf g (r .id)) r ≡ classSixDeed g p r
 unfolding sixAt classSixDeed isKnown linkOf known
 six-at g p r =
     let l = linkOf g (r .id) in
@@ -57,3 +59,21 @@ six-at g p r =
     go x y z true true false a = refl
     go x y z true false m a = refl
     go x y z false k m a = refl
+
+-- the state g has these columns
+pub record SixColumns (links : ℕ) (up member active iid owner state : List ℕ) (g : Gateway) : Type 0 where
+  pub links-is : g .links ≡ links
+  pub up-is : g .up ≡ up
+  pub member-is : g .member ≡ member
+  pub active-is : g .active ≡ active
+  pub iid-is : g .iid ≡ iid
+  pub owner-is : g .owner ≡ owner
+  pub state-is : g .state ≡ state
+
+-- what is decided at the index of the message's link is the rules' on each of them
+pub six-on : {links : ℕ} {up member active iid owner state : List ℕ} (p : ℕ) (r : Reading) {l : ℕ} {w : Work}
+    → l ≡ indexOf iid links (r .id) → Decides w (sixAt links up member active owner state p l r)
+    → DecidesOn (SixColumns links up member active iid owner state) (λ g. classSixDeed g p r) w
+unfolding linkOf
+six-on p r e d =
+    record { on = λ g h. decided (rw (← h .links-is, ← h .up-is, ← h .member-is, ← h .active-is, ← h .owner-is, ← h .state-is, ← h .iid-is) at (rw e at d)) (six-at g p r) }

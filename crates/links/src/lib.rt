@@ -9,17 +9,17 @@ ghost use lib.Dec.{eqb};
 ghost use Rattle.action.specs.Words.{action, linkSide, toAll};
 ghost use Rattle.gateway.specs.Sound.{ascends};
 ghost use Rattle.ranges.specs.Laws.{Table};
-ghost use Rattle.rules.specs.Link.{establish, release, dataWork, linkWork, classSixDeed, linkUpDeed, linkDownDeed, linkMessageDeed, toRecipients};
+ghost use Rattle.rules.specs.Link.{establish, release, dataWork, linkWork, classSixDeed, linkUpDeed, linkDownDeed, linkMessageDeed};
 ghost use Rattle.rules.specs.Deed.{say, turn};
 ghost use Rattle.rules.specs.Rules.{fromLink};
-ghost use Rattle.work.specs.Decides.{Decides};
-ghost use Rattle.links.specs.View.{sixView, sideView};
-ghost use Rattle.links.specs.Six.{dataTree, sixAt};
+ghost use Rattle.work.specs.Decides.{Decides, DecidesOn};
+ghost use Rattle.links.specs.Recipients.{recipientsAt, SideColumns};
+ghost use Rattle.links.specs.Six.{dataTree, sixAt, SixColumns};
 ghost use Rattle.links.specs.Side.{passes, Side};
 
 // ---- class 6 of an ASP: p is the ASP, x the identifier, l the link's index, st its state
 
-// "Establish: in service gives 6.3 to p; idle or stopping becomes starting, order to the link side; starting, nothing."
+// Establish (Rule 7.15).
 fn establish_work(p: usize, x: u32, l: usize, st: u8) -> Work
     requires { ⌜ (p < 16) × (l < 128) ⌝ }
     ensures { λ r. ⌜ Decides r (establish p x l st) ⌝ }
@@ -33,7 +33,7 @@ fn establish_work(p: usize, x: u32, l: usize, st: u8) -> Work
     work::turn_order(l, 1, 1538, x)
 }
 
-// "Release: idle gives 6.5 to p; starting or in service becomes stopping, order to the link side; stopping, nothing."
+// Release (Rule 7.16).
 fn release_work(p: usize, x: u32, l: usize, st: u8) -> Work
     requires { ⌜ (p < 16) × (l < 128) ⌝ }
     ensures { λ r. ⌜ Decides r (release p x l st) ⌝ }
@@ -55,7 +55,7 @@ fn order_and_reply(p: usize, kind: u32, x: u32, reply: u32, value: u32) -> Work
     work::say_two(work::to_link(kind, x, 0), work::to_asp(p, reply, x, value))
 }
 
-// "Data: not in service, Error 6; else order to the link side, then, if a correlation id is given, 6.15 to p with that id as value."
+// Data (Rule 7.17), as a tree.
 fn data_tree(p: usize, x: u32, st: u8, r: Reading) -> Work
     requires { ⌜ p < 16 ⌝ }
     ensures { λ w. ⌜ Decides w (dataTree p x st r) ⌝ }
@@ -76,7 +76,7 @@ fn data_work(p: usize, x: u32, st: u8, r: Reading) -> Work
     data_tree(p, x, st, r)
 }
 
-// "6.7, 6.10: order to the link side, value state or action. 6.15: nothing. Subject is the identifier; value 0 unless said."
+// A message of class 6 whose sender may send it, by its type (Rules 7.15 to 7.19).
 fn link_work(p: usize, x: u32, l: usize, st: u8, r: Reading) -> Work
     requires { ⌜ (p < 16) × (l < 128) ⌝ }
     ensures { λ w. ⌜ Decides w (linkWork p x l st r) ⌝ }
@@ -99,7 +99,7 @@ fn link_work(p: usize, x: u32, l: usize, st: u8, r: Reading) -> Work
     work::nothing()
 }
 
-// "p down: 6; identifier unknown or AS without p: 2; p not active there: 6. Then: .."
+// The questions of Rule 7.14, of the link at l.
 fn six_at<'a>(
     links: usize,
     up: &'a [u8; 16],
@@ -113,7 +113,7 @@ fn six_at<'a>(
     r: Reading,
 ) -> Work
     requires { ⌜ Table (now iid) (now owner) links × (p < 16) ⌝ }
-    ensures { λ w. ⌜ Decides w (sixAt (sixView links (now (up .entry)) (now (member .entry)) (now (active .entry)) (now (iid .entry)) (now (owner .entry)) (now (state .entry))) p l r) ⌝ }
+    ensures { λ w. ⌜ Decides w (sixAt links (now (up .entry)) (now (member .entry)) (now (active .entry)) (now (owner .entry)) (now (state .entry)) p l r) ⌝ }
 {
     if up[p] == 1 {
         if l < links {
@@ -131,7 +131,7 @@ fn six_at<'a>(
     work::error(p, 6)
 }
 
-// "6.1, 6.2, 6.4, 6.7, 6.10, 6.15 of p"
+// A message of class 6 that ASPs send (Rule 7.14).
 pub fn class_six<'a>(
     links: usize,
     up: &'a [u8; 16],
@@ -144,7 +144,7 @@ pub fn class_six<'a>(
     r: Reading,
 ) -> Work
     requires { ⌜ Table (now iid) (now owner) links × (p < 16) ⌝ }
-    ensures { λ w. ⌜ Decides w (classSixDeed (sixView links (now (up .entry)) (now (member .entry)) (now (active .entry)) (now (iid .entry)) (now (owner .entry)) (now (state .entry))) p r) ⌝ }
+    ensures { λ w. ⌜ DecidesOn (SixColumns links (now (up .entry)) (now (member .entry)) (now (active .entry)) (now (iid .entry)) (now (owner .entry)) (now (state .entry))) (λ g. classSixDeed g p r) w ⌝ }
 {
     let l = lookup::index_of(iid, links, r.id);
     six_at(links, up, member, active, iid, owner, state, p, l, r)
@@ -152,7 +152,23 @@ pub fn class_six<'a>(
 
 // ---- to the recipients of the link at l
 
-// "starting becomes in service, 6.3 to recipients; else nothing": who they are is given.
+// Who they are.
+fn recipients_at<'a>(
+    links: usize,
+    active: &'a [u8; 256],
+    mode: &'a [u8; 16],
+    iid: &'a [u32; 128],
+    owner: &'a [u8; 128],
+    l: usize,
+) -> [bool; 16]
+    requires { ⌜ Table (now iid) (now owner) links × (l < links) ⌝ }
+    ensures { λ r. ⌜ r ≡ recipientsAt (now (active .entry)) (now (mode .entry)) (now (iid .entry)) (now (owner .entry)) l ⌝ }
+{
+    let a = owner[l] as usize;
+    lookup::recipients(active, mode[a], a, iid[l])
+}
+
+// Link up, where they are given.
 fn up_at(l: usize, st: u8, who: [bool; 16], x: u32) -> Work
     requires { ⌜ l < 128 ⌝ }
     ensures { λ w. ⌜ Decides w (cond (eqb st 1) (turn l 2 (toAll who 1539 x 0)) (say [])) ⌝ }
@@ -163,7 +179,7 @@ fn up_at(l: usize, st: u8, who: [bool; 16], x: u32) -> Work
     work::nothing()
 }
 
-// "stopping gives 6.5, starting or in service 6.6"
+// The type that a link that goes down sends.
 fn down_type(st: u8) -> u32
     ensures { λ r. ⌜ r ≡ cond (eqb st 3) 1541 1542 ⌝ }
 {
@@ -183,7 +199,7 @@ fn down_at(l: usize, st: u8, who: [bool; 16], kind: u32, x: u32) -> Work
     work::turn_spread(l, 0, who, kind, x)
 }
 
-// "Link up: starting becomes in service, 6.3 to recipients; else nothing."
+// Link up (Rule 7.20).
 pub fn link_up<'a>(
     links: usize,
     active: &'a [u8; 256],
@@ -194,14 +210,13 @@ pub fn link_up<'a>(
     l: usize,
 ) -> Work
     requires { ⌜ Table (now iid) (now owner) links × (l < links) ⌝ }
-    ensures { λ w. ⌜ Decides w (linkUpDeed (sideView links (now (active .entry)) (now (mode .entry)) (now (iid .entry)) (now (owner .entry)) (now (state .entry))) l) ⌝ }
+    ensures { λ w. ⌜ DecidesOn (SideColumns links (now (active .entry)) (now (mode .entry)) (now (iid .entry)) (now (owner .entry)) (now (state .entry))) (λ g. linkUpDeed g l) w ⌝ }
 {
-    let a = owner[l] as usize;
-    let who = lookup::recipients(active, mode[a], a, iid[l]);
+    let who = recipients_at(links, active, mode, iid, owner, l);
     up_at(l, state[l], who, iid[l])
 }
 
-// "Link down: stopping gives 6.5, starting or in service 6.6, to recipients; idle nothing; then idle."
+// Link down (Rule 7.21).
 pub fn link_down<'a>(
     links: usize,
     active: &'a [u8; 256],
@@ -212,23 +227,22 @@ pub fn link_down<'a>(
     l: usize,
 ) -> Work
     requires { ⌜ Table (now iid) (now owner) links × (l < links) ⌝ }
-    ensures { λ w. ⌜ Decides w (linkDownDeed (sideView links (now (active .entry)) (now (mode .entry)) (now (iid .entry)) (now (owner .entry)) (now (state .entry))) l) ⌝ }
+    ensures { λ w. ⌜ DecidesOn (SideColumns links (now (active .entry)) (now (mode .entry)) (now (iid .entry)) (now (owner .entry)) (now (state .entry))) (λ g. linkDownDeed g l) w ⌝ }
 {
-    let a = owner[l] as usize;
-    let who = lookup::recipients(active, mode[a], a, iid[l]);
+    let who = recipients_at(links, active, mode, iid, owner, l);
     down_at(l, state[l], who, down_type(state[l]), iid[l])
 }
 
 // ---- a message of the link side
 
-// "a type other than 6.1, 6.8, 6.9, 6.11 to 6.14"
+// The types of class 6 that the link side sends (Rule 6.5).
 fn from_link(k: u32) -> bool
     ensures { λ r. ⌜ r ≡ fromLink k ⌝ }
 {
     (((k == 1) | (k == 8)) | (k == 9)) | ((11 <= k) & (k <= 14))
 }
 
-// "a link-side message not readable, of a type other than .., or of an unknown identifier": whether it is none of these.
+// Whether a message of the link side is not refused (Rule 6.5).
 pub fn is_in_plan(iid: &[u32; 128], links: usize, r: Reading) -> bool
     requires { ⌜ (links ≤ 128) × (ascends (now iid) links ≡ true) ⌝ }
     ensures { λ w. ⌜ w ≡ passes (now (iid .entry)) links r ⌝ }
@@ -236,25 +250,7 @@ pub fn is_in_plan(iid: &[u32; 128], links: usize, r: Reading) -> bool
     (r.code == 0) & ((r.class == 6) & (from_link(r.kind) & lookup::is_known(iid, links, r.id)))
 }
 
-// An action of a type to the recipients of the link at l.
-fn message_at<'a>(
-    links: usize,
-    active: &'a [u8; 256],
-    mode: &'a [u8; 16],
-    iid: &'a [u32; 128],
-    owner: &'a [u8; 128],
-    l: usize,
-    kind: u32,
-) -> Work
-    requires { ⌜ Table (now iid) (now owner) links × (l < links) ⌝ }
-    ensures { λ w. ⌜ Decides w (say (toRecipients (sideView links (now (active .entry)) (now (mode .entry)) (now (iid .entry)) (now (owner .entry)) []) l kind)) ⌝ }
-{
-    let a = owner[l] as usize;
-    let who = lookup::recipients(active, mode[a], a, iid[l]);
-    work::spread(who, kind, iid[l])
-}
-
-// "Link-side message: the same type to recipients, value 0."
+// A message of the link side that is not refused (Rule 7.22).
 pub fn link_message<'a>(
     links: usize,
     active: &'a [u8; 256],
@@ -265,8 +261,9 @@ pub fn link_message<'a>(
     r: Reading,
 ) -> Work
     requires { ⌜ Table (now iid) (now owner) links × Side (now iid) links r ⌝ }
-    ensures { λ w. ⌜ Decides w (linkMessageDeed (sideView links (now (active .entry)) (now (mode .entry)) (now (iid .entry)) (now (owner .entry)) (now (state .entry))) r) ⌝ }
+    ensures { λ w. ⌜ DecidesOn (SideColumns links (now (active .entry)) (now (mode .entry)) (now (iid .entry)) (now (owner .entry)) (now (state .entry))) (λ g. linkMessageDeed g r) w ⌝ }
 {
     let l = lookup::index_of(iid, links, r.id);
-    message_at(links, active, mode, iid, owner, l, r.class * 256 + r.kind)
+    let who = recipients_at(links, active, mode, iid, owner, l);
+    work::spread(who, r.class * 256 + r.kind, iid[l])
 }

@@ -1,48 +1,63 @@
 -- From the rows of flags that the code makes to the rule.
 -- Assumes nothing.
-use Prim.Native.Nat.{ℕ, _+_, _*_, _<_, _≤_}
+use Prim.Native.Nat.{ℕ, _<_, _≤_}
 use mathlib.Core.Path.{_≡_, refl, sym, _∙_}
-use mathlib.Core.Bool.{Bool, true, false, cond, not, _&&_, _||_}
-use mathlib.Core.List.{List, []}
+use mathlib.Core.Bool.{Bool, true, false, cond, _&&_}
+use mathlib.Core.List.{List}
 use native.Mathlib.Decide.{ℕ-discrete}
 use lib.Dec.{eqb, ltb}
 use lib.ListN.{replicate, getD-replicate}
 use borrow.Author.Tests.{lt-ltb, le-ltb, eq-eqb, ne-eqb}
-use Rattle.laws.specs.Tab.{at, tab, tab-ext, getD-tab, is-tab}
+use Rattle.laws.specs.Tab.{at, col, tab, tab-ext, getD-tab, is-tab}
 use Rattle.wire.specs.Walk.{walk}
-use Rattle.message.specs.Verdict.{verdict}
-use Rattle.message.specs.Meaning.{readingOf}
 use Rattle.message.specs.declared.Reading.{Reading}
 use Rattle.gateway.specs.declared.Gateway.{Gateway}
-use Rattle.lookup.specs.Links.{known}
+use Rattle.lookup.specs.Links.{indexOf, known}
 use Rattle.servers.specs.Moved.{columnOf}
+use Rattle.ranges.specs.Named.{isOf, ownerOf}
+use Rattle.traffic.specs.Named.{ownersPars, owners-is}
 use Rattle.rules.specs.Event.{Event}
-use Rattle.rules.specs.Identifiers.{isKnown, linkOf, ownerAt, isMember, ownsNamed, ownersNamed}
-use Rattle.rules.specs.Rules.{isError, typeOf, refusal}
-use Rattle.rules.specs.Reach.{ownsId, readReach, messageReach, kindReach, reach}
-use Rattle.links.specs.Side.{code-is}
-use Rattle.traffic.specs.View.{trafficView, owners-same}
+use Rattle.rules.specs.Identifiers.{isKnown, linkOf, isMember, ownsNamed, ownersNamed}
+use Rattle.rules.specs.Rules.{refusal}
+use Rattle.rules.specs.Reach.{ownsId, kindReach, reach}
+use Rattle.ask.specs.Inner.Reach.{namedReach, otherReach}
+use Rattle.ask.specs.Inner.Ask.{askReach}
+use Rattle.ask.specs.declared.Ask.{Ask}
+use Rattle.ask.specs.declared.Ask.the-variants.{Up, Down, Traffic, Other, Lost, Recovery, LinkUp, LinkDown, LinkMessage}
 use Rattle.reach.specs.Reached.{reached}
 
--- ---- what the code makes, test for test
+-- ---- what the code makes, over the columns that it asks
 
--- Active and Inactive (Rule 9.2): the ASes of p, or the owners of the known identifiers
-unfoldable pub namedRow : Gateway → ℕ → List ℕ → ℕ → List Bool
-namedRow g p s ids =
-    cond (eqb ids 1) (ownersNamed (trafficView (g .links) [] [] [] (g .iid) (g .owner)) (walk s 8 .pars)) (columnOf (g .member) p)
+-- the owner of an identifier, if it is known
+unfoldable pub ownerRow : ℕ → List ℕ → List ℕ → ℕ → List Bool
+ownerRow links iid owner x = tab 16 (λ a. isOf iid owner links a x)
 
--- a readable message, by its class and type
-unfoldable pub readRow : Gateway → ℕ → List ℕ → Reading → List Bool
-readRow g p s r =
-    cond (eqb (r .class * 256 + r .kind) 769 || eqb (r .class * 256 + r .kind) 770) (columnOf (g .member) p)
-    (cond (eqb (r .class * 256 + r .kind) 1025 || eqb (r .class * 256 + r .kind) 1026) (namedRow g p s (r .ids))
-    (cond (eqb (r .class) 6) (tab 16 (ownsId (trafficView (g .links) [] [] [] (g .iid) (g .owner)) (r .id)))
-    (replicate 16 false)))
+-- Active and Inactive: with identifiers the owners of the known ones, without any the ASes of p
+unfoldable pub namedRow : ℕ → List ℕ → List ℕ → List ℕ → ℕ → List ℕ → ℕ → List Bool
+namedRow links member iid owner p s ids = cond (eqb ids 1) (ownersPars (isOf iid owner links) (walk s 8 .pars)) (columnOf member p)
+
+-- any other message of an ASP; wrong says that it is an Error
+unfoldable pub otherRow : ℕ → List ℕ → List ℕ → Bool → Reading → List Bool
+otherRow links iid owner wrong r =
+    cond wrong (replicate 16 false)
+    (cond (eqb (r .code) 0) (cond (eqb (r .class) 6) (ownerRow links iid owner (r .id)) (replicate 16 false))
+    (replicate 16 false))
+
+abbrev pub askRow : ℕ → List ℕ → List ℕ → List ℕ → List ℕ → Ask → List Bool
+askRow links member iid owner s (Up p r) = columnOf member p
+askRow links member iid owner s (Down p) = columnOf member p
+askRow links member iid owner s (Traffic on p r) = namedRow links member iid owner p s (r .ids)
+askRow links member iid owner s (Other p wrong r) = otherRow links iid owner wrong r
+askRow links member iid owner s (Lost p) = columnOf member p
+askRow links member iid owner s (Recovery a) = tab 16 (λ c. eqb c a)
+askRow links member iid owner s (LinkUp l) = tab 16 (eqb (col owner l))
+askRow links member iid owner s (LinkDown l) = tab 16 (eqb (col owner l))
+askRow links member iid owner s (LinkMessage r) = ownerRow links iid owner (r .id)
 
 -- ---- laws
 
 -- a row that is not set
-pub none-row : (f : ℕ → Bool) → ((a : ℕ) → f a ≡ false) → replicate 16 false ≡ tab 16 f
+none-row : (f : ℕ → Bool) → ((a : ℕ) → f a ≡ false) → replicate 16 false ≡ tab 16 f
 none-row f h = is-tab false (replicate 16 false) 16 f refl (λ a b. getD-replicate 16 a false false b ∙ sym (h a))
 
 eqb-turned : (a b : ℕ) → eqb a b ≡ eqb b a
@@ -57,74 +72,61 @@ pub only-row : (a : ℕ) → tab 16 (λ c. eqb c a) ≡ tab 16 (eqb a)
 only-row a = tab-ext false 16 (λ c. eqb c a) (eqb a) (λ c b. eqb-turned c a)
 
 -- the owner of an identifier, which stands at l or nowhere
-module _ (g : Gateway) (x l : ℕ) (e : l ≡ linkOf g x) where
-  pub id-known : l < g .links → tab 16 (eqb (ownerAt g l)) ≡ tab 16 (ownsId g x)
-  unfolding ownsId isKnown known linkOf
-  id-known h = tab-ext false 16 (eqb (ownerAt g l)) (ownsId g x) (λ a b. rw (← e, lt-ltb l (g .links) h))
+module _ (links : ℕ) (iid owner : List ℕ) (x l : ℕ) (e : l ≡ indexOf iid links x) where
+  pub id-known : l < links → tab 16 (eqb (col owner l)) ≡ ownerRow links iid owner x
+  unfolding ownerRow isOf ownerOf known
+  id-known h = tab-ext false 16 (eqb (col owner l)) (λ a. isOf iid owner links a x) (λ a b. rw (← e, lt-ltb l links h))
 
-  pub id-unknown : g .links ≤ l → replicate 16 false ≡ tab 16 (ownsId g x)
-  unfolding ownsId isKnown known linkOf
-  id-unknown h = none-row (ownsId g x) (λ a. rw (← e, le-ltb l (g .links) h))
+  pub id-unknown : links ≤ l → replicate 16 false ≡ ownerRow links iid owner x
+  unfolding ownerRow isOf ownerOf known
+  id-unknown h = none-row (λ a. isOf iid owner links a x) (λ a. rw (← e, le-ltb l links h))
 
-named-row : (g : Gateway) (p : ℕ) (s : List ℕ) (ids : ℕ) → namedRow g p s ids ≡ tab 16 (λ a. cond (eqb ids 1) (ownsNamed g (walk s 8 .pars) a) (isMember g a p))
-unfolding namedRow ownersNamed columnOf
-named-row g p s ids = go (eqb ids 1)
-  where
-    go : (u : Bool) → cond u (ownersNamed (trafficView (g .links) [] [] [] (g .iid) (g .owner)) (walk s 8 .pars)) (columnOf (g .member) p) ≡ tab 16 (λ a. cond u (ownsNamed g (walk s 8 .pars) a) (isMember g a p))
-    go true = owners-same g (walk s 8 .pars)
-    go false = refl
-
-pub read-row : (g : Gateway) (p : ℕ) (s : List ℕ) (r : Reading) → readRow g p s r ≡ tab 16 (readReach g p s r)
-unfolding readRow readReach columnOf ownsId isKnown linkOf
-read-row g p s r = go (eqb (typeOf r) 769 || eqb (typeOf r) 770) (eqb (typeOf r) 1025 || eqb (typeOf r) 1026) (eqb (r .class) 6)
-  where
-    go : (u v w : Bool)
-        → cond u (columnOf (g .member) p) (cond v (namedRow g p s (r .ids)) (cond w (tab 16 (ownsId (trafficView (g .links) [] [] [] (g .iid) (g .owner)) (r .id))) (replicate 16 false)))
-        ≡ tab 16 (λ a. cond u (isMember g a p) (cond v (cond (eqb (r .ids) 1) (ownsNamed g (walk s 8 .pars) a) (isMember g a p)) (cond w (ownsId g (r .id) a) false)))
-    go true v w = refl
-    go false true w = named-row g p s (r .ids)
-    go false false true = refl
-    go false false false = none-row (λ a. false) (λ a. refl)
-
--- the rule asks no other columns
+-- the rows are the rule's
 module _ (g : Gateway) where
-  pub id-same : (x : ℕ) → tab 16 (ownsId (trafficView (g .links) [] [] [] (g .iid) (g .owner)) x) ≡ tab 16 (ownsId g x)
-  unfolding ownsId isKnown linkOf
-  id-same x = refl
+  owner-row : (x : ℕ) → ownerRow (g .links) (g .iid) (g .owner) x ≡ tab 16 (ownsId g x)
+  unfolding ownerRow isOf ownerOf ownsId isKnown linkOf
+  owner-row x = refl
 
-  abbrev v : Gateway
-  v = trafficView (g .links) [] (g .member) [] (g .iid) (g .owner)
-
-  row-same : (p : ℕ) (s : List ℕ) (r : Reading) → readRow v p s r ≡ readRow g p s r
-  unfolding readRow namedRow
-  row-same p s r = refl
-
-  pub message-same : (p : ℕ) (s : List ℕ) → tab 16 (messageReach v p s) ≡ tab 16 (messageReach g p s)
-  unfolding messageReach
-  message-same p s = go (isError s || not (eqb (verdict s) 0))
+  named-row : (p : ℕ) (s : List ℕ) (ids : ℕ) → namedRow (g .links) (g .member) (g .iid) (g .owner) p s ids ≡ tab 16 (namedReach g p s ids)
+  unfolding namedRow namedReach ownersNamed columnOf
+  named-row p s ids = go (eqb ids 1)
     where
-      go : (u : Bool) → tab 16 (λ a. cond u false (readReach v p s (readingOf s) a)) ≡ tab 16 (λ a. cond u false (readReach g p s (readingOf s) a))
-      go true = refl
-      go false = sym (read-row v p s (readingOf s)) ∙ row-same p s (readingOf s) ∙ read-row g p s (readingOf s)
+      go : (u : Bool) → cond u (ownersPars (isOf (g .iid) (g .owner) (g .links)) (walk s 8 .pars)) (columnOf (g .member) p) ≡ tab 16 (λ a. cond u (ownsNamed g (walk s 8 .pars) a) (isMember g a p))
+      go true = sym (owners-is g (walk s 8 .pars))
+      go false = refl
 
--- a message of ASP p
-module _ (g : Gateway) (p : ℕ) (s : List ℕ) where
-  pub message-error : isError s ≡ true → replicate 16 false ≡ tab 16 (messageReach g p s)
-  unfolding messageReach
-  message-error h = none-row (messageReach g p s) (λ a. rw h)
+  other-row : (wrong : Bool) (r : Reading) → otherRow (g .links) (g .iid) (g .owner) wrong r ≡ tab 16 (otherReach g wrong r)
+  unfolding otherRow otherReach
+  other-row wrong r = go wrong (eqb (r .code) 0) (eqb (r .class) 6)
+    where
+      go : (u v w : Bool)
+          → cond u (replicate 16 false) (cond v (cond w (ownerRow (g .links) (g .iid) (g .owner) (r .id)) (replicate 16 false)) (replicate 16 false))
+          ≡ tab 16 (λ a. cond u false (cond v (cond w (ownsId g (r .id) a) false) false))
+      go true v w = none-row (λ a. false) (λ a. refl)
+      go false true true = owner-row (r .id)
+      go false true false = none-row (λ a. false) (λ a. refl)
+      go false false w = none-row (λ a. false) (λ a. refl)
 
-  pub message-unread : isError s ≡ false → (readingOf s .code ≡ 0 → ⊥) → replicate 16 false ≡ tab 16 (messageReach g p s)
-  unfolding messageReach
-  message-unread h n = none-row (messageReach g p s) (λ a. rw (h, ← code-is s, ne-eqb (readingOf s .code) 0 n))
+  ask-row : (s : List ℕ) (ask : Ask) → askRow (g .links) (g .member) (g .iid) (g .owner) s ask ≡ tab 16 (askReach g s ask)
+  unfolding columnOf
+  ask-row s (Up p r) = refl
+  ask-row s (Down p) = refl
+  ask-row s (Traffic on p r) = named-row p s (r .ids)
+  ask-row s (Other p wrong r) = other-row wrong r
+  ask-row s (Lost p) = refl
+  ask-row s (Recovery a) = only-row a
+  ask-row s (LinkUp l) = refl
+  ask-row s (LinkDown l) = refl
+  ask-row s (LinkMessage r) = owner-row (r .id)
 
-  pub message-read : isError s ≡ false → readingOf s .code ≡ 0 → readRow g p s (readingOf s) ≡ tab 16 (messageReach g p s)
-  unfolding messageReach
-  message-read h e =
-      read-row g p s (readingOf s) ∙ tab-ext false 16 (readReach g p s (readingOf s)) (messageReach g p s) (λ a b. rw (h, ← code-is s, eq-eqb (readingOf s .code) 0 e))
+  -- the same, with the number of links as the code has it, of the event e that is asked
+  pub row-is : (s : List ℕ) (ask : Ask) (e : Event) {n : ℕ} {row : List Bool} → n ≡ g .links → row ≡ askRow n (g .member) (g .iid) (g .owner) s ask
+      → ((a : ℕ) → askReach g s ask a ≡ kindReach g (e .kind) a) → row ≡ tab 16 (kindReach g (e .kind))
+  row-is s ask e q r h = (rw q at r) ∙ ask-row s ask ∙ tab-ext false 16 (askReach g s ask) (kindReach g (e .kind)) (λ a b. h a)
 
 -- ---- what every entry promises
 
--- a refused event reaches none (Rule 9.1)
+-- a refused event reaches nothing
 pub reached-no : (g : Gateway) (e : Event) {no : ℕ} → no ≡ refusal g e → (no ≡ 0 → ⊥) → replicate 16 false ≡ reached g e
 unfolding reached reach
 reached-no g e {no} q h = none-row (reach g e) (λ a. rw (← q, ne-eqb no 0 h))

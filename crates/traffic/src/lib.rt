@@ -14,15 +14,15 @@ ghost use Rattle.laws.specs.Tab.{at, col};
 ghost use Rattle.wire.specs.Walk.{walk};
 ghost use Rattle.action.specs.Words.{action};
 ghost use Rattle.ranges.specs.Laws.{Table};
+ghost use Rattle.ranges.specs.Named.{isRefused, isOf};
 ghost use Rattle.naming.specs.Names.{Names};
 ghost use Rattle.servers.specs.Moved.{columnOf};
 ghost use Rattle.server.specs.declared.Change.the-variants.{On};
 ghost use Rattle.rules.specs.Deed.{say, change};
-ghost use Rattle.rules.specs.Identifiers.{firstRefused, ownersNamed};
-ghost use Rattle.rules.specs.Asp.{otherMode, activeDeed, inactiveDeed, trafficDeed};
-ghost use Rattle.work.specs.Decides.{Decides};
-ghost use Rattle.traffic.specs.View.{trafficView, act, Aims};
-ghost use Rattle.traffic.specs.Named.{refusedPar, withPar};
+ghost use Rattle.rules.specs.Asp.{activeDeed, inactiveDeed, trafficDeed};
+ghost use Rattle.work.specs.Decides.{Decides, DecidesOn, act};
+ghost use Rattle.traffic.specs.Aims.{TrafficColumns, otherModeIn, Aims};
+ghost use Rattle.traffic.specs.Named.{refusedPar, withPar, refusedPars, ownersPars};
 
 // ---- the identifiers of a message
 
@@ -38,7 +38,7 @@ fn named_par<'a>(
     p: usize,
 ) -> Named
     requires { ⌜ Table (now iid) (now owner) links × (p < 16) ⌝ }
-    ensures { λ r. ⌜ Names r (refusedPar (trafficView links [] (now (member .entry)) [] (now (iid .entry)) (now (owner .entry))) p t (now (v .entry))) (withPar set (trafficView links [] [] [] (now (iid .entry)) (now (owner .entry))) t (now (v .entry))) ⌝ }
+    ensures { λ r. ⌜ Names r (refusedPar (isRefused (now (iid .entry)) (now (owner .entry)) (now (member .entry)) links p) t (now (v .entry))) (withPar set (isOf (now (iid .entry)) (now (owner .entry)) links) t (now (v .entry))) ⌝ }
 {
     if t == 1 {
         return naming::of_ids(set, v, iid, owner, member, links, p);
@@ -49,7 +49,7 @@ fn named_par<'a>(
     naming::passes(set)
 }
 
-// "the first refused identifier", parameters in received order; or the ASes that own those named
+// The first refused identifier, parameters in received order; or the ASes that own those named (Rule 7.8).
 fn named_of<'a>(
     s: &[u8],
     links: usize,
@@ -59,7 +59,7 @@ fn named_of<'a>(
     p: usize,
 ) -> Named
     requires { ⌜ Table (now iid) (now owner) links × (p < 16) ⌝ }
-    ensures { λ r. ⌜ Names r (firstRefused (trafficView links [] (now (member .entry)) [] (now (iid .entry)) (now (owner .entry))) p (walk (now (s .entry)) 8 .pars)) (ownersNamed (trafficView links [] [] [] (now (iid .entry)) (now (owner .entry))) (walk (now (s .entry)) 8 .pars)) ⌝ }
+    ensures { λ r. ⌜ Names r (refusedPars (isRefused (now (iid .entry)) (now (owner .entry)) (now (member .entry)) links p) (walk (now (s .entry)) 8 .pars)) (ownersPars (isOf (now (iid .entry)) (now (owner .entry)) links) (walk (now (s .entry)) 8 .pars)) ⌝ }
 {
     let mut set = [false; 16];
     let mut at: usize = 8;
@@ -94,14 +94,14 @@ fn some_other(mode: &[u8; 16], m: usize, named: [bool; 16]) -> bool
     found
 }
 
-// "In Active, a mode given that differs from a named AS's"
+// Whether a mode is given that is not that of some AS named (Rule 7.9).
 fn other_mode(mode: &[u8; 16], m: u32, named: [bool; 16]) -> bool
-    ensures { λ r. ⌜ r ≡ otherMode (trafficView 0 [] [] (now (mode .entry)) [] []) m named ⌝ }
+    ensures { λ r. ⌜ r ≡ otherModeIn (now (mode .entry)) m named ⌝ }
 {
     (m != 0) & some_other(mode, m as usize, named)
 }
 
-// "Error 5. Else Ack, and p becomes active": whether the mode is another is given.
+// Active (Rule 7.9): whether the mode is another is given.
 fn active_at(p: usize, other: bool, named: [bool; 16]) -> Work
     requires { ⌜ p < 16 ⌝ }
     ensures { λ w. ⌜ Decides w (cond other (say (action p 0 0 5 ∷ [])) (change (action p 1027 0 0 ∷ []) (On p) named)) ⌝ }
@@ -114,7 +114,7 @@ fn active_at(p: usize, other: bool, named: [bool; 16]) -> Work
 
 fn active_work(mode: &[u8; 16], p: usize, m: u32, named: [bool; 16]) -> Work
     requires { ⌜ p < 16 ⌝ }
-    ensures { λ w. ⌜ Decides w (activeDeed (trafficView 0 [] [] (now (mode .entry)) [] []) p m named) ⌝ }
+    ensures { λ w. ⌜ DecidesOn (λ g. g .mode ≡ now (mode .entry)) (λ g. activeDeed g p m named) w ⌝ }
 {
     active_at(p, other_mode(mode, m, named), named)
 }
@@ -129,7 +129,7 @@ fn inactive_work(p: usize, named: [bool; 16]) -> Work
 // Active where on holds, else Inactive, in the ASes named.
 fn act_in(on: bool, mode: &[u8; 16], p: usize, m: u32, named: [bool; 16]) -> Work
     requires { ⌜ p < 16 ⌝ }
-    ensures { λ w. ⌜ Decides w (act (trafficView 0 [] [] (now (mode .entry)) [] []) p on m named) ⌝ }
+    ensures { λ w. ⌜ DecidesOn (λ g. g .mode ≡ now (mode .entry)) (λ g. act g p on m named) w ⌝ }
 {
     if on {
         return active_work(mode, p, m, named);
@@ -148,7 +148,7 @@ fn aim<'a>(
     p: usize,
 ) -> Named
     requires { ⌜ Table (now iid) (now owner) links × (p < 16) ⌝ }
-    ensures { λ r. ⌜ Aims r ids (firstRefused (trafficView links [] (now (member .entry)) [] (now (iid .entry)) (now (owner .entry))) p (walk (now (s .entry)) 8 .pars)) (ownersNamed (trafficView links [] [] [] (now (iid .entry)) (now (owner .entry))) (walk (now (s .entry)) 8 .pars)) (columnOf (now (member .entry)) p) ⌝ }
+    ensures { λ r. ⌜ Aims r ids (refusedPars (isRefused (now (iid .entry)) (now (owner .entry)) (now (member .entry)) links p) (walk (now (s .entry)) 8 .pars)) (ownersPars (isOf (now (iid .entry)) (now (owner .entry)) links) (walk (now (s .entry)) 8 .pars)) (columnOf (now (member .entry)) p) ⌝ }
 {
     if ids {
         return named_of(s, links, member, iid, owner, p);
@@ -156,8 +156,7 @@ fn aim<'a>(
     naming::passes(servers::column_of(member, p))
 }
 
-// "Active, Inactive: p down: Error 6. A named identifier not in the plan or owned by an AS without p: Error 2. .. No identifiers name all of p's ASes; if none,
-// Error 6." on says that it is Active.
+// Active, where on holds, and Inactive (Rules 7.8 to 7.10).
 pub fn traffic_work<'a>(
     on: bool,
     s: &[u8],
@@ -171,7 +170,7 @@ pub fn traffic_work<'a>(
     r: Reading,
 ) -> Work
     requires { ⌜ Table (now iid) (now owner) links × (p < 16) ⌝ }
-    ensures { λ w. ⌜ Decides w (trafficDeed (trafficView links (now (up .entry)) (now (member .entry)) (now (mode .entry)) (now (iid .entry)) (now (owner .entry))) p r (walk (now (s .entry)) 8 .pars) (act (trafficView links (now (up .entry)) (now (member .entry)) (now (mode .entry)) (now (iid .entry)) (now (owner .entry))) p on (r .mode))) ⌝ }
+    ensures { λ w. ⌜ DecidesOn (TrafficColumns links (now (up .entry)) (now (member .entry)) (now (mode .entry)) (now (iid .entry)) (now (owner .entry))) (λ g. trafficDeed g p r (walk (now (s .entry)) 8 .pars) (act g p on (r .mode))) w ⌝ }
 {
     if up[p] != 1 {
         return work::error(p, 6);

@@ -12,6 +12,7 @@ use Rattle.server.specs.declared.Change.the-variants.{Rise, Fall, Off, On, Reco
 use Rattle.server.specs.Change.{fits}
 use Rattle.rules.specs.declared.Work.{Work}
 use Rattle.rules.specs.Deed.{Deed}
+use Rattle.rules.specs.Asp.{activeDeed, inactiveDeed}
 use Rattle.rules.specs.Work.{deedIn}
 
 -- the ASP of a change; 0 where it has none
@@ -28,6 +29,14 @@ pub record Decides (w : Work) (d : Deed) : Type 0 where
   pub few : w .count ≤ 2
   pub asp : aspOf (w .change) < 16
   pub place : w .link < 128
+
+-- the work is the deed d of every state for which P holds; P says which columns of it were lent
+pub record DecidesOn (P : Gateway → Type 0) (d : Gateway → Deed) (w : Work) : Type 0 where
+  pub on : (g : Gateway) → P g → Decides w (d g)
+
+-- Active where on holds, else Inactive, in the ASes named
+unfoldable pub act : Gateway → ℕ → Bool → ℕ → List Bool → Deed
+act g p on mode = λ named. cond on (activeDeed g p mode named) (inactiveDeed p named)
 
 pub fits-asp : (k : Change) → aspOf k < 16 → fits k ≡ true
 fits-asp (Rise p) h = refl

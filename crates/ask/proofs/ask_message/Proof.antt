@@ -7,21 +7,18 @@ use borrow.Author.Needs.{needs}
 use Rattle.ask.proofs.ask_message.Statement.{statement}
 use Rattle.ask.proofs.ask_message.Tie as tie
 
-read-requires : tie.Need-read-requires
-read-requires c κs = search needs
-
-is-error-requires : tie.Need-is-error-requires
-is-error-requires c κs = search needs
-
 type-of-requires : tie.Need-type-of-requires
 type-of-requires c κs = (rw (c .before .read .ensures) (class-small _ (omega (arith, c .before .before .shared-slice-known .given 2))), rw (c .before .read .ensures) (kind-small _ (omega (arith, c .before .before .shared-slice-known .given 3))))
-
-ask-of-requires : tie.Need-ask-of-requires
-ask-of-requires c κs = search needs
 
 returns : tie.Need-returns
 returns c = rw (c .ask-of .ensures, c .before .type-of .ensures, c .before .before .is-error .ensures, c .before .before .before .read .ensures) (asks-0 0 _ _ refl _ refl (class-small _ (omega (arith, c .before .before .before .before .shared-slice-known .given 2))) (kind-small _ (omega (arith, c .before .before .before .before .shared-slice-known .given 3))))
 
 pub ask-message-spec : {M : Type 1} → statement M
 ask-message-spec =
-    tie.close (tie.spec read-requires is-error-requires type-of-requires ask-of-requires returns)
+    tie.close
+    (tie.spec
+    (λ c κs. search needs)
+    (λ c κs. search needs)
+    type-of-requires
+    (λ c κs. search needs)
+    returns)

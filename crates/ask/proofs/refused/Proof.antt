@@ -8,29 +8,11 @@ use borrow.Author.Needs.{needs}
 use Rattle.ask.proofs.refused.Statement.{statement}
 use Rattle.ask.proofs.refused.Tie as tie
 
-consistent-of-requires : tie.Need-consistent-of-requires
-consistent-of-requires c κs = search needs
-
-returns : tie.Need-returns
-returns c = unsound _ _ _ (sym (c .before .consistent-of .ensures) ∙ not-true _ (c .if1 .taken))
-
-wide-requires : tie.Need-wide-requires
-wide-requires c κs = search needs
-
-wide-requires-2 : tie.Need-wide-requires-2
-wide-requires-2 c κs = search needs
-
-wide-requires-3 : tie.Need-wide-requires-3
-wide-requires-3 c κs = search needs
-
 is-known-requires : tie.Need-is-known-requires
 is-known-requires c κs =
     let g : Gateway = record { asps = c .before .before .before .before .before .args .asps; ases = c .before .before .before .before .before .args .ases; links = c .before .before .before .before .before .args .links; aspid = c .before .before .before .before .before .args .aspid .now; up = c .before .before .before .before .before .args .up .now; member = c .before .before .before .before .before .args .member .now; active = c .before .before .before .before .before .args .active .now; mode = c .before .before .before .before .before .args .mode .now; waiting = c .before .before .before .before .before .args .waiting .now; iid = c .before .before .before .before .before .args .iid .now; owner = c .before .before .before .before .before .args .owner .now; state = c .before .before .before .before .before .args .state .now } in
     let t = table g (sym (c .before .before .before .before .consistent-of .ensures) ∙ not-false _ (c .before .before .before .if1 .left)) in
     (rw (c .wide3 .ensures) (t .few), rw (c .wide3 .ensures) (t .order))
-
-refusal-requires : tie.Need-refusal-requires
-refusal-requires c κs = search needs
 
 returns-2 : tie.Need-returns-2
 returns-2 c = c .refusal .ensures ∙ rw (c .before .before .before .before .before .before .consistent-of .ensures, c .before .is-known .ensures, c .before .before .wide3 .ensures, c .before .before .before .wide2 .ensures, c .before .before .before .before .wide .ensures) refl
@@ -39,11 +21,11 @@ pub refused-spec : {M : Type 1} → statement M
 refused-spec =
     tie.close
     (tie.spec
-    consistent-of-requires
-    returns
-    wide-requires
-    wide-requires-2
-    wide-requires-3
+    (λ c κs. search needs)
+    (λ c. unsound _ _ _ (sym (c .before .consistent-of .ensures) ∙ not-true _ (c .if1 .taken)))
+    (λ c κs. search needs)
+    (λ c κs. search needs)
+    (λ c κs. search needs)
     is-known-requires
-    refusal-requires
+    (λ c κs. search needs)
     returns-2)

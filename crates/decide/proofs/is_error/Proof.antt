@@ -8,16 +8,9 @@ returns : tie.Need-returns
 unfolding isError
 returns c = rw (lt-leb _ _ (c .if1 .taken))
 
-shared-slice-read-result : tie.Need-shared-slice-read-result
-shared-slice-read-result c = search needs
-
-shared-slice-read-result-2 : tie.Need-shared-slice-read-result-2
-shared-slice-read-result-2 c = search needs
-
 returns-2 : tie.Need-returns-2
 unfolding isError
 returns-2 c = rw (le-leb _ _ (c .before .before .if1 .left))
 
 pub is-error-spec : {M : Type 1} → statement M
-is-error-spec =
-    tie.close (tie.spec returns shared-slice-read-result shared-slice-read-result-2 returns-2)
+is-error-spec = tie.close (tie.spec returns (λ c. search needs) (λ c. search needs) returns-2)

@@ -8,12 +8,6 @@ returns : tie.Need-returns
 unfolding typeIn
 returns c = rw (c .if1 .taken)
 
-mul-result : tie.Need-mul-result
-mul-result c = search needs
-
-add-result : tie.Need-add-result
-add-result c = search needs
-
 returns-2 : tie.Need-returns-2
 unfolding typeIn
 returns-2 c = rw (c .before .before .before .before .if1 .left, eq-eqb _ _ (c .before .before .if2 .taken))
@@ -23,4 +17,4 @@ unfolding typeIn
 returns-3 c = rw (c .before .before .if1 .left, ne-eqb _ _ (c .if2 .left))
 
 pub type-of-spec : {M : Type 1} → statement M
-type-of-spec = tie.close (tie.spec returns mul-result add-result returns-2 returns-3)
+type-of-spec = tie.close (tie.spec returns (λ c. search needs) (λ c. search needs) returns-2 returns-3)

@@ -1,5 +1,5 @@
 -- `events::m2ua_event`: refused, or what is decided is done. Assumes nothing.
-use mathlib.Core.Path.{_≡_, ap, sym, _∙_}
+use mathlib.Core.Path.{_≡_, refl, ap, sym, _∙_}
 use mathlib.Core.Bool.{Bool}
 use mathlib.Core.List.{List}
 use Prim.Native.Nat.{ℕ}
@@ -10,10 +10,9 @@ use Rattle.gateway.specs.declared.Gateway.{Gateway}
 use Rattle.ranges.specs.Laws.{table}
 use Rattle.rules.specs.Event.{Kind}
 use Rattle.rules.specs.Rules.{refusalOf, inPlan, deedOf}
-use Rattle.rules.specs.Work.{deedIn}
+use Rattle.work.specs.Decides.{Decides, decided}
 use Rattle.ask.specs.Happened.{happened}
 use Rattle.ask.specs.Inner.Ask.{ask-fits-at}
-use Rattle.events.specs.View.{ask-same-at}
 use Rattle.events.specs.Work.{performed}
 use Rattle.ask.specs.Inner.Refused.{Accepted, accepted}
 use Rattle.events.specs.Perform.{handed-no, handed-yes}
@@ -59,23 +58,13 @@ refusal-is c =
 taken : (c : tie.After-refused) → c .refused .result ≡ 0 → Accepted (consistent (start (to-asked c) .args .g)) (inPlan (start (to-asked c) .args .g) (happens (to-asked c))) (length (start (to-asked c) .args .words .now))
 taken c h = accepted _ _ _ (sym (refusal-is c) ∙ h)
 
-deed-is : (c : tie.After-decided) → deedIn (c .decided .result) ≡ deedOf (start (to-asked (to-refused c)) .args .g) (happens (to-asked (to-refused c)))
-deed-is c =
-    c .decided .ensures .is
-    ∙ ask-same-at (start (to-asked (to-refused c)) .args .g) _ (to-asked (to-refused c) .asked .result) (c .before .before .before .before .before .before .before .before .before .before .wide .ensures)
-    ∙ to-asked (to-refused c) .asked .ensures .deed (start (to-asked (to-refused c)) .args .g)
-
-asked-requires : tie.Need-asked-requires
-asked-requires c κs = search needs
-
-refused-requires : tie.Need-refused-requires
-refused-requires c κs = search needs
-
-returns : tie.Need-returns
-returns c = handed-no _ (happens (to-asked (c .before))) (refusal-is (c .before)) (c .if1 .taken)
-
-wide-requires : tie.Need-wide-requires
-wide-requires c κs = search needs
+-- what is decided is the rules' deed
+decides : (c : tie.After-decided) → Decides (c .decided .result) (deedOf (start (to-asked (to-refused c)) .args .g) (happens (to-asked (to-refused c))))
+decides c =
+    let a = to-asked (to-refused c) in
+    let g = start a .args .g in
+    let w = c .before .before .before .before .before .before .before .before .before .before .wide .ensures in
+    decided (c .decided .ensures .on g (record { links-is = sym w; aspid-is = refl; up-is = refl; member-is = refl; active-is = refl; mode-is = refl; iid-is = refl; owner-is = refl; state-is = refl })) (a .asked .ensures .deed g)
 
 decided-requires : tie.Need-decided-requires
 decided-requires c κs =
@@ -89,30 +78,24 @@ enact-requires : tie.Need-enact-requires
 enact-requires c κs =
     let d = c .before .before .before .before .before .before .before .before .before .before in
     let z = start (to-asked (to-refused d)) in
-    (taken (to-refused d) (d .before .before .before .before .before .before .before .before .before .before .before .if1 .left) .enough, d .decided .ensures .asp, up-long z, active-long z, waiting-long z)
-
-settle-requires : tie.Need-settle-requires
-settle-requires c κs = let d = to-decided (c .before .before .before) in (d .decided .ensures .place, state-long (start (to-asked (to-refused d))))
-
-same-length : tie.Need-same-length
-same-length c = search needs
+    (taken (to-refused d) (d .before .before .before .before .before .before .before .before .before .before .before .if1 .left) .enough, decides d .asp, up-long z, active-long z, waiting-long z)
 
 returns-2 : tie.Need-returns-2
 returns-2 c =
     let d = to-decided (c .before .before .before .before) in
     let r = to-refused d in
-    handed-yes _ (happens (to-asked r)) (refusal-is r) (d .before .before .before .before .before .before .before .before .before .before .before .if1 .left) (deed-is d) (performed (start (to-asked r) .args .g) _ (c .before .before .before .before .enact .ensures) (c .settle .ensures))
+    handed-yes _ (happens (to-asked r)) (refusal-is r) (d .before .before .before .before .before .before .before .before .before .before .before .if1 .left) (decides d .is) (performed (start (to-asked r) .args .g) _ (c .before .before .before .before .enact .ensures .on _ (record { up-is = refl; member-is = refl; active-is = refl; mode-is = refl; waiting-is = refl })) (c .settle .ensures))
 
 pub m2ua-event-spec : {M : Type 1} → statement M
 m2ua-event-spec =
     tie.close
     (tie.spec
-    asked-requires
-    refused-requires
-    returns
-    wide-requires
+    (λ c κs. search needs)
+    (λ c κs. search needs)
+    (λ c. handed-no _ (happens (to-asked (c .before))) (refusal-is (c .before)) (c .if1 .taken))
+    (λ c κs. search needs)
     decided-requires
     enact-requires
-    settle-requires
-    same-length
+    (λ c κs. let d = to-decided (c .before .before .before) in (decides d .place, state-long (start (to-asked (to-refused d)))))
+    (λ c. search needs)
     returns-2)

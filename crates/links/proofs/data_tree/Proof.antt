@@ -4,22 +4,13 @@ use borrow.Author.Needs.{needs}
 use Rattle.links.proofs.data_tree.Statement.{statement}
 use Rattle.links.proofs.data_tree.Tie as tie
 
-order-and-reply-requires : tie.Need-order-and-reply-requires
-order-and-reply-requires c κs = search needs
-
 returns : tie.Need-returns
 unfolding dataTree
 returns c = search decisions depth 9
 
-order-requires : tie.Need-order-requires
-order-requires c κs = search needs
-
 returns-2 : tie.Need-returns-2
 unfolding dataTree
 returns-2 c = search decisions depth 9
-
-error-requires : tie.Need-error-requires
-error-requires c κs = search needs
 
 returns-3 : tie.Need-returns-3
 unfolding dataTree
@@ -28,4 +19,10 @@ returns-3 c = search decisions depth 9
 pub data-tree-spec : {M : Type 1} → statement M
 data-tree-spec =
     tie.close
-    (tie.spec order-and-reply-requires returns order-requires returns-2 error-requires returns-3)
+    (tie.spec
+    (λ c κs. search needs)
+    returns
+    (λ c κs. search needs)
+    returns-2
+    (λ c κs. search needs)
+    returns-3)

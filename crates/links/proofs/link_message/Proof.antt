@@ -1,29 +1,34 @@
-use Rattle.rules.specs.Link.{linkMessageDeed, toRecipients, recipientsOf}
-use Rattle.rules.specs.Identifiers.{linkOf}
-use Rattle.lookup.specs.Links.{known}
+-- `links::link_message`: the identifier is known, so its index is one of a link. Assumes nothing.
+use Prim.Native.Nat.{_<_}
+use native.Mathlib.Omega.{arith}
 use borrow.Author.Tests.{ltb-true}
 use borrow.Author.Needs.{needs}
+use Rattle.lookup.specs.Links.{known}
+use Rattle.rules.specs.Identifiers.{linkOf}
+use Rattle.rules.specs.Link.{linkMessageDeed, toRecipients, recipientsOf}
+use Rattle.links.specs.Recipients.{recipientsAt}
 use Rattle.links.proofs.link_message.Statement.{statement}
 use Rattle.links.proofs.link_message.Tie as tie
 
-index-of-requires : tie.Need-index-of-requires
-index-of-requires c κs = search needs
-
-mul-message-at : tie.Need-mul-message-at
-mul-message-at c = search needs
-
-add-message-at : tie.Need-add-message-at
-add-message-at c = search needs
-
-message-at-requires : tie.Need-message-at-requires
+there : (c : tie.After-index-of) → c .index-of .result < c .before .args .links
 unfolding known
-message-at-requires c κs = let st = c .before .before .before in (st .pre .0, rw (c .before .before .index-of .ensures) (ltb-true _ _ (st .pre .1 .there)))
+there c = rw (c .index-of .ensures) (ltb-true _ _ (c .before .pre .1 .there))
 
 returns : tie.Need-returns
-unfolding linkMessageDeed linkOf toRecipients recipientsOf
-returns c = rw (c .before .before .before .index-of .ensures) at (c .message-at .ensures)
+unfolding linkMessageDeed linkOf toRecipients recipientsOf recipientsAt
+returns c =
+    let d = rw (c .before .before .before .before .before .index-of .ensures) at (rw (c .before .before .before .before .recipients-at .ensures) at (c .spread .ensures)) in
+    record { on = λ g h. rw (h .links-is, h .active-is, h .mode-is, h .iid-is, h .owner-is) d }
 
 pub link-message-spec : {M : Type 1} → statement M
 link-message-spec =
     tie.close
-    (tie.spec index-of-requires mul-message-at add-message-at message-at-requires returns)
+    (tie.spec
+    (λ c κs. search needs)
+    (λ c κs. (c .before .pre .0, there c))
+    (λ c. search needs)
+    (λ c. search needs)
+    (λ c. let i = c .before .before .before in omega (arith, there i, i .before .pre .0 .few))
+    (λ c. let i = c .before .before .before in omega (arith, there i, i .before .pre .0 .few))
+    (λ c κs. search needs)
+    returns)

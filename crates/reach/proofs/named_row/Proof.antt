@@ -5,19 +5,13 @@ use borrow.Author.Needs.{needs}
 use Rattle.reach.proofs.named_row.Statement.{statement}
 use Rattle.reach.proofs.named_row.Tie as tie
 
-owners-named-requires : tie.Need-owners-named-requires
-owners-named-requires c κs = search needs
-
 returns : tie.Need-returns
 unfolding namedRow
 returns c = search choices depth 9
-
-column-of-requires : tie.Need-column-of-requires
-column-of-requires c κs = search needs
 
 returns-2 : tie.Need-returns-2
 unfolding namedRow
 returns-2 c = search choices depth 9
 
 pub named-row-spec : {M : Type 1} → statement M
-named-row-spec = tie.close (tie.spec owners-named-requires returns column-of-requires returns-2)
+named-row-spec = tie.close (tie.spec (λ c κs. search needs) returns (λ c κs. search needs) returns-2)

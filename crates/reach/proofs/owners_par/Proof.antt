@@ -4,15 +4,9 @@ use borrow.Author.Needs.{needs}
 use Rattle.reach.proofs.owners_par.Statement.{statement}
 use Rattle.reach.proofs.owners_par.Tie as tie
 
-owners-of-requires : tie.Need-owners-of-requires
-owners-of-requires c κs = search needs
-
 returns : tie.Need-returns
 unfolding withPar
 returns c = search choices depth 9
-
-owners-of-requires-2 : tie.Need-owners-of-requires-2
-owners-of-requires-2 c κs = search needs
 
 returns-2 : tie.Need-returns-2
 unfolding withPar
@@ -23,5 +17,4 @@ unfolding withPar
 returns-3 c = search choices depth 9
 
 pub owners-par-spec : {M : Type 1} → statement M
-owners-par-spec =
-    tie.close (tie.spec owners-of-requires returns owners-of-requires-2 returns-2 returns-3)
+owners-par-spec = tie.close (tie.spec (λ c κs. search needs) returns (λ c κs. search needs) returns-2 returns-3)

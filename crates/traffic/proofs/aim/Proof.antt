@@ -4,21 +4,15 @@ use borrow.Author.Needs.{needs}
 use Rattle.traffic.proofs.aim.Statement.{statement}
 use Rattle.traffic.proofs.aim.Tie as tie
 
-named-of-requires : tie.Need-named-of-requires
-named-of-requires c κs = search needs
-
-returns : tie.Need-returns
-returns c = record { named = λ h. c .named-of .ensures; all = λ h. absurd (false≢true (sym h ∙ c .before .if1 .taken)) }
-
-column-of-requires : tie.Need-column-of-requires
-column-of-requires c κs = search needs
-
-passes-requires : tie.Need-passes-requires
-passes-requires c κs = search needs
-
 returns-2 : tie.Need-returns-2
 returns-2 c = record { named = λ h. absurd (false≢true (sym (c .before .before .if1 .left) ∙ h)); all = λ h. (c .passes .ensures .0, c .passes .ensures .1 ∙ c .before .column-of .ensures) }
 
 pub aim-spec : {M : Type 1} → statement M
 aim-spec =
-    tie.close (tie.spec named-of-requires returns column-of-requires passes-requires returns-2)
+    tie.close
+    (tie.spec
+    (λ c κs. search needs)
+    (λ c. record { named = λ h. c .named-of .ensures; all = λ h. absurd (false≢true (sym h ∙ c .before .if1 .taken)) })
+    (λ c κs. search needs)
+    (λ c κs. search needs)
+    returns-2)

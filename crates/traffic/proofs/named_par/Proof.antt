@@ -6,22 +6,13 @@ use Rattle.traffic.specs.Named.{refusedPar, withPar}
 use Rattle.traffic.proofs.named_par.Statement.{statement}
 use Rattle.traffic.proofs.named_par.Tie as tie
 
-of-ids-requires : tie.Need-of-ids-requires
-of-ids-requires c κs = search needs
-
 returns : tie.Need-returns
 unfolding refusedPar withPar
 returns c = rw (eq-eqb _ 1 (c .before .if1 .taken)) (c .of-ids .ensures)
 
-of-ranges-requires : tie.Need-of-ranges-requires
-of-ranges-requires c κs = search needs
-
 returns-2 : tie.Need-returns-2
 unfolding refusedPar withPar
 returns-2 c = rw (ne-eqb _ 1 (c .before .before .if1 .left), eq-eqb _ 8 (c .before .if2 .taken)) (c .of-ranges .ensures)
-
-passes-requires : tie.Need-passes-requires
-passes-requires c κs = search needs
 
 returns-3 : tie.Need-returns-3
 unfolding refusedPar withPar
@@ -30,4 +21,10 @@ returns-3 c = rw (ne-eqb _ 1 (c .before .before .if1 .left), ne-eqb _ 8 (c .befo
 pub named-par-spec : {M : Type 1} → statement M
 named-par-spec =
     tie.close
-    (tie.spec of-ids-requires returns of-ranges-requires returns-2 passes-requires returns-3)
+    (tie.spec
+    (λ c κs. search needs)
+    returns
+    (λ c κs. search needs)
+    returns-2
+    (λ c κs. search needs)
+    returns-3)

@@ -1,0 +1,18 @@
+-- The columns that decisions ask.
+-- Assumes nothing.
+use Prim.Native.Nat.{ℕ}
+use mathlib.Core.Path.{_≡_}
+use mathlib.Core.List.{List}
+use Rattle.gateway.specs.declared.Gateway.{Gateway}
+
+-- the state g has these columns
+pub record AskColumns (links : ℕ) (aspid up member active mode iid owner state : List ℕ) (g : Gateway) : Type 0 where
+  pub links-is : g .links ≡ links
+  pub aspid-is : g .aspid ≡ aspid
+  pub up-is : g .up ≡ up
+  pub member-is : g .member ≡ member
+  pub active-is : g .active ≡ active
+  pub mode-is : g .mode ≡ mode
+  pub iid-is : g .iid ≡ iid
+  pub owner-is : g .owner ≡ owner
+  pub state-is : g .state ≡ state

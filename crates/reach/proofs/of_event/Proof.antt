@@ -1,0 +1,63 @@
+-- `reach::of_event`: nothing where it is refused, else what is asked reaches. Assumes nothing.
+use mathlib.Core.Path.{_≡_, ap, sym, _∙_}
+use mathlib.Core.Bool.{Bool}
+use borrow.Author.Needs.{needs}
+use Rattle.gateway.specs.Sound.{consistent}
+use Rattle.gateway.specs.Laws.{counts-within}
+use Rattle.ranges.specs.Laws.{table}
+use Rattle.rules.specs.Event.{Event}
+use Rattle.rules.specs.Rules.{refusal, refusalOf, inPlan}
+use Rattle.ask.specs.Happened.{happened, eventOf}
+use Rattle.ask.specs.Inner.Ask.{ask-fits-at}
+use Rattle.ask.specs.Inner.Refused.{Accepted, accepted}
+use Rattle.reach.specs.Rows.{row-is, reached-no, reached-yes}
+use Rattle.reach.proofs.of_event.Statement.{statement}
+use Rattle.reach.proofs.of_event.Tie as tie
+
+-- the way back: a further column that is lent makes it one longer
+abbrev to-asked : tie.After-refused → tie.After-asked
+to-asked c = c .before .before .before .before .before .before .before .before .before .before .before
+
+abbrev start : tie.After-asked → tie.Start
+start c = c .before .before
+
+-- the event
+abbrev happens : tie.After-asked → Event
+happens c = eventOf (happened (start c .args .kind) (start c .args .i) (start c .args .msg .now)) (start c .args .room)
+
+refusal-is : (c : tie.After-refused) → c .refused .result ≡ refusal (start (to-asked c) .args .t1) (happens (to-asked c))
+refusal-is c =
+    c .refused .ensures
+    ∙ ap (λ (k : Bool). refusalOf (consistent (start (to-asked c) .args .t1)) k (start (to-asked c) .args .room)) (to-asked c .asked .ensures .known (start (to-asked c) .args .t1))
+
+taken : (c : tie.After-refused) → c .refused .result ≡ 0 → Accepted (consistent (start (to-asked c) .args .t1)) (inPlan (start (to-asked c) .args .t1) (happens (to-asked c) .kind)) (start (to-asked c) .args .room)
+taken c h = accepted _ _ _ (sym (refusal-is c) ∙ h)
+
+row-of-requires : tie.Need-row-of-requires
+row-of-requires c κs =
+    let r = c .before .before .before .before .before .before in
+    let g = start (to-asked r) .args .t1 in
+    let a = to-asked r .asked .ensures in
+    let t = taken r (c .before .before .before .before .before .if1 .left) in
+    let w = c .before .before .before .before .wide .ensures in
+    (rw w (table g (t .sound-yes)), ask-fits-at g (to-asked r .asked .result) w (counts-within g (t .sound-yes)) (a .known g ∙ t .known-yes) (a .small))
+
+returns-2 : tie.Need-returns-2
+returns-2 c =
+    let r = c .before .before .before .before .before .before .before .before .before in
+    let a = to-asked r in
+    let g = start a .args .t1 in
+    reached-yes g (happens a) (refusal-is r) (c .before .before .before .before .before .before .before .before .if1 .left) (row-is g (start a .args .msg .now) (a .asked .result) (happens a) (c .before .before .before .before .before .before .before .wide .ensures) (c .before .before .row-of .ensures) (a .asked .ensures .reach g)) (rw (c .before .wide2 .ensures) at (c .within .ensures))
+
+pub of-event-spec : {M : Type 1} → statement M
+of-event-spec =
+    tie.close
+    (tie.spec
+    (λ c κs. search needs)
+    (λ c κs. search needs)
+    (λ c. reached-no _ (happens (to-asked (c .before))) (refusal-is (c .before)) (c .if1 .taken))
+    (λ c κs. search needs)
+    row-of-requires
+    (λ c κs. search needs)
+    (λ c κs. search needs)
+    returns-2)
