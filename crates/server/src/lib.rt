@@ -154,22 +154,20 @@ fn plus(x: [bool; 16], y: [bool; 16]) -> [bool; 16]
 fn turn_on(x: [bool; 16], mode: u8, y: [bool; 16]) -> [bool; 16]
     ensures { λ r. ⌜ r ≡ turnedBy x mode y ⌝ }
 {
-    let mut r = [false; 16];
-    for q in 0..16usize {
-        r[q] = (x[q] & (mode != 1)) | y[q];
+    if mode == 1 {
+        return y;
     }
-    r
+    plus(x, y)
 }
 
 // Those whom they overtake in override.
 fn overtake(x: [bool; 16], mode: u8, y: [bool; 16]) -> [bool; 16]
     ensures { λ r. ⌜ r ≡ overtakenBy x mode y ⌝ }
 {
-    let mut r = [false; 16];
-    for q in 0..16usize {
-        r[q] = (x[q] & (mode == 1)) & !y[q];
+    if mode == 1 {
+        return minus(x, y);
     }
-    r
+    [false; 16]
 }
 
 // The record with other members up and active: it waits if it lost its last active member.
