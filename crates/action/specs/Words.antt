@@ -13,7 +13,7 @@ use Rattle.laws.specs.Below.{when, when-short, concatBelow, concat-none, concat
 use Rattle.laws.specs.Tab.{at}
 use Rattle.action.specs.declared.Action.{Action}
 
--- "a lent list of 32-bit words, four to an order: addressee (ASP number; 255 the link side), class times 256 plus type, subject, value"
+-- the four words of each action (Rule 8.1)
 unfoldable pub wordsOf : List Action → List ℕ
 wordsOf [] = []
 wordsOf (o ∷ os) = o .to ∷ o .kind ∷ o .subject ∷ o .value ∷ wordsOf os
@@ -66,7 +66,7 @@ place-sets (o ∷ os) ws n =
     let e₄ : suc n * 4 ≡ suc (suc (suc (suc (n * 4)))) = omega arith in
     rw (e₁, e₂, e₃, e₄))
 
--- "words after the orders stay"
+-- the words behind those of the actions stay (Rule 8.6)
 pub place-first : (ws : List ℕ) (os : List Action) → length os * 4 ≤ length ws → place ws 0 os ≡ wordsOf os ++ drop (length os * 4) ws
 place-first ws os h =
     let e : 0 + length (wordsOf os) ≡ length os * 4 = omega (arith, length-wordsOf os) in

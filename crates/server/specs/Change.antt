@@ -20,18 +20,18 @@ without x p = tab 16 (λ q. at x q && not (eqb q p))
 unfoldable pub joined : List Bool → ℕ → List Bool
 joined x p = tab 16 (λ q. at x q || eqb q p)
 
--- "p becomes active .. in each owner AS. In override another active member becomes inactive": mode 1 is override
+-- those active once p is: in override, which is mode 1, p alone (Rule 7.11)
 unfoldable pub turned : List Bool → ℕ → ℕ → List Bool
 turned x mode p = tab 16 (λ q. (at x q && not (eqb mode 1)) || eqb q p)
 
--- those others: "and gets Notify (2, 2)"
+-- those whom p overtakes there
 unfoldable pub overtaken : List Bool → ℕ → ℕ → List Bool
 overtaken x mode p = tab 16 (λ q. (at x q && eqb mode 1) && not (eqb q p))
 
 unfoldable pub nobody : List Bool
 nobody = tab 16 (λ q. false)
 
--- "An AS losing its last active member waits; gaining one ends waiting."
+-- it waits from when its last active member is active no more, until one becomes active (Rule 7.12)
 unfoldable pub settle : AsRecord → List Bool → List Bool → AsRecord
 settle s ups acts =
     record {
@@ -41,8 +41,8 @@ settle s ups acts =
       mode = s .mode;
     }
 
--- Up: "p is inactive everywhere. p is up." Down: "p down, inactive everywhere. Lost: the same". Active, Inactive: "p becomes active or inactive
--- in each owner AS". "Recovery over: waiting ends."
+-- Rise: p comes up, active nowhere (Rule 7.4). Fall: p goes down (Rules 7.5, 7.6). Off, On: p becomes inactive, active (Rules 7.10, 7.9). Recover: the
+-- AS waits no longer (Rule 7.13).
 abbrev pub after : Change → AsRecord → AsRecord
 after (Rise p) s = settle s (joined (s .ups) p) (without (s .acts) p)
 after (Fall p) s = settle s (without (s .ups) p) (without (s .acts) p)

@@ -1,5 +1,4 @@
--- What is kept of one AS: "Its record, or an AS's, is all the board keeps of it, activity in that AS too." (The states of its links stand in
--- their own column.)
+-- What is kept of one AS (Rule 5.3).
 -- Assumes nothing.
 use Prim.Native.Nat.{ℕ, _+_, _*_, _/_, _%_, _≤_, _<_}
 use mathlib.Core.Path.{_≡_, refl, _∙_}
@@ -25,7 +24,7 @@ row c a = tab 16 (λ q. on c (pair a q))
 unfoldable pub membersUp : List ℕ → List ℕ → ℕ → List Bool
 membersUp up member a = tab 16 (λ q. on member (pair a q) && on up q)
 
--- "Kept: up or down per ASP; active or not per member pair; waiting per AS"
+-- cut out of the columns
 unfoldable pub recordFrom : List ℕ → List ℕ → List ℕ → List ℕ → List ℕ → ℕ → AsRecord
 recordFrom up member active waiting mode a =
     record { ups = membersUp up member a; acts = row active a; waiting = on waiting a; mode = col mode a }
@@ -37,7 +36,7 @@ recordOf g a = recordFrom (g .up) (g .member) (g .active) (g .waiting) (g .mode)
 unfoldable pub some : List Bool → Bool
 some x = anyBelow (at x) 16
 
--- "AS state: active if some member is active; else pending if waiting; else inactive if some member is up; else down."
+-- its state (Rule 5.2): 3 active, 4 pending, 2 inactive, 0 down
 unfoldable pub stateIn : AsRecord → ℕ
 stateIn s = cond (some (s .acts)) 3 (cond (s .waiting) 4 (cond (some (s .ups)) 2 0))
 

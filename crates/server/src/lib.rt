@@ -254,7 +254,7 @@ fn announce(s: AsRecord, t: AsRecord, a: usize, words: &mut [u32], n: usize) -> 
         return n;
     }
     let ups = t.ups;
-    action::to_all(ups, 1, a as u32, 65536 + y, words, n)
+    action::to_all(ups, action::NOTIFY, a as u32, 65536 + y, words, n)
 }
 
 // Notify (2, 2) to those overtaken, or else the new state.
@@ -270,7 +270,14 @@ pub fn speak(
     ensures { λ r. ⌜ Written (now (words .entry)) n (spoken lost s t a) (now (words .exit)) r ⌝ }
 {
     if has_some(lost) {
-        return action::to_all(lost, 1, a as u32, 131074, words, n);
+        return action::to_all(
+            lost,
+            action::NOTIFY,
+            a as u32,
+            action::OTHER_ACTIVE,
+            words,
+            n,
+        );
     }
     announce(s, t, a, words, n)
 }
