@@ -66,7 +66,7 @@ place-sets (o ∷ os) ws n =
     let e₄ : suc n * 4 ≡ suc (suc (suc (suc (n * 4)))) = omega arith in
     rw (e₁, e₂, e₃, e₄))
 
--- the words behind the actions' words are as they were (Rule 8.6)
+-- the words behind those of the actions stay (Rule 8.6)
 pub place-first : (ws : List ℕ) (os : List Action) → length os * 4 ≤ length ws → place ws 0 os ≡ wordsOf os ++ drop (length os * 4) ws
 place-first ws os h =
     let e : 0 + length (wordsOf os) ≡ length os * 4 = omega (arith, length-wordsOf os) in

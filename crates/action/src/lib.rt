@@ -1,11 +1,16 @@
-// Actions and how they are written, four words to an action.
+// Actions and how they are written, four words to an action (Rule 8.1).
 ghost use mathlib.Core.Path.{_≡_};
 ghost use Prim.Native.Nat.{_+_, _*_, _≤_};
 ghost use lib.ListN.{length};
 ghost use Rattle.laws.specs.Below.{when};
 ghost use Rattle.action.specs.Words.{putAt, Written, toAll};
 
-// Rule 8.1: to whom (an ASP, or 255 for the link side), which message (class * 256 + type), its subject and value.
+// A Notify (0.1), and its status that another ASP has become active in an AS: type 2, information 2 (Rule 8.5).
+pub const NOTIFY: u32 = 1;
+
+pub const OTHER_ACTIVE: u32 = 2 * 65536 + 2;
+
+// To whom: the number of an ASP, or 255 for the link side. Which message: class * 256 + type. Its subject and its value.
 pub struct Action {
     pub to: u32,
     pub kind: u32,

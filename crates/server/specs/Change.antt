@@ -20,18 +20,18 @@ without x p = tab 16 (λ q. at x q && not (eqb q p))
 unfoldable pub joined : List Bool → ℕ → List Bool
 joined x p = tab 16 (λ q. at x q || eqb q p)
 
--- who is active once p is: in override (mode 1) p alone (Rules 7.9, 7.11)
+-- those active once p is: in override, which is mode 1, p alone (Rule 7.11)
 unfoldable pub turned : List Bool → ℕ → ℕ → List Bool
 turned x mode p = tab 16 (λ q. (at x q && not (eqb mode 1)) || eqb q p)
 
--- whom p has overtaken (Rule 7.11)
+-- those whom p overtakes there
 unfoldable pub overtaken : List Bool → ℕ → ℕ → List Bool
 overtaken x mode p = tab 16 (λ q. (at x q && eqb mode 1) && not (eqb q p))
 
 unfoldable pub nobody : List Bool
 nobody = tab 16 (λ q. false)
 
--- the record with others up and active: whoever was active last leaves the AS waiting, and whoever becomes active ends that (Rule 7.12)
+-- it waits from when its last active member is active no more, until one becomes active (Rule 7.12)
 unfoldable pub settle : AsRecord → List Bool → List Bool → AsRecord
 settle s ups acts =
     record {
@@ -41,7 +41,8 @@ settle s ups acts =
       mode = s .mode;
     }
 
--- Up (Rule 7.4), Down and lost (7.5, 7.6), Inactive (7.10), Active (7.9), recovery over (7.13)
+-- Rise: p comes up, active nowhere (Rule 7.4). Fall: p goes down (Rules 7.5, 7.6). Off, On: p becomes inactive, active (Rules 7.10, 7.9). Recover: the
+-- AS waits no longer (Rule 7.13).
 abbrev pub after : Change → AsRecord → AsRecord
 after (Rise p) s = settle s (joined (s .ups) p) (without (s .acts) p)
 after (Fall p) s = settle s (without (s .ups) p) (without (s .acts) p)

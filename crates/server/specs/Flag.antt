@@ -2,7 +2,7 @@
 -- Assumes nothing.
 use Prim.Native.Nat.{ℕ, _<_, _≤_}
 use mathlib.Core.Path.{_≡_, refl, _∙_, sym}
-use mathlib.Core.Bool.{Bool, true, false, _||_, _&&_, not}
+use mathlib.Core.Bool.{Bool, true, false, _&&_, _||_, not, cond}
 use mathlib.Core.List.{List}
 use native.Mathlib.Omega.{arith}
 use native.Mathlib.Decide.{ℕ-discrete}
@@ -35,10 +35,10 @@ unfoldable pub more : List Bool → List Bool → List Bool
 more x y = tab 16 (λ q. at x q || at y q)
 
 unfoldable pub turnedBy : List Bool → ℕ → List Bool → List Bool
-turnedBy x mode y = tab 16 (λ q. (at x q && not (eqb mode 1)) || at y q)
+turnedBy x mode y = cond (eqb mode 1) y (more x y)
 
 unfoldable pub overtakenBy : List Bool → ℕ → List Bool → List Bool
-overtakenBy x mode y = tab 16 (λ q. (at x q && eqb mode 1) && not (at y q))
+overtakenBy x mode y = cond (eqb mode 1) (less x y) nobody
 
 -- ---- laws
 
@@ -69,9 +69,33 @@ module _ {y : List Bool} (p : ℕ) (e : y ≡ flagged p) where
   more-one x h = h ∙ tab-ext false 16 (λ q. at x q || at y q) (λ q. at x q || eqb q p) (λ q b. rw (at-flag q b))
 
   pub turned-one : {r : List Bool} (x : List Bool) (mode : ℕ) → r ≡ turnedBy x mode y → r ≡ turned x mode p
-  unfolding turnedBy turned
-  turned-one x mode h = h ∙ tab-ext false 16 (λ q. (at x q && not (eqb mode 1)) || at y q) (λ q. (at x q && not (eqb mode 1)) || eqb q p) (λ q b. rw (at-flag q b))
+  unfolding turnedBy turned flagged joined
+  turned-one x mode h = h ∙ go (eqb mode 1)
+    where
+      only : (u v : Bool) → v ≡ ((u && false) || v)
+      only true v = refl
+      only false v = refl
+
+      all : (u v : Bool) → (u || v) ≡ ((u && true) || v)
+      all true v = refl
+      all false v = refl
+
+      go : (u : Bool) → cond u y (more x y) ≡ tab 16 (λ q. (at x q && not u) || eqb q p)
+      go true = e ∙ tab-ext false 16 _ _ (λ q b. only (at x q) (eqb q p))
+      go false = more-one x refl ∙ tab-ext false 16 _ _ (λ q b. all (at x q) (eqb q p))
 
   pub overtaken-one : {r : List Bool} (x : List Bool) (mode : ℕ) → r ≡ overtakenBy x mode y → r ≡ overtaken x mode p
-  unfolding overtakenBy overtaken
-  overtaken-one x mode h = h ∙ tab-ext false 16 (λ q. (at x q && eqb mode 1) && not (at y q)) (λ q. (at x q && eqb mode 1) && not (eqb q p)) (λ q b. rw (at-flag q b))
+  unfolding overtakenBy overtaken without nobody
+  overtaken-one x mode h = h ∙ go (eqb mode 1)
+    where
+      all : (u v : Bool) → (u && not v) ≡ ((u && true) && not v)
+      all true v = refl
+      all false v = refl
+
+      none : (u v : Bool) → false ≡ ((u && false) && not v)
+      none true v = refl
+      none false v = refl
+
+      go : (u : Bool) → cond u (less x y) nobody ≡ tab 16 (λ q. (at x q && u) && not (eqb q p))
+      go true = less-one x refl ∙ tab-ext false 16 _ _ (λ q b. all (at x q) (eqb q p))
+      go false = tab-ext false 16 _ _ (λ q b. none (at x q) (eqb q p))

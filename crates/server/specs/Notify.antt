@@ -10,6 +10,7 @@ use lib.ListN.{length}
 use borrow.Author.Tests.{eq-eqb, ne-eqb, ltb-true}
 use Rattle.laws.specs.Below.{any-not, concatBelow, concat-ext, concat-empty, when, when-nil}
 use Rattle.laws.specs.Tab.{at}
+use Rattle.action.specs.Types.{mgmtNotify, asState, otherActive}
 use Rattle.action.specs.Words.{action, toEach, toAll, toAll-short}
 use Rattle.action.specs.declared.Action.{Action}
 use Rattle.server.specs.Record.{some, stateIn}
@@ -18,19 +19,19 @@ use Rattle.server.specs.declared.AsRecord.{AsRecord}
 use Rattle.server.specs.declared.Change.{Change}
 use Rattle.server.specs.declared.Change.the-variants.{Rise, Fall, Off, On, Recover}
 
--- a Notify to ASP q about AS a (Rule 8.5)
-abbrev pub notify : ℕ → ℕ → ℕ → ℕ → Action
-notify a type information q = action q 1 a (type * 65536 + information)
+-- a Notify of AS a to ASP q (Rule 8.5)
+abbrev pub notify : ℕ → ℕ → ℕ → Action
+notify a value q = action q mgmtNotify a value
 
--- whether the members are told: the state is another one, and not down, which is 0
+-- a state is told where it is another than before, and not down, which is 0 (Rule 8.5)
 unfoldable pub isTold : AsRecord → AsRecord → Bool
 isTold s t = not (eqb (stateIn t) 0) && not (eqb (stateIn s) (stateIn t))
 
--- what ASP q gets: (2, 2) where it is overtaken, and the new state where that is told and q is up after the event
+-- what ASP q gets: where it is overtaken, that another is active (Rule 7.11); and where a state is told and it is up after the event, that state
 unfoldable pub notifiesTo : List Bool → AsRecord → AsRecord → ℕ → ℕ → List Action
-notifiesTo lost s t a q = when (at lost q) (notify a 2 2 q) ++ when (isTold s t && at (t .ups) q) (notify a 1 (stateIn t) q)
+notifiesTo lost s t a q = when (at lost q) (notify a otherActive q) ++ when (isTold s t && at (t .ups) q) (notify a (asState (stateIn t)) q)
 
--- to one ASP after the other, upwards (Rule 8.3)
+-- by ascending number of the ASP (Rule 8.3)
 unfoldable pub notifies : List Bool → AsRecord → AsRecord → ℕ → List Action
 notifies lost s t a = concatBelow (notifiesTo lost s t a) 16
 
@@ -42,16 +43,16 @@ actionsIn named k a s = cond named (notifies (overtakenIn k s) s (after k s) a) 
 
 unfoldable pub announced : AsRecord → AsRecord → ℕ → List Action
 announced s t a =
-    cond (eqb (stateIn t) 0) [] (cond (eqb (stateIn s) (stateIn t)) [] (toAll (t .ups) 1 a (65536 + stateIn t)))
+    cond (eqb (stateIn t) 0) [] (cond (eqb (stateIn s) (stateIn t)) [] (toAll (t .ups) mgmtNotify a (asState (stateIn t))))
 
 unfoldable pub spoken : List Bool → AsRecord → AsRecord → ℕ → List Action
-spoken lost s t a = cond (some lost) (toAll lost 1 a 131074) (announced s t a)
+spoken lost s t a = cond (some lost) (toAll lost mgmtNotify a otherActive) (announced s t a)
 
-announced-told : (s t : AsRecord) (a : ℕ) → announced s t a ≡ cond (isTold s t) (toAll (t .ups) 1 a (65536 + stateIn t)) []
+announced-told : (s t : AsRecord) (a : ℕ) → announced s t a ≡ cond (isTold s t) (toAll (t .ups) mgmtNotify a (asState (stateIn t))) []
 unfolding announced isTold
 announced-told s t a = go (eqb (stateIn t) 0) (eqb (stateIn s) (stateIn t))
   where
-    go : (u v : Bool) → cond u [] (cond v [] (toAll (t .ups) 1 a (65536 + stateIn t))) ≡ cond (not u && not v) (toAll (t .ups) 1 a (65536 + stateIn t)) []
+    go : (u v : Bool) → cond u [] (cond v [] (toAll (t .ups) mgmtNotify a (asState (stateIn t)))) ≡ cond (not u && not v) (toAll (t .ups) mgmtNotify a (asState (stateIn t))) []
     go true v = refl
     go false true = refl
     go false false = refl
@@ -64,14 +65,14 @@ notifies-new lost s t a h = go (isTold s t) refl ∙ sym (announced-told s t a)
     none : (q : ℕ) → q < 16 → at lost q ≡ false
     none = any-not (at lost) 16 h
 
-    go : (u : Bool) → isTold s t ≡ u → concatBelow (notifiesTo lost s t a) 16 ≡ cond u (toAll (t .ups) 1 a (65536 + stateIn t)) []
+    go : (u : Bool) → isTold s t ≡ u → concatBelow (notifiesTo lost s t a) 16 ≡ cond u (toAll (t .ups) mgmtNotify a (asState (stateIn t))) []
     go true e = concat-ext _ _ 16 (λ q b. rw (none q b, e))
     go false e = concat-ext _ (λ (q : ℕ). []) 16 (λ q b. rw (none q b, e)) ∙ concat-empty 16
 
 -- where the state is not told those overtaken are
-notifies-lost : (lost : List Bool) (s t : AsRecord) (a : ℕ) → isTold s t ≡ false → notifies lost s t a ≡ toAll lost 1 a 131074
+notifies-lost : (lost : List Bool) (s t : AsRecord) (a : ℕ) → isTold s t ≡ false → notifies lost s t a ≡ toAll lost mgmtNotify a otherActive
 unfolding notifies notifiesTo toAll toEach
-notifies-lost lost s t a e = concat-ext _ _ 16 (λ q b. rw e (when-nil (at lost q) (notify a 2 2 q)))
+notifies-lost lost s t a e = concat-ext _ _ 16 (λ q b. rw e (when-nil (at lost q) (notify a otherActive q)))
 
 state-active : (s : AsRecord) → some (s .acts) ≡ true → stateIn s ≡ 3
 unfolding stateIn
@@ -94,7 +95,7 @@ spoken-is (Off p) s a h = rw nobody-none (sym (notifies-new nobody s (after (Off
 spoken-is (On p) s a h = go (some (overtaken (s .acts) (s .mode) p)) refl
   where
     go : (u : Bool) → some (overtaken (s .acts) (s .mode) p) ≡ u
-        → cond u (toAll (overtaken (s .acts) (s .mode) p) 1 a 131074) (announced s (after (On p) s) a) ≡ notifies (overtaken (s .acts) (s .mode) p) s (after (On p) s) a
+        → cond u (toAll (overtaken (s .acts) (s .mode) p) mgmtNotify a otherActive) (announced s (after (On p) s) a) ≡ notifies (overtaken (s .acts) (s .mode) p) s (after (On p) s) a
     go true e = sym (notifies-lost (overtaken (s .acts) (s .mode) p) s (after (On p) s) a (told-on p s (ltb-true p 16 h) e))
     go false e = sym (notifies-new (overtaken (s .acts) (s .mode) p) s (after (On p) s) a e)
 spoken-is Recover s a h = rw nobody-none (sym (notifies-new nobody s (after Recover s) a nobody-none))
@@ -105,11 +106,11 @@ spoken-short : (lost : List Bool) (s t : AsRecord) (a : ℕ) → length (spoken 
 unfolding spoken announced
 spoken-short lost s t a = go (some lost) (eqb (stateIn t) 0) (eqb (stateIn s) (stateIn t))
   where
-    go : (w u v : Bool) → length (cond w (toAll lost 1 a 131074) (cond u [] (cond v [] (toAll (t .ups) 1 a (65536 + stateIn t))))) ≤ 16
-    go true u v = toAll-short lost 1 a 131074
+    go : (w u v : Bool) → length (cond w (toAll lost mgmtNotify a otherActive) (cond u [] (cond v [] (toAll (t .ups) mgmtNotify a (asState (stateIn t)))))) ≤ 16
+    go true u v = toAll-short lost mgmtNotify a otherActive
     go false true v = omega arith
     go false false true = omega arith
-    go false false false = toAll-short (t .ups) 1 a (65536 + stateIn t)
+    go false false false = toAll-short (t .ups) mgmtNotify a (asState (stateIn t))
 
 pub actionsIn-short : (named : Bool) (k : Change) (a : ℕ) (s : AsRecord) → fits k ≡ true → length (actionsIn named k a s) ≤ 16
 unfolding actionsIn
@@ -126,6 +127,6 @@ pub announced-same : (s t : AsRecord) (a : ℕ) → (stateIn t ≡ 0 → ⊥) �
 unfolding announced
 announced-same s t a g h = rw (ne-eqb _ _ g, eq-eqb _ _ h)
 
-pub announced-new : (s t : AsRecord) (a : ℕ) → (stateIn t ≡ 0 → ⊥) → (stateIn s ≡ stateIn t → ⊥) → announced s t a ≡ toAll (t .ups) 1 a (65536 + stateIn t)
+pub announced-new : (s t : AsRecord) (a : ℕ) → (stateIn t ≡ 0 → ⊥) → (stateIn s ≡ stateIn t → ⊥) → announced s t a ≡ toAll (t .ups) mgmtNotify a (asState (stateIn t))
 unfolding announced
 announced-new s t a g h = rw (ne-eqb _ _ g, ne-eqb _ _ h)

@@ -1,4 +1,4 @@
--- What is kept of one AS (Rule 5.3). (The states of its links stand in their own column.)
+-- What is kept of one AS (Rule 5.3).
 -- Assumes nothing.
 use Prim.Native.Nat.{ℕ, _+_, _*_, _/_, _%_, _≤_, _<_}
 use mathlib.Core.Path.{_≡_, refl, _∙_}
@@ -24,7 +24,7 @@ row c a = tab 16 (λ q. on c (pair a q))
 unfoldable pub membersUp : List ℕ → List ℕ → ℕ → List Bool
 membersUp up member a = tab 16 (λ q. on member (pair a q) && on up q)
 
--- the record of AS a: its members that are up, those active in it, whether it waits, its traffic mode
+-- cut out of the columns
 unfoldable pub recordFrom : List ℕ → List ℕ → List ℕ → List ℕ → List ℕ → ℕ → AsRecord
 recordFrom up member active waiting mode a =
     record { ups = membersUp up member a; acts = row active a; waiting = on waiting a; mode = col mode a }
@@ -36,7 +36,7 @@ recordOf g a = recordFrom (g .up) (g .member) (g .active) (g .waiting) (g .mode)
 unfoldable pub some : List Bool → Bool
 some x = anyBelow (at x) 16
 
--- the state of the AS (Rule 5.2)
+-- its state (Rule 5.2): 3 active, 4 pending, 2 inactive, 0 down
 unfoldable pub stateIn : AsRecord → ℕ
 stateIn s = cond (some (s .acts)) 3 (cond (s .waiting) 4 (cond (some (s .ups)) 2 0))
 

@@ -154,22 +154,20 @@ fn plus(x: [bool; 16], y: [bool; 16]) -> [bool; 16]
 fn turn_on(x: [bool; 16], mode: u8, y: [bool; 16]) -> [bool; 16]
     ensures { λ r. ⌜ r ≡ turnedBy x mode y ⌝ }
 {
-    let mut r = [false; 16];
-    for q in 0..16usize {
-        r[q] = (x[q] & (mode != 1)) | y[q];
+    if mode == 1 {
+        return y;
     }
-    r
+    plus(x, y)
 }
 
 // Those whom they overtake in override.
 fn overtake(x: [bool; 16], mode: u8, y: [bool; 16]) -> [bool; 16]
     ensures { λ r. ⌜ r ≡ overtakenBy x mode y ⌝ }
 {
-    let mut r = [false; 16];
-    for q in 0..16usize {
-        r[q] = (x[q] & (mode == 1)) & !y[q];
+    if mode == 1 {
+        return minus(x, y);
     }
-    r
+    [false; 16]
 }
 
 // The record with other members up and active: it waits if it lost its last active member.
@@ -256,7 +254,7 @@ fn announce(s: AsRecord, t: AsRecord, a: usize, words: &mut [u32], n: usize) -> 
         return n;
     }
     let ups = t.ups;
-    action::to_all(ups, 1, a as u32, 65536 + y, words, n)
+    action::to_all(ups, action::NOTIFY, a as u32, 65536 + y, words, n)
 }
 
 // Notify (2, 2) to those overtaken, or else the new state.
@@ -272,7 +270,14 @@ pub fn speak(
     ensures { λ r. ⌜ Written (now (words .entry)) n (spoken lost s t a) (now (words .exit)) r ⌝ }
 {
     if has_some(lost) {
-        return action::to_all(lost, 1, a as u32, 131074, words, n);
+        return action::to_all(
+            lost,
+            action::NOTIFY,
+            a as u32,
+            action::OTHER_ACTIVE,
+            words,
+            n,
+        );
     }
     announce(s, t, a, words, n)
 }

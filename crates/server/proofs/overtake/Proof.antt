@@ -1,33 +1,19 @@
--- `server::overtake`: the places passed. Assumes nothing.
-use Prim.Native.Nat.{_≤_, _-_}
-use mathlib.Core.Path.{refl}
-use mathlib.Core.Bool.{_&&_, not}
-use native.Mathlib.Omega.{arith}
-use lib.Dec.{eqb}
+-- `server::overtake`: by the mode. Assumes nothing.
 use borrow.Author.Needs.{needs}
-use Rattle.laws.specs.Tab.{Half, at, half-end, half-more, half-none}
+use borrow.Author.Tests.{ne-eqb}
+use Rattle.laws.specs.Tab.{tab}
+use Rattle.server.specs.Change.{nobody}
 use Rattle.server.specs.Flag.{overtakenBy}
 use Rattle.server.proofs.overtake.Statement.{statement}
 use Rattle.server.proofs.overtake.Tie as tie
 
-abbrev Inv-loop : tie.InvT-loop
-Inv-loop mode x y r₀ q₀ r q = Half (λ i. (at x i && eqb mode 1) && not (at y i)) (at r₀) 16 q r × (q ≤ 16)
-
-abbrev μ-loop : tie.MeasureT-loop
-μ-loop mode x y r₀ q₀ r q = 16 - q
-
-loop-holds : tie.Need-loop-holds Inv-loop μ-loop
-loop-holds c = (half-none _ 16 _ refl, omega arith)
-
-loop-again : tie.Need-loop-again Inv-loop μ-loop
-loop-again c = (half-more _ (c .before .loop .inv .0) (omega arith) refl, search needs)
-
-returns : tie.Need-returns Inv-loop μ-loop
+returns : tie.Need-returns
 unfolding overtakenBy
-returns c = half-end (c .before .loop .inv .0) (c .loop-test .left)
+returns c = rw (c .before .if1 .taken) (c .minus .ensures)
+
+returns-2 : tie.Need-returns-2
+unfolding overtakenBy nobody tab
+returns-2 c = rw (ne-eqb _ _ (c .if1 .left))
 
 pub overtake-spec : {M : Type 1} → statement M
-overtake-spec =
-    tie.close
-    (tie.spec Inv-loop μ-loop loop-holds (search needs) (search needs) (search needs) (search needs) (search needs)
-    loop-again returns)
+overtake-spec = tie.close (tie.spec (search needs) returns returns-2)
