@@ -1,0 +1,86 @@
+/* Counts the copies of the state that m2ua_event makes: the calls of memcpy and memmove of at least its size (linked with --wrap). What this file's own code
+ * copies is left out: it stands in a section of its own. `copies-check size` prints the state's size. */
+#include <stdio.h>
+#include <string.h>
+#include "m2ua.h"
+
+#define HOST __attribute__((section("host_text"), noinline))
+extern char __start_host_text[], __stop_host_text[];
+
+static unsigned copies;
+static int failures;
+static uint32_t words[1032];
+
+static void count(size_t bytes, void *from) {
+    const char *at = from;
+    if (bytes >= sizeof(m2ua_gateway) && !(at >= __start_host_text && at < __stop_host_text)) copies++;
+}
+
+void *__real_memcpy(void *to, const void *from, size_t bytes);
+void *__real_memmove(void *to, const void *from, size_t bytes);
+
+void *__wrap_memcpy(void *to, const void *from, size_t bytes) {
+    count(bytes, __builtin_return_address(0));
+    return __real_memcpy(to, from, bytes);
+}
+
+void *__wrap_memmove(void *to, const void *from, size_t bytes) {
+    count(bytes, __builtin_return_address(0));
+    return __real_memmove(to, from, bytes);
+}
+
+/* An event of the state g, which it changes: accepted, with two copies at most; refused, with three. */
+HOST static void event(const char *what, m2ua_gateway *g, uint32_t kind, const uint8_t *msg, size_t len, uint32_t refusal, size_t room) {
+    const uint8_t none = 0;
+    copies = 0;
+    m2ua_outcome r = m2ua_event(*g, kind, 0, msg ? msg : &none, len, words, room);
+    unsigned made = copies, most = refusal ? 3 : 2;
+    if (r.refusal != refusal || made > most || made == 0) {
+        printf("copies-check: %s: refusal %u, %u copies of the state (expected: refusal %u, 1 to %u copies)\n", what, r.refusal, made, refusal, most);
+        failures++;
+    }
+    *g = r.gateway;
+}
+
+HOST int main(int argc, char **argv) {
+    if (argc > 1 && strcmp(argv[1], "size") == 0) {
+        printf("%zu\n", sizeof(m2ua_gateway));
+        return 0;
+    }
+    /* ASP 0 in AS 0, override, with link 100 */
+    const uint8_t file[44] = {0, 0, 0, 24, 0, 0, 0, 1, 0, 0, 0, 32, 0, 0, 0, 1, 0, 0, 0, 36, 0, 0, 0, 1,
+                              0, 0, 0, 7, 0, 1, 0, 0, 0, 0, 0, 1, 0, 0, 0, 100, 0, 0, 0, 0};
+    static const struct {
+        const char *what;
+        uint32_t kind;
+        uint8_t msg[28];
+        size_t len;
+    } events[] = {
+        {"Up", M2UA_MESSAGE, {1, 0, 3, 1, 0, 0, 0, 8}, 8},
+        {"Beat", M2UA_MESSAGE, {1, 0, 3, 3, 0, 0, 0, 8}, 8},
+        {"an Error", M2UA_MESSAGE, {1, 0, 0, 0, 0, 0, 0, 8}, 8},
+        {"an unreadable message", M2UA_MESSAGE, {2, 0, 3, 1, 0, 0, 0, 8}, 8},
+        {"Active", M2UA_MESSAGE, {1, 0, 4, 1, 0, 0, 0, 8}, 8},
+        {"Active with an identifier", M2UA_MESSAGE, {1, 0, 4, 1, 0, 0, 0, 16, 0, 1, 0, 8, 0, 0, 0, 100}, 16},
+        {"Establish", M2UA_MESSAGE, {1, 0, 6, 2, 0, 0, 0, 16, 0, 1, 0, 8, 0, 0, 0, 100}, 16},
+        {"link up", M2UA_LINK_UP, {0}, 0},
+        {"Data", M2UA_MESSAGE, {1, 0, 6, 1, 0, 0, 0, 28, 0, 1, 0, 8, 0, 0, 0, 100, 3, 0, 0, 9, 1, 2, 3, 4, 5, 0, 0, 0}, 28},
+        {"Data of the link side", M2UA_LINK_MESSAGE, {1, 0, 6, 1, 0, 0, 0, 28, 0, 1, 0, 8, 0, 0, 0, 100, 3, 0, 0, 9, 1, 2, 3, 4, 5, 0, 0, 0}, 28},
+        {"Release", M2UA_MESSAGE, {1, 0, 6, 4, 0, 0, 0, 16, 0, 1, 0, 8, 0, 0, 0, 100}, 16},
+        {"link down", M2UA_LINK_DOWN, {0}, 0},
+        {"Inactive", M2UA_MESSAGE, {1, 0, 4, 2, 0, 0, 0, 8}, 8},
+        {"recovery over", M2UA_RECOVERY, {0}, 0},
+        {"Down", M2UA_MESSAGE, {1, 0, 3, 2, 0, 0, 0, 8}, 8},
+        {"lost", M2UA_LOST, {0}, 0},
+    };
+    m2ua_gateway g = m2ua_load(file, sizeof file).gateway;
+    for (size_t k = 0; k < sizeof events / sizeof *events; k++) {
+        event(events[k].what, &g, events[k].kind, events[k].len ? events[k].msg : NULL, events[k].len, 0, 1032);
+    }
+    event("a list of 1,031 words", &g, M2UA_LOST, NULL, 0, 101, 1031);
+    event("a kind that there is not", &g, 6, NULL, 0, 102, 1032);
+    g.asps = 0;
+    event("an unsound state", &g, M2UA_LOST, NULL, 0, 105, 1032);
+    printf("copies of the state: %s\n", failures ? "FAILED" : "at most two in every accepted event, three in a refused one");
+    return failures != 0;
+}
