@@ -10,7 +10,7 @@
 typedef struct {
     uint32_t code;        /* 0, or the number of the refusal */
     uint32_t class_;      /* message class */
-    uint32_t kind;        /* message type */
+    uint32_t msgtype;     /* message type */
     uint32_t ids;         /* 1 where identifiers or ranges of them are given */
     uint32_t id;          /* the first interface identifier */
     uint32_t mode;        /* traffic mode; 0 where none is given */
@@ -19,7 +19,7 @@ typedef struct {
     uint32_t correlated;  /* 1 where a correlation id is given .. */
     uint32_t correlation; /* .. and it */
     uint32_t state;       /* of a State Request or Confirm */
-    uint32_t action;      /* of a Retrieval Request or Confirm */
+    uint32_t retrieval;   /* of a Retrieval Request or Confirm */
 } m2ua_reading;
 
 /* What a write did (Rule 3.5): 0 and the bytes written, or the number of the refusal and 0. */
@@ -30,10 +30,10 @@ typedef struct {
 
 /* Writes the message of a class, a type and a list of parameters (Rule 3.2): the tags, the lengths of the values, and the values one behind the other.
  * A refusal (Rule 3.3: 7 for a list that is not whole, then the reader's number, then 103 where `out` is short) changes no byte of `out`. */
-m2ua_written m2ua_write(uint8_t class_, uint8_t kind, const uint16_t *tags, size_t tag_count, const uint32_t *lens, size_t len_count,
+m2ua_written m2ua_write(uint8_t class_, uint8_t msgtype, const uint16_t *tags, size_t tag_count, const uint32_t *lens, size_t len_count,
                         const uint8_t *values, size_t value_bytes, uint8_t *out, size_t out_bytes);
 
-/* The gateway's state, by value. Every pattern of bytes is a state; m2ua_is_consistent tells the sound ones. A pair's index is as * 16 + asp. */
+/* The gateway's state, by value. Every pattern of bytes is a state; m2ua_is_sound tells the sound ones. A pair's index is as * 16 + asp. */
 typedef struct {
     uint8_t asps, ases, links;       /* how many of each the plan has */
     uint32_t aspid[16];              /* ASP identifiers */
@@ -56,7 +56,7 @@ typedef struct {
 m2ua_loaded m2ua_load(const uint8_t *file, size_t len);
 
 /* 1 where the state is sound (Rule 5.4), else 0. */
-uint32_t m2ua_is_consistent(m2ua_gateway g);
+uint32_t m2ua_is_sound(m2ua_gateway g);
 
 /* Reads a message of any bytes (Rule 2.9). It keeps no state and touches nothing but its result. */
 m2ua_reading m2ua_read(const uint8_t *msg, size_t len);

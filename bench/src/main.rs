@@ -118,10 +118,10 @@ fn main() {
             || load(black_box(file)),
         );
         let state = loaded.gateway;
-        assert!(proved::is_consistent(&state) && is_sound(&state));
+        assert!(proved::is_sound(&state) && is_sound(&state));
         timing::compare(
             &format!("soundness, {name}"),
-            || proved::is_consistent(black_box(&state)),
+            || proved::is_sound(black_box(&state)),
             || is_sound(&by_value(black_box(state))),
         );
     }

@@ -44,7 +44,7 @@ extern "C" {
         words: *mut u32,
         count: usize,
     ) -> Outcome;
-    fn m2ua_is_consistent(g: Gateway) -> u32;
+    fn m2ua_is_sound(g: Gateway) -> u32;
 }
 
 pub fn read(msg: &[u8]) -> Reading {
@@ -57,9 +57,9 @@ pub fn load(file: &[u8]) -> Loaded {
     unsafe { m2ua_load(file.as_ptr(), file.len()) }
 }
 
-pub fn is_consistent(g: &Gateway) -> bool {
+pub fn is_sound(g: &Gateway) -> bool {
     // SAFETY: the struct is passed by value, and any bytes are a state.
-    unsafe { m2ua_is_consistent(*g) == 1 }
+    unsafe { m2ua_is_sound(*g) == 1 }
 }
 
 pub fn write(

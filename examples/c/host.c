@@ -18,7 +18,7 @@ static void messages(void) {
     m2ua_reading r = m2ua_read(m, sizeof m);
     expect("code of M", r.code, 0);
     expect("class of M", r.class_, 4);
-    expect("type of M", r.kind, 1);
+    expect("type of M", r.msgtype, 1);
     expect("identifiers in M", r.ids, 1);
     expect("mode of M", r.mode, 1);
     uint8_t other[28];
@@ -92,10 +92,10 @@ int main(void) {
     m2ua_loaded plan = plan_s(192);
     expect("code of plan S", plan.code, 0);
     expect("identifier of its last ASP", plan.gateway.aspid[2], 9);
-    expect("its state is consistent", m2ua_is_consistent(plan.gateway), 1);
+    expect("its state is consistent", m2ua_is_sound(plan.gateway), 1);
     events(plan.gateway);
     plan.gateway.up[0] = 2;
-    expect("a flag of 2 is not", m2ua_is_consistent(plan.gateway), 0);
+    expect("a flag of 2 is not", m2ua_is_sound(plan.gateway), 0);
     printf("C example: %s\n", failures ? "FAILED" : "ok");
     return failures != 0;
 }

@@ -72,7 +72,7 @@ fn main() {
         for (name, change) in cases {
             let mut g = base();
             change(&mut g);
-            if proved::is_consistent(&g) != expected {
+            if proved::is_sound(&g) != expected {
                 println!("{name}: expected {expected}");
                 failures += 1;
             }
@@ -98,7 +98,7 @@ fn main() {
                     )
                 };
                 let old = std::mem::replace(&mut bytes[at], value);
-                if proved::is_consistent(&g) != is_sound(&g) {
+                if proved::is_sound(&g) != is_sound(&g) {
                     println!("byte {at} as {value}: the two differ");
                     failures += 1;
                 }

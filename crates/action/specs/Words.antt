@@ -10,33 +10,33 @@ use native.Mathlib.Nat.{add-zero, add-suc, suc-add, suc-mul}
 use lib.ListN.{length, set, drop, length-set, length-append}
 use lib.Seq.{sets, sets-eq}
 use Rattle.laws.specs.Below.{when, when-short, concatBelow, concat-none, concat-more, concat-short}
-use Rattle.laws.specs.Tab.{at}
+use Rattle.laws.specs.Columns.{flagAt}
 use Rattle.action.specs.declared.Action.{Action}
 
 -- the four words of each action (Rule 8.1)
 unfoldable pub wordsOf : List Action → List ℕ
 wordsOf [] = []
-wordsOf (o ∷ os) = o .to ∷ o .kind ∷ o .subject ∷ o .value ∷ wordsOf os
+wordsOf (o ∷ os) = o .to ∷ o .classtype ∷ o .subject ∷ o .value ∷ wordsOf os
 
 -- the addressee that is the link side
 abbrev pub linkSide : ℕ
 linkSide = 255
 
 abbrev pub action : ℕ → ℕ → ℕ → ℕ → Action
-action to kind subject value = record { to = to; kind = kind; subject = subject; value = value }
+action to classtype subject value = record { to = to; classtype = classtype; subject = subject; value = value }
 
 -- what goes to ASP q where its flag is set
 unfoldable pub toEach : List Bool → ℕ → ℕ → ℕ → ℕ → List Action
-toEach who kind subject value q = when (at who q) (action q kind subject value)
+toEach who classtype subject value q = when (flagAt who q) (action q classtype subject value)
 
 -- the same action to each ASP whose flag is set, ascending
 unfoldable pub toAll : List Bool → ℕ → ℕ → ℕ → List Action
-toAll who kind subject value = concatBelow (toEach who kind subject value) 16
+toAll who classtype subject value = concatBelow (toEach who classtype subject value) 16
 
 -- the list with action o at place n
 unfoldable pub putAt : List ℕ → ℕ → Action → List ℕ
 putAt ws n o =
-    set (set (set (set ws (n * 4) (o .to)) (n * 4 + 1) (o .kind)) (n * 4 + 2) (o .subject)) (n * 4 + 3) (o .value)
+    set (set (set (set ws (n * 4) (o .to)) (n * 4 + 1) (o .classtype)) (n * 4 + 2) (o .subject)) (n * 4 + 3) (o .value)
 
 -- the list with the actions os from place n on
 unfoldable pub place : List ℕ → ℕ → List Action → List ℕ
@@ -133,11 +133,11 @@ emit-end {k = k} {m = m} h p q = let e : k ≡ m = omega arith in rw e at (h .wr
 
 -- ---- at most one action to each ASP
 
-pub toEach-short : (who : List Bool) (kind subject value q : ℕ) → length (toEach who kind subject value q) ≤ 1
+pub toEach-short : (who : List Bool) (classtype subject value q : ℕ) → length (toEach who classtype subject value q) ≤ 1
 unfolding toEach
-toEach-short who kind subject value q = when-short (at who q) (action q kind subject value)
+toEach-short who classtype subject value q = when-short (flagAt who q) (action q classtype subject value)
 
-pub toAll-short : (who : List Bool) (kind subject value : ℕ) → length (toAll who kind subject value) ≤ 16
+pub toAll-short : (who : List Bool) (classtype subject value : ℕ) → length (toAll who classtype subject value) ≤ 16
 unfolding toAll
-toAll-short who kind subject value =
-    concat-short (toEach who kind subject value) 1 (toEach-short who kind subject value) 16
+toAll-short who classtype subject value =
+    concat-short (toEach who classtype subject value) 1 (toEach-short who classtype subject value) 16

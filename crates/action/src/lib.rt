@@ -13,7 +13,7 @@ pub const OTHER_ACTIVE: u32 = 2 * 65536 + 2;
 // To whom: the number of an ASP, or 255 for the link side. Which message: class * 256 + type. Its subject and its value.
 pub struct Action {
     pub to: u32,
-    pub kind: u32,
+    pub classtype: u32,
     pub subject: u32,
     pub value: u32,
 }
@@ -25,7 +25,7 @@ pub fn put(words: &mut [u32], n: usize, o: Action)
 {
     let at = n * 4;
     words[at] = o.to;
-    words[at + 1] = o.kind;
+    words[at + 1] = o.classtype;
     words[at + 2] = o.subject;
     words[at + 3] = o.value;
 }
@@ -45,14 +45,14 @@ pub fn put_if(words: &mut [u32], n: usize, yes: bool, o: Action) -> usize
 // The same action to each ASP whose flag is set, ascending, from place n on; and the next place.
 pub fn to_all(
     who: [bool; 16],
-    kind: u32,
+    classtype: u32,
     subject: u32,
     value: u32,
     words: &mut [u32],
     n: usize,
 ) -> usize
     requires { ⌜ n * 4 + 64 ≤ length (now words) ⌝ }
-    ensures { λ r. ⌜ Written (now (words .entry)) n (toAll who kind subject value) (now (words .exit)) r ⌝ }
+    ensures { λ r. ⌜ Written (now (words .entry)) n (toAll who classtype subject value) (now (words .exit)) r ⌝ }
 {
     let mut m = n;
     for q in 0..16usize {
@@ -62,7 +62,7 @@ pub fn to_all(
             who[q],
             Action {
                 to: q as u32,
-                kind: kind,
+                classtype: classtype,
                 subject: subject,
                 value: value,
             },

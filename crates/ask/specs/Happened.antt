@@ -5,7 +5,7 @@ use mathlib.Core.Bool.{cond}
 use mathlib.Core.List.{List, [], _∷_}
 use lib.Dec.{eqb}
 use lib.ListN.{length}
-use Rattle.rules.specs.Event.{Kind, message, lost, recovery, linkUp, linkDown, linkMessage, Event}
+use Rattle.rules.specs.Event.{EventKind, message, lost, recovery, linkUp, linkDown, linkMessage, Event}
 
 -- the numbers of the six kinds
 abbrev pub messageKind : ℕ
@@ -27,7 +27,7 @@ abbrev pub linkMessageKind : ℕ
 linkMessageKind = 5
 
 -- the event of the kind k; any other number is that of an ASP that no plan has, which is refused
-abbrev pub happened : ℕ → ℕ → List ℕ → Kind
+abbrev pub happened : ℕ → ℕ → List ℕ → EventKind
 happened k i s =
     cond (eqb k messageKind) (message i s)
     (cond (eqb k lostKind) (lost i)
@@ -38,13 +38,13 @@ happened k i s =
     (lost 65536))))))
 
 -- an event of a kind, with the length of its list
-abbrev pub eventOf : Kind → ℕ → Event
+abbrev pub eventOf : EventKind → ℕ → Event
 eventOf k room = record { kind = k; room = room }
 
 -- the same of the lent list
-abbrev pub event : Kind → List ℕ → Event
+abbrev pub event : EventKind → List ℕ → Event
 event k ws = eventOf k (length ws)
 
 -- the message of a class and type that has no parameters: 8 bytes
 abbrev pub plain : ℕ → ℕ → List ℕ
-plain class kind = 1 ∷ 0 ∷ class ∷ kind ∷ 0 ∷ 0 ∷ 0 ∷ 8 ∷ []
+plain class msgtype = 1 ∷ 0 ∷ class ∷ msgtype ∷ 0 ∷ 0 ∷ 0 ∷ 8 ∷ []

@@ -3,7 +3,7 @@ use message::Reading;
 ghost use mathlib.Core.Path.{_≡_};
 ghost use mathlib.Core.Bool.{true};
 ghost use Prim.Native.Nat.{_≤_};
-ghost use Rattle.gateway.specs.Sound.{ascends, consistentOf};
+ghost use Rattle.gateway.specs.Sound.{ascends, isSoundOf};
 ghost use Rattle.rules.specs.Rules.{refusalOf};
 ghost use Rattle.ask.specs.Inner.Ask.{askKnown, askOf, Asks};
 
@@ -71,7 +71,7 @@ fn is_known(ask: Ask, asps: usize, ases: usize, links: usize, iid: &[u32; 128]) 
     }
 }
 
-// The refusal of an event, or 0. What it names is looked up only where the state is consistent.
+// The refusal of an event, or 0. What it names is looked up only where the state is sound.
 pub fn refused<'a>(
     asps: u8,
     ases: u8,
@@ -88,9 +88,9 @@ pub fn refused<'a>(
     ask: Ask,
     room: usize,
 ) -> u32
-    ensures { λ r. ⌜ r ≡ refusalOf (consistentOf asps ases links (now (aspid .entry)) (now (up .entry)) (now (member .entry)) (now (active .entry)) (now (mode .entry)) (now (waiting .entry)) (now (iid .entry)) (now (owner .entry)) (now (state .entry))) (askKnown asps ases links (now (iid .entry)) ask) room ⌝ }
+    ensures { λ r. ⌜ r ≡ refusalOf (isSoundOf asps ases links (now (aspid .entry)) (now (up .entry)) (now (member .entry)) (now (active .entry)) (now (mode .entry)) (now (waiting .entry)) (now (iid .entry)) (now (owner .entry)) (now (state .entry))) (askKnown asps ases links (now (iid .entry)) ask) room ⌝ }
 {
-    let sound = gateway::consistent_of(
+    let sound = gateway::sound_of(
         asps,
         ases,
         links,

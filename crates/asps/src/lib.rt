@@ -1,6 +1,6 @@
 // What happens as an ASP comes up, goes down or is lost, and as a recovery time is over.
 use message::Reading;
-use rules::Work;
+use rules::Decision;
 use server::Change;
 use server::has_some;
 use servers::column_of;
@@ -9,18 +9,18 @@ ghost use mathlib.Core.Bool.{cond, not, _&&_};
 ghost use mathlib.Core.List.{[], _∷_};
 ghost use Prim.Native.Nat.{_<_};
 ghost use lib.Dec.{eqb};
-ghost use Rattle.laws.specs.Tab.{tab};
+ghost use Rattle.laws.specs.Columns.{tabulate};
 ghost use Rattle.action.specs.Words.{action};
 ghost use Rattle.server.specs.Record.{some};
-ghost use Rattle.servers.specs.Moved.{columnOf};
-ghost use Rattle.server.specs.declared.Change.the-variants.{Rise, Recover};
-ghost use Rattle.rules.specs.Deed.{change};
-ghost use Rattle.rules.specs.Asp.{upDeed, downDeed, lostDeed};
+ghost use Rattle.servers.specs.Changed.{columnOf};
+ghost use Rattle.server.specs.declared.Change.the-variants.{AspUp, Recover};
+ghost use Rattle.rules.specs.Effect.{changeIn};
+ghost use Rattle.rules.specs.Asp.{upEffect, downEffect, lostEffect};
 ghost use Rattle.work.specs.Decides.{Decides, DecidesOn};
 
 // AS a alone.
 pub fn only(a: usize) -> [bool; 16]
-    ensures { λ r. ⌜ r ≡ tab 16 (λ c. eqb c a) ⌝ }
+    ensures { λ r. ⌜ r ≡ tabulate 16 (λ c. eqb c a) ⌝ }
 {
     let mut r = [false; 16];
     for c in 0..16usize {
@@ -32,16 +32,16 @@ pub fn only(a: usize) -> [bool; 16]
 // ---- up and down
 
 // Up that is taken (Rule 7.4): was says that p was active in some AS, mine are its ASes.
-fn rise(p: usize, was: bool, mine: [bool; 16]) -> Work
+fn rise(p: usize, was: bool, mine: [bool; 16]) -> Decision
     requires { ⌜ p < 16 ⌝ }
-    ensures { λ w. ⌜ Decides w (change (action p 772 0 0 ∷ cond was (action p 0 0 6 ∷ []) []) (Rise p) mine) ⌝ }
+    ensures { λ w. ⌜ Decides w (changeIn (action p 772 0 0 ∷ cond was (action p 0 0 6 ∷ []) []) (AspUp p) mine) ⌝ }
 {
     let ack = work::to_asp(p, 772, 0, 0);
     if was {
         let fault = work::to_asp(p, 0, 0, 6);
-        return work::change_two(ack, fault, Change::Rise(p), mine);
+        return work::change_two(ack, fault, Change::AspUp(p), mine);
     }
-    work::change_one(ack, Change::Rise(p), mine)
+    work::change_one(ack, Change::AspUp(p), mine)
 }
 
 // Whether an ASP identifier is given that is not p's own.
@@ -58,9 +58,9 @@ pub fn up_work<'a>(
     active: &'a [u8; 256],
     p: usize,
     r: Reading,
-) -> Work
+) -> Decision
     requires { ⌜ p < 16 ⌝ }
-    ensures { λ w. ⌜ DecidesOn (λ g. (g .aspid ≡ now (aspid .entry)) × (g .member ≡ now (member .entry)) × (g .active ≡ now (active .entry))) (λ g. upDeed g p r) w ⌝ }
+    ensures { λ w. ⌜ DecidesOn (λ g. (g .aspid ≡ now (aspid .entry)) × (g .member ≡ now (member .entry)) × (g .active ≡ now (active .entry))) (λ g. upEffect g p r) w ⌝ }
 {
     if is_other(r, aspid[p]) {
         return work::error(p, 15);
@@ -69,28 +69,28 @@ pub fn up_work<'a>(
 }
 
 // Down (Rule 7.5).
-pub fn down_work(member: &[u8; 256], p: usize) -> Work
+pub fn down_work(member: &[u8; 256], p: usize) -> Decision
     requires { ⌜ p < 16 ⌝ }
-    ensures { λ w. ⌜ DecidesOn (λ g. g .member ≡ now (member .entry)) (λ g. downDeed g p) w ⌝ }
+    ensures { λ w. ⌜ DecidesOn (λ g. g .member ≡ now (member .entry)) (λ g. downEffect g p) w ⌝ }
 {
     work::change_one(
         work::to_asp(p, 773, 0, 0),
-        Change::Fall(p),
+        Change::AspDown(p),
         column_of(member, p),
     )
 }
 
 // The association is lost (Rule 7.6).
-pub fn lost_work(member: &[u8; 256], p: usize) -> Work
+pub fn lost_work(member: &[u8; 256], p: usize) -> Decision
     requires { ⌜ p < 16 ⌝ }
-    ensures { λ w. ⌜ DecidesOn (λ g. g .member ≡ now (member .entry)) (λ g. lostDeed g p) w ⌝ }
+    ensures { λ w. ⌜ DecidesOn (λ g. g .member ≡ now (member .entry)) (λ g. lostEffect g p) w ⌝ }
 {
-    work::change_only(Change::Fall(p), column_of(member, p))
+    work::change_only(Change::AspDown(p), column_of(member, p))
 }
 
 // The recovery time is over (Rule 7.13).
-pub fn recovery_work(a: usize) -> Work
-    ensures { λ w. ⌜ Decides w (change [] Recover (tab 16 (λ c. eqb c a))) ⌝ }
+pub fn recovery_work(a: usize) -> Decision
+    ensures { λ w. ⌜ Decides w (changeIn [] Recover (tabulate 16 (λ c. eqb c a))) ⌝ }
 {
     work::change_only(Change::Recover, only(a))
 }

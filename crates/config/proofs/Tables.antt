@@ -6,7 +6,7 @@ use mathlib.Core.List.{List}
 use native.Mathlib.Omega.{arith}
 use native.Mathlib.Nat.{not-suc-le-zero}
 use lib.ListN.{replicate, length-replicate, getD-replicate}
-use Rattle.laws.specs.Tab.{col, HalfCol, getD-tab}
+use Rattle.laws.specs.Columns.{numberAt, HalfCol, getD-tabulate}
 use Rattle.config.specs.Plan.{bit, high}
 use Rattle.config.specs.Inner.Tables.{highs}
 
@@ -19,9 +19,9 @@ column-none places f =
     }
 
 -- the bit of pair (a, q) stands at its index
-pub bit-at : (second : List ℕ) (a q : ℕ) → q < 16 → bit (high (col second q)) a ≡ bit (col (highs second) ((a * 16 + q) % 16)) ((a * 16 + q) / 16)
+pub bit-at : (second : List ℕ) (a q : ℕ) → q < 16 → bit (high (numberAt second q)) a ≡ bit (numberAt (highs second) ((a * 16 + q) % 16)) ((a * 16 + q) / 16)
 unfolding highs
 bit-at second a q h =
     let d : (a * 16 + q) / 16 ≡ a = omega arith in
     let m : (a * 16 + q) % 16 ≡ q = omega arith in
-    rw (d, m, getD-tab 16 (λ p. high (col second p)) q 0 h)
+    rw (d, m, getD-tabulate 16 (λ p. high (numberAt second p)) q 0 h)

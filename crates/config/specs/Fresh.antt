@@ -1,4 +1,4 @@
--- A loaded plan gives a consistent state.
+-- A loaded plan gives a sound state.
 -- Assumes nothing.
 use Prim.Native.Nat.{ℕ, _+_, _*_, _-_, _/_, _%_, _^_, _<_, _≤_}
 use mathlib.Core.Path.{_≡_, refl, ap, _∙_, sym}
@@ -11,22 +11,22 @@ use lib.ListN.{replicate, getD-replicate}
 use lib.Pow.{shr-shr, shr-le}
 use borrow.Author.Tests.{eqb-true, le-leb, lt-ltb, le-ltb}
 use Rattle.laws.specs.Below.{all-at, all-of}
-use Rattle.laws.specs.Tab.{col, getD-tab}
+use Rattle.laws.specs.Columns.{numberAt, getD-tabulate}
 use Rattle.laws.specs.Every.{count-not}
-use Rattle.gateway.specs.Sound.{pair, countsIn, blankFrom, flagIf, upAt, soundAsps, memberAt, activeAt, soundRow, activeIn, modeAt, waitingAt, overrideAt, soundAs, soundAses, allUnder, soundLinks, consistent}
+use Rattle.gateway.specs.Sound.{pair, countsIn, blankFrom, flagIf, upAt, soundAsps, memberAt, activeAt, soundRow, activeIn, modeAt, waitingAt, overrideAt, soundAs, soundAses, allUnder, soundLinks, isSound}
 use Rattle.gateway.specs.Laws.{whole}
 use Rattle.gateway.specs.declared.Gateway.{Gateway}
-use Rattle.config.specs.Plan.{count, laidOut, bit, bitsFrom, modesOk, masksOk, rowsOk, members, fresh, refused, accepted, built, loadOf, aspIds, masks, spares, modes, linkIds, owners}
+use Rattle.config.specs.Plan.{count, layoutOk, bit, bitsFrom, modesOk, masksOk, rowsOk, members, fresh, refused, accepted, built, loadOf, aspIds, masks, spares, modes, linkIds, owners}
 use Rattle.config.specs.Laws.{Layout, layout, Rows, rows, column-blank}
 
 -- a place beyond the count holds zero
-blank-at : (c : List ℕ) (n end : ℕ) → blankFrom c n end ≡ true → (i : ℕ) → i < end → n ≤ i → col c i ≡ 0
+blank-at : (c : List ℕ) (n end : ℕ) → blankFrom c n end ≡ true → (i : ℕ) → i < end → n ≤ i → numberAt c i ≡ 0
 unfolding blankFrom
 blank-at c n end h i b g =
-    let e : eqb (col c i) 0 ≡ true = rw (le-ltb i n g) at (all-at (λ i. ltb i n || eqb (col c i) 0) end h i b) in
-    eqb-true (col c i) 0 e
+    let e : eqb (numberAt c i) 0 ≡ true = rw (le-ltb i n g) at (all-at (λ i. ltb i n || eqb (numberAt c i) 0) end h i b) in
+    eqb-true (numberAt c i) 0 e
 
-zero-at : (n i : ℕ) → i < n → col (replicate n 0) i ≡ 0
+zero-at : (n i : ℕ) → i < n → numberAt (replicate n 0) i ≡ 0
 zero-at n i b = getD-replicate {A = ℕ} n i 0 0 b
 
 blank-zero : (n end : ℕ) → blankFrom (replicate end 0) n end ≡ true
@@ -64,21 +64,21 @@ module _ (n m k : ℕ) (aspid mask spare mode iid owner : List ℕ) (r : Rows n 
   fresh-member h a q b d =
       let x : (a * 16 + q) / 16 ≡ a = omega arith in
       let y : (a * 16 + q) % 16 ≡ q = omega arith in
-      let e : col (members mask) (pair a q) ≡ bit (col mask q) a = getD-tab 256 (λ i. bit (col mask (i % 16)) (i / 16)) (a * 16 + q) 0 (omega arith) ∙ rw (x, y) in
+      let e : numberAt (members mask) (pair a q) ≡ bit (numberAt mask q) a = getD-tabulate 256 (λ i. bit (numberAt mask (i % 16)) (i / 16)) (a * 16 + q) 0 (omega arith) ∙ rw (x, y) in
       rw e (go (decLt q n) (decLt a m))
     where
-      none : bit (col mask q) a ≡ 0 → (u : Bool) → flagIf (bit (col mask q) a) u ≡ true
+      none : bit (numberAt mask q) a ≡ 0 → (u : Bool) → flagIf (bit (numberAt mask q) a) u ≡ true
       none z u = rw z
 
-      go : Dec (q < n) → Dec (a < m) → flagIf (bit (col mask q) a) (ltb q n && ltb a m) ≡ true
-      go (yes s) (yes t) = rw (lt-ltb q n s, lt-ltb a m t) (bit-flag (col mask q) a)
+      go : Dec (q < n) → Dec (a < m) → flagIf (bit (numberAt mask q) a) (ltb q n && ltb a m) ≡ true
+      go (yes s) (yes t) = rw (lt-ltb q n s, lt-ltb a m t) (bit-flag (numberAt mask q) a)
       go (yes s) (no t) =
-          let z : bitsFrom (col mask q) m ≡ 0 = eqb-true (bitsFrom (col mask q) m) 0 (all-at (λ p. eqb (bitsFrom (col mask p) m) 0) n (r .inside) q s) in
-          let w = bits-none (col mask q) m a (omega arith) z in
+          let z : bitsFrom (numberAt mask q) m ≡ 0 = eqb-true (bitsFrom (numberAt mask q) m) 0 (all-at (λ p. eqb (bitsFrom (numberAt mask p) m) 0) n (r .inside) q s) in
+          let w = bits-none (numberAt mask q) m a (omega arith) z in
           none (omega (arith, w)) (ltb q n && ltb a m)
       go (no s) t =
-          let z : col mask q ≡ 0 = blank-at mask n 16 h q d (omega arith) in
-          let w : bitsFrom (col mask q) a ≤ col mask q = shr-le (col mask q) a in
+          let z : numberAt mask q ≡ 0 = blank-at mask n 16 h q d (omega arith) in
+          let w : bitsFrom (numberAt mask q) a ≤ numberAt mask q = shr-le (numberAt mask q) a in
           none (omega (arith, w)) (ltb q n && ltb a m)
 
   fresh-row : blankFrom mask n 16 ≡ true → (a : ℕ) → a < 16 → soundRow (replicate 16 0) (members mask) (replicate 256 0) n m a ≡ true
@@ -90,17 +90,17 @@ module _ (n m k : ℕ) (aspid mask spare mode iid owner : List ℕ) (r : Rows n 
   unfolding activeIn
   none-active a b = count-not _ 16 (λ q d. rw (zero-at 256 (a * 16 + q) (omega arith)))
 
-  fresh-mode : blankFrom mode m 16 ≡ true → (a : ℕ) → a < 16 → modeAt (col mode a) (ltb a m) ≡ true
+  fresh-mode : blankFrom mode m 16 ≡ true → (a : ℕ) → a < 16 → modeAt (numberAt mode a) (ltb a m) ≡ true
   unfolding modeAt modesOk
   fresh-mode h a b = go (decLt a m)
     where
-      go : Dec (a < m) → cond (ltb a m) (leb 1 (col mode a) && leb (col mode a) 3) (eqb (col mode a) 0) ≡ true
-      go (yes s) = rw (lt-ltb a m s) (all-at (λ a. leb 1 (col mode a) && leb (col mode a) 3) m (r .traffic) a s)
+      go : Dec (a < m) → cond (ltb a m) (leb 1 (numberAt mode a) && leb (numberAt mode a) 3) (eqb (numberAt mode a) 0) ≡ true
+      go (yes s) = rw (lt-ltb a m s) (all-at (λ a. leb 1 (numberAt mode a) && leb (numberAt mode a) 3) m (r .traffic) a s)
       go (no s) = rw (le-ltb a m (omega arith), blank-at mode m 16 h a b (omega arith))
 
   fresh-as : blankFrom mask n 16 ≡ true → blankFrom mode m 16 ≡ true → (a : ℕ) → a < 16 → soundAs (replicate 16 0) (members mask) (replicate 256 0) mode (replicate 16 0) n m a ≡ true
   unfolding soundAs waitingAt overrideAt
-  fresh-as h g a b = rw (fresh-row h a b, fresh-mode g a b, none-active a b, zero-at 16 a b) (any (not (eqb (col mode a) 1)))
+  fresh-as h g a b = rw (fresh-row h a b, fresh-mode g a b, none-active a b, zero-at 16 a b) (any (not (eqb (numberAt mode a) 1)))
     where
       any : (u : Bool) → (u || true) ≡ true
       any true = refl
@@ -133,9 +133,9 @@ rowsOf s = rowsOk (count s 0) (count s 1) (count s 2) (aspIds s) (masks s) (spar
 abbrev pub freshOf : List ℕ → Gateway
 freshOf s = fresh (count s 0) (count s 1) (count s 2) (aspIds s) (masks s) (modes s) (linkIds s) (owners s)
 
-pub fresh-consistent : (s : List ℕ) → laidOut s ≡ true → rowsOf s ≡ true → consistent (freshOf s) ≡ true
+pub fresh-sound : (s : List ℕ) → layoutOk s ≡ true → rowsOf s ≡ true → isSound (freshOf s) ≡ true
 unfolding fresh soundAses aspIds masks modes linkIds owners
-fresh-consistent s h g =
+fresh-sound s h g =
     let l = layout s h in
     let n = count s 0 in
     let m = count s 1 in
@@ -147,14 +147,14 @@ fresh-consistent s h g =
     (fresh-links n m k (aspIds s) (masks s) (spares s) (modes s) (linkIds s) (owners s) r (l .links) (column-blank 128 k _) (column-blank 128 k _))
 
 -- a loaded plan gives a sound state
-pub loaded-consistent : (s : List ℕ) → loadOf s .code ≡ 0 → consistent (loadOf s .gateway) ≡ true
+pub loaded-sound : (s : List ℕ) → loadOf s .code ≡ 0 → isSound (loadOf s .gateway) ≡ true
 unfolding loadOf built
-loaded-consistent s = outer (laidOut s) refl
+loaded-sound s = outer (layoutOk s) refl
   where
-    inner : laidOut s ≡ true → (v : Bool) → rowsOf s ≡ v → cond v (accepted (freshOf s)) (refused 202) .code ≡ 0 → consistent (cond v (accepted (freshOf s)) (refused 202) .gateway) ≡ true
-    inner e true g h = fresh-consistent s e g
+    inner : layoutOk s ≡ true → (v : Bool) → rowsOf s ≡ v → cond v (accepted (freshOf s)) (refused 202) .code ≡ 0 → isSound (cond v (accepted (freshOf s)) (refused 202) .gateway) ≡ true
+    inner e true g h = fresh-sound s e g
     inner e false g h = absurd (omega arith)
 
-    outer : (u : Bool) → laidOut s ≡ u → cond u (cond (rowsOf s) (accepted (freshOf s)) (refused 202)) (refused 201) .code ≡ 0 → consistent (cond u (cond (rowsOf s) (accepted (freshOf s)) (refused 202)) (refused 201) .gateway) ≡ true
+    outer : (u : Bool) → layoutOk s ≡ u → cond u (cond (rowsOf s) (accepted (freshOf s)) (refused 202)) (refused 201) .code ≡ 0 → isSound (cond u (cond (rowsOf s) (accepted (freshOf s)) (refused 202)) (refused 201) .gateway) ≡ true
     outer true e h = inner e (rowsOf s) refl h
     outer false e h = absurd (omega arith)

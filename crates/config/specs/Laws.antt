@@ -1,4 +1,4 @@
--- What a file that is laid out well gives, and that a loaded plan gives a consistent state.
+-- What a file that is laid out well gives, and that a loaded plan gives a sound state.
 -- Assumes nothing.
 use Prim.Native.Nat.{ℕ, zero, _+_, _*_, _<_, _≤_}
 use mathlib.Core.Path.{_≡_, refl, _∙_}
@@ -9,10 +9,10 @@ use lib.Dec.{eqb, leb, ltb}
 use lib.ListN.{length}
 use borrow.Author.Tests.{ltb-true, leb-true, eqb-true, lt-ltb}
 use Rattle.laws.specs.Below.{allBelow, all-at, all-of}
-use Rattle.laws.specs.Tab.{col, getD-tab}
+use Rattle.laws.specs.Columns.{numberAt, getD-tabulate}
 use Rattle.laws.specs.Every.{and-left, and-right}
 use Rattle.gateway.specs.Sound.{blankFrom, allUnder, differs, ascends}
-use Rattle.config.specs.Plan.{offset, count, follow, laidOut, column, modesOk, masksOk, sparesOk, rowsOk}
+use Rattle.config.specs.Plan.{offset, count, follow, layoutOk, column, modesOk, masksOk, sparesOk, rowsOk}
 
 -- the counts are within their limits, and each body starts where the one before it ends
 pub record Layout (s : List ℕ) : Type 0 where
@@ -47,8 +47,8 @@ entry s i at least most h =
       few = leb-true (count s i) most (and-right y z (and-right x (y && z) h));
     }
 
-pub layout : (s : List ℕ) → laidOut s ≡ true → Layout s
-unfolding laidOut follow
+pub layout : (s : List ℕ) → layoutOk s ≡ true → Layout s
+unfolding layoutOk follow
 layout s h =
     let p = 24 + 8 * count s 0 in
     let q = p + 4 * count s 1 in
@@ -78,7 +78,7 @@ layout s h =
 -- the places of a table beyond its rows are zero
 pub column-blank : (places n : ℕ) (f : ℕ → ℕ) → blankFrom (column places n f) n places ≡ true
 unfolding blankFrom column
-column-blank places n f = all-of _ places (λ i b. rw (getD-tab places (λ i. cond (ltb i n) (f i) 0) i 0 b) (go i (ltb i n)))
+column-blank places n f = all-of _ places (λ i b. rw (getD-tabulate places (λ i. cond (ltb i n) (f i) 0) i 0 b) (go i (ltb i n)))
   where
     go : (i : ℕ) (u : Bool) → (u || eqb (cond u (f i) 0) 0) ≡ true
     go i true = refl
@@ -114,17 +114,17 @@ rows asps ases links aspid mask spare mode iid owner h =
     }
 
 -- a row of a table is what was read
-pub column-at : (places n : ℕ) (f : ℕ → ℕ) (i : ℕ) → i < n → n ≤ places → col (column places n f) i ≡ f i
+pub column-at : (places n : ℕ) (f : ℕ → ℕ) (i : ℕ) → i < n → n ≤ places → numberAt (column places n f) i ≡ f i
 unfolding column
-column-at places n f i b c = getD-tab places (λ i. cond (ltb i n) (f i) 0) i 0 (omega arith) ∙ rw (lt-ltb i n b)
+column-at places n f i b c = getD-tabulate places (λ i. cond (ltb i n) (f i) 0) i 0 (omega arith) ∙ rw (lt-ltb i n b)
 
 -- the modes and owners of good rows are bytes
-pub mode-small : (mode : List ℕ) (n : ℕ) → modesOk mode n ≡ true → (i : ℕ) → i < n → col mode i ≤ 3
+pub mode-small : (mode : List ℕ) (n : ℕ) → modesOk mode n ≡ true → (i : ℕ) → i < n → numberAt mode i ≤ 3
 unfolding modesOk
 mode-small mode n h i b =
-    leb-true (col mode i) 3
-    (and-right (leb 1 (col mode i)) (leb (col mode i) 3) (all-at (λ i. leb 1 (col mode i) && leb (col mode i) 3) n h i b))
+    leb-true (numberAt mode i) 3
+    (and-right (leb 1 (numberAt mode i)) (leb (numberAt mode i) 3) (all-at (λ i. leb 1 (numberAt mode i) && leb (numberAt mode i) 3) n h i b))
 
-pub owner-small : (owner : List ℕ) (ases n : ℕ) → allUnder owner ases n ≡ true → (i : ℕ) → i < n → col owner i < ases
+pub owner-small : (owner : List ℕ) (ases n : ℕ) → allUnder owner ases n ≡ true → (i : ℕ) → i < n → numberAt owner i < ases
 unfolding allUnder
-owner-small owner ases n h i b = ltb-true (col owner i) ases (all-at (λ i. ltb (col owner i) ases) n h i b)
+owner-small owner ases n h i b = ltb-true (numberAt owner i) ases (all-at (λ i. ltb (numberAt owner i) ases) n h i b)

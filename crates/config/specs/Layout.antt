@@ -7,7 +7,7 @@ use mathlib.Core.List.{List}
 use native.Mathlib.Omega.{arith}
 use lib.ListN.{length}
 use Rattle.config.specs.declared.Places.{Places}
-use Rattle.config.specs.Plan.{offset, count, laidOut}
+use Rattle.config.specs.Plan.{offset, count, layoutOk}
 use Rattle.config.specs.Laws.{layout}
 
 unfoldable pub placesOf : List ℕ → Places
@@ -23,7 +23,7 @@ pub record Inside (t : Places) (long : ℕ) : Type 0 where
   pub inLinks : t .z + 8 * t .links ≤ long
   pub fits : long ≤ 4096
 
-pub inside : (s : List ℕ) → laidOut s ≡ true → Inside (placesOf s) (length s)
+pub inside : (s : List ℕ) → layoutOk s ≡ true → Inside (placesOf s) (length s)
 unfolding placesOf
 inside s h =
     let l = layout s h in
@@ -37,5 +37,5 @@ inside s h =
       fits = omega arith;
     }
 
-pub inside-of : (s : List ℕ) (t : Places) → laidOut s ≡ true → t ≡ placesOf s → Inside t (length s)
+pub inside-of : (s : List ℕ) (t : Places) → layoutOk s ≡ true → t ≡ placesOf s → Inside t (length s)
 inside-of s t h e = rw e (inside s h)

@@ -6,7 +6,7 @@ use mathlib.Core.List.{List, [], _∷_}
 use lib.Dec.{eqb, leb, ltb}
 use lib.ListN.{length, replicate}
 use Rattle.laws.specs.Below.{allBelow}
-use Rattle.laws.specs.Tab.{col, tab}
+use Rattle.laws.specs.Columns.{numberAt, tabulate}
 use Rattle.wire.specs.Number.{be}
 use Rattle.gateway.specs.Sound.{zeros, differs, ascends, allUnder}
 use Rattle.gateway.specs.declared.Gateway.{Gateway}
@@ -50,12 +50,12 @@ follow (b ∷ bs) s i at =
     && follow bs s (i + 1) (at + b .row * count s i)
 
 -- else 201 (Rule 4.4)
-unfoldable pub laidOut : List ℕ → Bool
-laidOut s = leb contents (length s) && follow bodies s 0 contents
+unfoldable pub layoutOk : List ℕ → Bool
+layoutOk s = leb contents (length s) && follow bodies s 0 contents
 
 -- a table of some places with what n rows say, and zeros beyond them
 unfoldable pub column : ℕ → ℕ → (ℕ → ℕ) → List ℕ
-column places n f = tab places (λ i. cond (ltb i n) (f i) 0)
+column places n f = tabulate places (λ i. cond (ltb i n) (f i) 0)
 
 -- a word of each of n rows, which stands at a position in the first of them: of ASP rows, AS rows and link rows
 abbrev pub aspWords : List ℕ → ℕ → ℕ → List ℕ
@@ -104,15 +104,15 @@ bitsFrom mask a = mask / 2 ^ a
 
 -- each AS has one of the three modes
 unfoldable pub modesOk : List ℕ → ℕ → Bool
-modesOk mode ases = allBelow (λ a. leb 1 (col mode a) && leb (col mode a) 3) ases
+modesOk mode ases = allBelow (λ a. leb 1 (numberAt mode a) && leb (numberAt mode a) 3) ases
 
 -- no mask has a bit for an AS that the plan has not
 unfoldable pub masksOk : List ℕ → ℕ → ℕ → Bool
-masksOk mask asps ases = allBelow (λ p. eqb (bitsFrom (col mask p) ases) 0) asps
+masksOk mask asps ases = allBelow (λ p. eqb (bitsFrom (numberAt mask p) ases) 0) asps
 
 -- the spares are zero
 unfoldable pub sparesOk : List ℕ → ℕ → Bool
-sparesOk spare asps = allBelow (λ p. eqb (col spare p) 0) asps
+sparesOk spare asps = allBelow (λ p. eqb (numberAt spare p) 0) asps
 
 -- else 202 (Rule 4.5): besides, no two ASPs share an identifier, those of links ascend, and owners are the plan's
 unfoldable pub rowsOk : ℕ → ℕ → ℕ → List ℕ → List ℕ → List ℕ → List ℕ → List ℕ → List ℕ → Bool
@@ -122,7 +122,7 @@ rowsOk asps ases links aspid mask spare mode iid owner =
 
 -- member or not, pair by pair, of the masks
 unfoldable pub members : List ℕ → List ℕ
-members mask = tab 256 (λ i. bit (col mask (i % 16)) (i / 16))
+members mask = tabulate 256 (λ i. bit (numberAt mask (i % 16)) (i / 16))
 
 -- the state with the plan's tables in which nothing has happened yet (Rule 4.6)
 unfoldable pub fresh : ℕ → ℕ → ℕ → List ℕ → List ℕ → List ℕ → List ℕ → List ℕ → Gateway
@@ -157,6 +157,6 @@ built asps ases links aspid mask spare mode iid owner =
 
 unfoldable pub loadOf : List ℕ → Loaded
 loadOf s =
-    cond (laidOut s)
+    cond (layoutOk s)
     (built (count s 0) (count s 1) (count s 2) (aspIds s) (masks s) (spares s) (modes s) (linkIds s) (owners s))
     (refused 201)

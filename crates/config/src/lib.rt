@@ -5,8 +5,8 @@ ghost use Prim.Native.Nat.{_+_, _*_, _<_, _≤_};
 ghost use lib.Dec.{leb, ltb, eqb};
 ghost use lib.ListN.{length};
 ghost use Rattle.laws.specs.Below.{allBelow};
-ghost use Rattle.laws.specs.Tab.{col, HalfCol};
-ghost use Rattle.config.specs.Plan.{offset, count, laidOut, column, asWords, linkWords, rowsOk, bit, bitsFrom, high, low, members, fresh, accepted, built, loadOf};
+ghost use Rattle.laws.specs.Columns.{numberAt, HalfCol};
+ghost use Rattle.config.specs.Plan.{offset, count, layoutOk, column, asWords, linkWords, rowsOk, bit, bitsFrom, high, low, members, fresh, accepted, built, loadOf};
 ghost use Rattle.config.specs.Layout.{Inside, placesOf};
 ghost use Rattle.config.specs.Inner.Tables.{wordOf, RowsIn, AllIn, highs, lows};
 use gateway::Gateway;
@@ -53,7 +53,7 @@ fn entry_ok(s: &[u8], i: usize, at: usize, least: usize, most: usize) -> bool
 }
 
 fn laid_out(s: &[u8]) -> bool
-    ensures { λ r. ⌜ r ≡ laidOut (now (s .entry)) ⌝ }
+    ensures { λ r. ⌜ r ≡ layoutOk (now (s .entry)) ⌝ }
 {
     if s.len() < CONTENTS {
         return false;
@@ -72,7 +72,7 @@ fn laid_out(s: &[u8]) -> bool
 // One word of each of n rows: the first at a position, every next one a row further on.
 fn fill(s: &[u8], at: usize, row: usize, n: usize, out: &mut [u32])
     requires { ⌜ (n ≤ length (now out)) × RowsIn (length (now s)) at row n ⌝ }
-    ensures { λ _. ⌜ HalfCol (wordOf (now (s .entry)) at row) (col (now (out .entry))) (length (now (out .entry))) n (now (out .exit)) ⌝ }
+    ensures { λ _. ⌜ HalfCol (wordOf (now (s .entry)) at row) (numberAt (now (out .entry))) (length (now (out .entry))) n (now (out .exit)) ⌝ }
 {
     for i in 0..n {
         out[i] = wire::get32(s, at + row * i);
@@ -100,7 +100,7 @@ fn words_128(s: &[u8], at: usize, row: usize, n: usize) -> [u32; 128]
 // The same for words that are bytes.
 fn fill_bytes(s: &[u8], at: usize, row: usize, n: usize, out: &mut [u8])
     requires { ⌜ (n ≤ length (now out)) × RowsIn (length (now s)) at row n × AllIn (wordOf (now s) at row) n 256 ⌝ }
-    ensures { λ _. ⌜ HalfCol (wordOf (now (s .entry)) at row) (col (now (out .entry))) (length (now (out .entry))) n (now (out .exit)) ⌝ }
+    ensures { λ _. ⌜ HalfCol (wordOf (now (s .entry)) at row) (numberAt (now (out .entry))) (length (now (out .entry))) n (now (out .exit)) ⌝ }
 {
     for i in 0..n {
         out[i] = wire::get32(s, at + row * i) as u8;
@@ -125,7 +125,7 @@ fn all_in(s: &[u8], at: usize, row: usize, n: usize, least: u32, end: u32) -> bo
 // The second word of an ASP's row: its mask, then the spare.
 fn masks_ok(second: &[u32; 16], asps: usize, ases: u32) -> bool
     requires { ⌜ (asps ≤ 16) × (ases ≤ 16) ⌝ }
-    ensures { λ r. ⌜ r ≡ allBelow (λ p. eqb (bitsFrom (high (col (now (second .entry)) p)) ases) 0 && eqb (low (col (now (second .entry)) p)) 0) asps ⌝ }
+    ensures { λ r. ⌜ r ≡ allBelow (λ p. eqb (bitsFrom (high (numberAt (now (second .entry)) p)) ases) 0 && eqb (low (numberAt (now (second .entry)) p)) 0) asps ⌝ }
 {
     let mut ok = true;
     for p in 0..asps {
@@ -242,7 +242,7 @@ fn answer<'a>(
 }
 
 fn places_of(s: &[u8]) -> Places
-    requires { ⌜ laidOut (now s) ≡ true ⌝ }
+    requires { ⌜ layoutOk (now s) ≡ true ⌝ }
     ensures { λ r. ⌜ r ≡ placesOf (now (s .entry)) ⌝ }
 {
     let n = count_of(s, 0);
@@ -262,7 +262,7 @@ fn places_of(s: &[u8]) -> Places
 }
 
 fn rows(s: &[u8]) -> Loaded
-    requires { ⌜ laidOut (now s) ≡ true ⌝ }
+    requires { ⌜ layoutOk (now s) ≡ true ⌝ }
     ensures { λ r. ⌜ r ≡ loadOf (now (s .entry)) ⌝ }
 {
     let t = places_of(s);

@@ -1,14 +1,14 @@
 // What a message of an ASP is, and what those do that are not of the ASP itself: Beat, Beat Ack, class 6, and any other.
 use message::Reading;
-use rules::Work;
+use rules::Decision;
 ghost use mathlib.Core.Path.{_≡_};
 ghost use Prim.Native.Nat.{_<_};
 ghost use Rattle.ranges.specs.Laws.{Table};
 ghost use Rattle.rules.specs.Rules.{isError, fromAsp};
-ghost use Rattle.rules.specs.Link.{classSixDeed};
+ghost use Rattle.rules.specs.Link.{classSixEffect};
 ghost use Rattle.work.specs.Decides.{DecidesOn};
 ghost use Rattle.links.specs.Six.{SixColumns};
-ghost use Rattle.decide.specs.Other.{otherTree, otherDeed, typeIn};
+ghost use Rattle.decide.specs.Other.{otherTree, otherEffect, typeIn};
 
 // Whether a message is an Error (Rule 7.2).
 pub fn is_error(s: &[u8]) -> bool
@@ -39,11 +39,11 @@ fn other_tree<'a>(
     p: usize,
     r: Reading,
     six: bool,
-) -> Work
-    requires { ⌜ Table (now iid) (now owner) links × (p < 16) × (r .class < 256) × (r .kind < 256) ⌝ }
-    ensures { λ w. ⌜ DecidesOn (SixColumns links (now (up .entry)) (now (member .entry)) (now (active .entry)) (now (iid .entry)) (now (owner .entry)) (now (state .entry))) (λ g. otherTree (classSixDeed g p r) p r six) w ⌝ }
+) -> Decision
+    requires { ⌜ Table (now iid) (now owner) links × (p < 16) × (r .class < 256) × (r .msgtype < 256) ⌝ }
+    ensures { λ w. ⌜ DecidesOn (SixColumns links (now (up .entry)) (now (member .entry)) (now (active .entry)) (now (iid .entry)) (now (owner .entry)) (now (state .entry))) (λ g. otherTree (classSixEffect g p r) p r six) w ⌝ }
 {
-    let t = r.class * 256 + r.kind;
+    let t = r.class * 256 + r.msgtype;
     if t == 771 {
         return work::reply(p, 774, 0, 0);
     }
@@ -71,15 +71,15 @@ pub fn other_work<'a>(
     p: usize,
     error: bool,
     r: Reading,
-) -> Work
-    requires { ⌜ Table (now iid) (now owner) links × (p < 16) × (r .class < 256) × (r .kind < 256) ⌝ }
-    ensures { λ w. ⌜ DecidesOn (SixColumns links (now (up .entry)) (now (member .entry)) (now (active .entry)) (now (iid .entry)) (now (owner .entry)) (now (state .entry))) (λ g. otherDeed g p error r) w ⌝ }
+) -> Decision
+    requires { ⌜ Table (now iid) (now owner) links × (p < 16) × (r .class < 256) × (r .msgtype < 256) ⌝ }
+    ensures { λ w. ⌜ DecidesOn (SixColumns links (now (up .entry)) (now (member .entry)) (now (active .entry)) (now (iid .entry)) (now (owner .entry)) (now (state .entry))) (λ g. otherEffect g p error r) w ⌝ }
 {
     if error {
         return work::nothing();
     }
     if r.code == 0 {
-        let six = from_asp(r.kind);
+        let six = from_asp(r.msgtype);
         return other_tree(links, up, member, active, iid, owner, state, p, r, six);
     }
     work::error(p, r.code)
@@ -87,14 +87,14 @@ pub fn other_work<'a>(
 
 // The class and type of a message as one number; 0 of an Error and of what cannot be read.
 pub fn type_of(error: bool, r: Reading) -> u32
-    requires { ⌜ (r .class < 256) × (r .kind < 256) ⌝ }
+    requires { ⌜ (r .class < 256) × (r .msgtype < 256) ⌝ }
     ensures { λ t. ⌜ t ≡ typeIn error r ⌝ }
 {
     if error {
         return 0;
     }
     if r.code == 0 {
-        return r.class * 256 + r.kind;
+        return r.class * 256 + r.msgtype;
     }
     0
 }

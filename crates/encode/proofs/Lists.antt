@@ -12,7 +12,7 @@ use lib.ListN.{length, getD, take, drop, drop-of-length-le, length-append, lengt
 use lib.Seq.{drop-cons, drop-drop, length-take-le, take-at, drop-at}
 use Rattle.wire.specs.Walk.{Par}
 use Rattle.message.specs.Verdict.{most}
-use Rattle.put.specs.Bytes.{par, room, parBytes, parsBytes}
+use Rattle.put.specs.Bytes.{par, parSize, parBytes, parsBytes}
 use Rattle.put.proofs.Round.{length-par}
 use Rattle.encode.specs.Encode.{total, parsIn, tagsOf, lensOf, valuesOf}
 use Rattle.encode.specs.Write.{sizes, sizeIf, Lent, Sized}
@@ -25,7 +25,7 @@ pub total-next : (ns : List ℕ) (i : ℕ) → i < length ns → total (drop i n
 unfolding total
 total-next ns i h = rw (add-one, drop-cons ns i 0)
 
-pub sizes-next : (ns : List ℕ) (i : ℕ) → i < length ns → sizes (drop i ns) ≡ room (getD ns i 0) + sizes (drop (i + 1) ns)
+pub sizes-next : (ns : List ℕ) (i : ℕ) → i < length ns → sizes (drop i ns) ≡ parSize (getD ns i 0) + sizes (drop (i + 1) ns)
 unfolding sizes
 sizes-next ns i h = rw (add-one, drop-cons ns i 0)
 

@@ -10,35 +10,35 @@ use lib.ListN.{length, getD, take, drop, replicate, length-drop, length-replicat
 use lib.Seq.{length-take-le, getD-take, getD-drop}
 use lib.Dec.{ltb, leb}
 use borrow.Author.Tests.{le-leb, lt-leb, lt-ltb, le-ltb, leb-true}
-use Rattle.laws.specs.Tab.{tab, is-tab, tab-ext}
+use Rattle.laws.specs.Columns.{tabulate, is-tabulate, tabulate-ext}
 use Rattle.wire.specs.Number.{be}
 use Rattle.wire.specs.Walk.{Par, Walk, walk, stepAt, padded}
 use Rattle.wire.specs.declared.Step.{Step}
 use Rattle.wire.specs.declared.Step.the-variants.{Param, End, Fault}
 use Rattle.wire.proofs.Number.{be-two}
 use Rattle.wire.proofs.Steps.{Next, step-next, walk-step}
-use Rattle.put.specs.Bytes.{two, four, par, parBytes, parsBytes}
+use Rattle.put.specs.Bytes.{bytes16, bytes32, par, parBytes, parsBytes}
 use Rattle.encode.specs.RoundTrip.{isPadding, Bytes}
 
 -- a list given index by index, in two parts
-pub tab-append : (m n : ℕ) (f : ℕ → ℕ) → tab (m + n) f ≡ tab m f ++ tab n (λ k. f (m + k))
-unfolding tab
-tab-append zero n f = ap (λ (m : ℕ). tab m f) (zero-add n) ∙ tab-ext 0 n f (λ k. f (0 + k)) (λ i q. ap f (sym (zero-add i)))
-tab-append (suc m) n f =
-    ap (λ (m : ℕ). tab m f) (suc-add m n)
+pub tabulate-append : (m n : ℕ) (f : ℕ → ℕ) → tabulate (m + n) f ≡ tabulate m f ++ tabulate n (λ k. f (m + k))
+unfolding tabulate
+tabulate-append zero n f = ap (λ (m : ℕ). tabulate m f) (zero-add n) ∙ tabulate-ext 0 n f (λ k. f (0 + k)) (λ i q. ap f (sym (zero-add i)))
+tabulate-append (suc m) n f =
+    ap (λ (m : ℕ). tabulate m f) (suc-add m n)
     ∙ ap (λ (l : List ℕ). f 0 ∷ l)
-    (tab-append m n (λ i. f (suc i)) ∙ ap (λ (l : List ℕ). tab m (λ i. f (suc i)) ++ l) (tab-ext 0 n (λ k. f (suc (m + k))) (λ k. f (suc m + k)) (λ i q. ap f (sym (suc-add m i)))))
+    (tabulate-append m n (λ i. f (suc i)) ∙ ap (λ (l : List ℕ). tabulate m (λ i. f (suc i)) ++ l) (tabulate-ext 0 n (λ k. f (suc (m + k))) (λ k. f (suc m + k)) (λ i q. ap f (sym (suc-add m i)))))
 
 -- ---- a number's bytes
 
-pub two-of : (n x y : ℕ) → n ≡ x * 256 + y → y < 256 → two n ≡ x ∷ y ∷ []
+pub two-of : (n x y : ℕ) → n ≡ x * 256 + y → y < 256 → bytes16 n ≡ x ∷ y ∷ []
 two-of n x y e h = let q : n / 256 ≡ x = omega arith in let m : n % 256 ≡ y = omega arith in rw (q, m)
 
-pub four-of : (n x y z w : ℕ) → n ≡ (x * 256 + y) * 65536 + (z * 256 + w) → y < 256 → z < 256 → w < 256 → four n ≡ x ∷ y ∷ z ∷ w ∷ []
+pub four-of : (n x y z w : ℕ) → n ≡ (x * 256 + y) * 65536 + (z * 256 + w) → y < 256 → z < 256 → w < 256 → bytes32 n ≡ x ∷ y ∷ z ∷ w ∷ []
 four-of n x y z w e hy hz hw =
     let q : n / 65536 ≡ x * 256 + y = omega arith in
     let m : n % 65536 ≡ z * 256 + w = omega arith in
-    rw (q, m) (ap (λ (l : List ℕ). l ++ two (z * 256 + w)) (two-of (x * 256 + y) x y refl hy) ∙ ap (λ (l : List ℕ). x ∷ y ∷ l) (two-of (z * 256 + w) z w refl hw))
+    rw (q, m) (ap (λ (l : List ℕ). l ++ bytes16 (z * 256 + w)) (two-of (x * 256 + y) x y refl hy) ∙ ap (λ (l : List ℕ). x ∷ y ∷ l) (two-of (z * 256 + w) z w refl hw))
 
 -- ---- what a reading says
 
@@ -101,12 +101,12 @@ module _ (s : List ℕ) (b : Bytes s) where
   abbrev pub zeroed : ℕ → List Par → ℕ → ℕ
   zeroed at ps i = cond (isPadding at ps i) 0 (getD s i 0)
 
-  part-tab : (at n : ℕ) → at + n ≤ length s → take n (drop at s) ≡ tab n (λ k. getD s (at + k) 0)
-  part-tab at n h =
-      is-tab 0 (take n (drop at s)) n (λ k. getD s (at + k) 0) (length-take-le n (drop at s) (rw (length-drop at s) (omega arith)))
+  part-tabulate : (at n : ℕ) → at + n ≤ length s → take n (drop at s) ≡ tabulate n (λ k. getD s (at + k) 0)
+  part-tabulate at n h =
+      is-tabulate 0 (take n (drop at s)) n (λ k. getD s (at + k) 0) (length-take-le n (drop at s) (rw (length-drop at s) (omega arith)))
       (λ i q. getD-take n (drop at s) i 0 q ∙ getD-drop at s i 0)
 
-  two-at : (at : ℕ) → at + 2 ≤ length s → two (be 2 s at) ≡ getD s at 0 ∷ getD s (at + 1) 0 ∷ []
+  two-at : (at : ℕ) → at + 2 ≤ length s → bytes16 (be 2 s at) ≡ getD s at 0 ∷ getD s (at + 1) 0 ∷ []
   two-at at h = two-of (be 2 s at) (getD s at 0) (getD s (at + 1) 0) (be-two s at) (b .below (at + 1) (omega arith))
 
   module _ (at t l n : ℕ) (is : Is s at t l n) (nx : Next s at l n) where
@@ -117,23 +117,23 @@ module _ (s : List ℕ) (b : Bytes s) where
     length-v = length-take-le (l - 4) (drop (at + 4) s) (rw (length-drop (at + 4) s) (omega arith))
 
     -- tag, length and value are the bytes that stand there
-    front : two t ++ (two l ++ v) ≡ tab l (λ k. getD s (at + k) 0)
-    unfolding tab
+    front : bytes16 t ++ (bytes16 l ++ v) ≡ tabulate l (λ k. getD s (at + k) 0)
+    unfolding tabulate
     front =
         let e : l ≡ 4 + (l - 4) = omega arith in
-        let et : two t ≡ getD s at 0 ∷ getD s (at + 1) 0 ∷ [] = ap two (is .tag-is) ∙ two-at at (omega arith) in
-        let el : two l ≡ getD s (at + 2) 0 ∷ getD s (at + 2 + 1) 0 ∷ [] = ap two (is .length-is) ∙ two-at (at + 2) (omega arith) in
-        let ev : v ≡ tab (l - 4) (λ k. getD s (at + (4 + k)) 0) =
-        part-tab (at + 4) (l - 4) (omega arith) ∙ tab-ext 0 (l - 4) _ _ (λ i q. ap (λ (x : ℕ). getD s x 0) (add-assoc at 4 i)) in
+        let et : bytes16 t ≡ getD s at 0 ∷ getD s (at + 1) 0 ∷ [] = ap bytes16 (is .tag-is) ∙ two-at at (omega arith) in
+        let el : bytes16 l ≡ getD s (at + 2) 0 ∷ getD s (at + 2 + 1) 0 ∷ [] = ap bytes16 (is .length-is) ∙ two-at (at + 2) (omega arith) in
+        let ev : v ≡ tabulate (l - 4) (λ k. getD s (at + (4 + k)) 0) =
+        part-tabulate (at + 4) (l - 4) (omega arith) ∙ tabulate-ext 0 (l - 4) _ _ (λ i q. ap (λ (x : ℕ). getD s x 0) (add-assoc at 4 i)) in
         let e₀ : at + 0 ≡ at = add-zero at in
         let e₃ : at + 3 ≡ at + 2 + 1 = omega arith in
-        ap (λ (x : List ℕ). x ++ (two l ++ v)) et ∙ ap (λ (x : List ℕ). getD s at 0 ∷ getD s (at + 1) 0 ∷ (x ++ v)) el
+        ap (λ (x : List ℕ). x ++ (bytes16 l ++ v)) et ∙ ap (λ (x : List ℕ). getD s at 0 ∷ getD s (at + 1) 0 ∷ (x ++ v)) el
         ∙ ap (λ (x : List ℕ). getD s at 0 ∷ getD s (at + 1) 0 ∷ getD s (at + 2) 0 ∷ getD s (at + 2 + 1) 0 ∷ x) ev
         ∙ sym
-        (ap (λ (m : ℕ). tab m (λ k. getD s (at + k) 0)) e
-        ∙ tab-append 4 (l - 4) (λ k. getD s (at + k) 0)
-        ∙ ap (λ (x : ℕ). getD s x 0 ∷ getD s (at + 1) 0 ∷ getD s (at + 2) 0 ∷ getD s (at + 3) 0 ∷ tab (l - 4) (λ k. getD s (at + (4 + k)) 0)) e₀
-        ∙ ap (λ (x : ℕ). getD s at 0 ∷ getD s (at + 1) 0 ∷ getD s (at + 2) 0 ∷ getD s x 0 ∷ tab (l - 4) (λ k. getD s (at + (4 + k)) 0)) e₃)
+        (ap (λ (m : ℕ). tabulate m (λ k. getD s (at + k) 0)) e
+        ∙ tabulate-append 4 (l - 4) (λ k. getD s (at + k) 0)
+        ∙ ap (λ (x : ℕ). getD s x 0 ∷ getD s (at + 1) 0 ∷ getD s (at + 2) 0 ∷ getD s (at + 3) 0 ∷ tabulate (l - 4) (λ k. getD s (at + (4 + k)) 0)) e₀
+        ∙ ap (λ (x : ℕ). getD s at 0 ∷ getD s (at + 1) 0 ∷ getD s (at + 2) 0 ∷ getD s x 0 ∷ tabulate (l - 4) (λ k. getD s (at + (4 + k)) 0)) e₃)
 
     size-v : 4 + length v ≡ l
     size-v = let e = length-v in omega arith
@@ -157,18 +157,18 @@ module _ (s : List ℕ) (b : Bytes s) where
           ap (λ (u : Bool). cond u 0 (getD s (at + (l + i)) 0)) (pad-in (par t v) ps at (at + (l + i)) (omega arith) (omega arith))
 
       -- one parameter, written again
-      again : parBytes (par t v) ≡ tab (padded l) g
+      again : parBytes (par t v) ≡ tabulate (padded l) g
       unfolding parBytes
       again =
           let e : padded l ≡ l + pad = omega arith in
-          ap (λ (m : ℕ). two t ++ (two m ++ (v ++ replicate (padded m - m) 0))) size-v
+          ap (λ (m : ℕ). bytes16 t ++ (bytes16 m ++ (v ++ replicate (padded m - m) 0))) size-v
           ∙ ap (λ (x : List ℕ). x ++ replicate pad 0) front
           ∙ sym
-          (ap (λ (m : ℕ). tab m g) e
-          ∙ tab-append l pad g
-          ∙ ap (λ (x : List ℕ). x ++ tab pad (λ k. g (l + k))) (tab-ext 0 l g (λ k. getD s (at + k) 0) low)
-          ∙ ap (λ (x : List ℕ). tab l (λ k. getD s (at + k) 0) ++ x)
-          (sym (is-tab 0 (replicate pad 0) pad (λ k. g (l + k)) (length-replicate pad 0) (λ i h. getD-replicate pad i 0 0 h ∙ sym (high i h)))))
+          (ap (λ (m : ℕ). tabulate m g) e
+          ∙ tabulate-append l pad g
+          ∙ ap (λ (x : List ℕ). x ++ tabulate pad (λ k. g (l + k))) (tabulate-ext 0 l g (λ k. getD s (at + k) 0) low)
+          ∙ ap (λ (x : List ℕ). tabulate l (λ k. getD s (at + k) 0) ++ x)
+          (sym (is-tabulate 0 (replicate pad 0) pad (λ k. g (l + k)) (length-replicate pad 0) (λ i h. getD-replicate pad i 0 0 h ∙ sym (high i h)))))
 
       -- behind it, padding is that of the parameters left
       behind : (i : ℕ) → zeroed n ps (n + i) ≡ g (padded l + i)
@@ -181,27 +181,27 @@ module _ (s : List ℕ) (b : Bytes s) where
           ∙ ap (λ (m : ℕ). zeroed m ps (at + (padded l + i))) e₂
           ∙ ap (λ (u : Bool). cond u 0 (getD s (at + (padded l + i)) 0)) (sym (pad-after (par t v) ps at (at + (padded l + i)) (omega arith)))
 
-      pub par-plain : parsBytes ps ≡ tab (length s - n) (λ k. zeroed n ps (n + k)) → parsBytes (par t v ∷ ps) ≡ tab (length s - at) g
+      pub par-plain : parsBytes ps ≡ tabulate (length s - n) (λ k. zeroed n ps (n + k)) → parsBytes (par t v ∷ ps) ≡ tabulate (length s - at) g
       unfolding parsBytes
       par-plain ih =
           let q = is .next-is in
           let e : length s - at ≡ padded l + (length s - n) = omega arith in
           ap (λ (x : List ℕ). x ++ parsBytes ps) again
-          ∙ ap (λ (x : List ℕ). tab (padded l) g ++ x) (ih ∙ tab-ext 0 (length s - n) (λ k. zeroed n ps (n + k)) (λ k. g (padded l + k)) (λ i h. behind i))
-          ∙ sym (ap (λ (m : ℕ). tab m g) e ∙ tab-append (padded l) (length s - n) g)
+          ∙ ap (λ (x : List ℕ). tabulate (padded l) g ++ x) (ih ∙ tabulate-ext 0 (length s - n) (λ k. zeroed n ps (n + k)) (λ k. g (padded l + k)) (λ i h. behind i))
+          ∙ sym (ap (λ (m : ℕ). tabulate m g) e ∙ tabulate-append (padded l) (length s - n) g)
 
   -- all parameters from a position on, where the walk meets no fault
   pub pars-plain : (f at : ℕ) → length s - at < f → at ≤ length s → walk s at .code ≡ 0
-      → parsBytes (walk s at .pars) ≡ tab (length s - at) (λ k. zeroed at (walk s at .pars) (at + k))
-  unfolding parsBytes tab
+      → parsBytes (walk s at .pars) ≡ tabulate (length s - at) (λ k. zeroed at (walk s at .pars) (at + k))
+  unfolding parsBytes tabulate
   pars-plain zero at h q e = absurd (omega arith)
   pars-plain (suc f) at h q e = on (stepAt s at) refl (λ n lt le z. pars-plain f n (omega arith) le z)
     where
       Goal : List Par → Type 0
-      Goal ps = parsBytes ps ≡ tab (length s - at) (λ k. zeroed at ps (at + k))
+      Goal ps = parsBytes ps ≡ tabulate (length s - at) (λ k. zeroed at ps (at + k))
 
       on : (w : Step) → stepAt s at ≡ w
-          → ((n : ℕ) → at < n → n ≤ length s → walk s n .code ≡ 0 → parsBytes (walk s n .pars) ≡ tab (length s - n) (λ k. zeroed n (walk s n .pars) (n + k)))
+          → ((n : ℕ) → at < n → n ≤ length s → walk s n .code ≡ 0 → parsBytes (walk s n .pars) ≡ tabulate (length s - n) (λ k. zeroed n (walk s n .pars) (n + k)))
           → Goal (walk s at .pars)
       on (Param t l n) w ih =
           let ws = walk-step s at (Param t l n) w in
@@ -211,7 +211,7 @@ module _ (s : List ℕ) (b : Bytes s) where
       on End w ih =
           let ws = walk-step s at End w in
           let d : length s - at ≡ 0 = let g = step-ended s at w in omega arith in
-          subst Goal (sym (ap (λ (x : Walk). x .pars) ws)) (sym (ap (λ (m : ℕ). tab m (λ k. zeroed at [] (at + k))) d))
+          subst Goal (sym (ap (λ (x : Walk). x .pars) ws)) (sym (ap (λ (m : ℕ). tabulate m (λ k. zeroed at [] (at + k))) d))
       on Fault w ih =
           let ws = walk-step s at Fault w in
           let z : _≡_ {A = ℕ} 18 0 = sym (ap (λ (x : Walk). x .code) ws) ∙ e in absurd (omega arith)

@@ -6,7 +6,7 @@ use Prim.Native.Nat.{ℕ, _+_}
 use native.Mathlib.Omega.{arith}
 use lib.ListN.{length, length-append}
 use Rattle.wire.specs.Walk.{Par}
-use Rattle.put.specs.Bytes.{overlay, room, parBytes, parsBytes, PutAt}
+use Rattle.put.specs.Bytes.{overlay, parSize, parBytes, parsBytes, PutAt}
 use Rattle.put.proofs.Round.{length-par}
 use Rattle.put.proofs.Sets.{over-two, length-over}
 
@@ -37,7 +37,7 @@ module _ {all : List Par} {out₀ : List ℕ} {from : ℕ} {out : List ℕ} {at 
     split = ap (λ (x : List Par). h .written ++ parsBytes x) (sym e) ∙ h .rest
 
     -- the next parameter has room
-    pub puts-room : length (h .written) + (room (length (p .body)) + length (parsBytes qs)) ≡ length (parsBytes all)
+    pub puts-room : length (h .written) + (parSize (length (p .body)) + length (parsBytes qs)) ≡ length (parsBytes all)
     puts-room =
         sym
         (length-append (h .written) (parBytes p ++ parsBytes qs)

@@ -8,7 +8,7 @@ use native.Mathlib.Omega.{arith}
 use lib.ListN.{length, getD, take}
 use lib.Dec.{eqb}
 use borrow.Author.Tests.{eq-eqb, ne-eqb, le-ltb, ltb-false, eqb-true}
-use Rattle.laws.specs.Tab.{tab, length-tab, tab-ext}
+use Rattle.laws.specs.Columns.{tabulate, length-tabulate, tabulate-ext}
 use Rattle.wire.specs.Number.{be}
 use Rattle.wire.specs.Walk.{Par, Walk, walk}
 use Rattle.wire.proofs.Number.{be-two, be-four}
@@ -16,7 +16,7 @@ use Rattle.parameter.specs.Table.{table, hasClass, rowIn}
 use Rattle.laws.specs.Choice.{_if_}
 use Rattle.message.specs.Verdict.{most, check1, check2, check3, check4, check5, check6, parsCode, lastChecks, verdict}
 use Rattle.message.specs.Meaning.{meaning, outcome, readingOf}
-use Rattle.put.specs.Bytes.{overlay, four, headBytes, parsBytes}
+use Rattle.put.specs.Bytes.{overlay, bytes32, headBytes, parsBytes}
 use Rattle.put.proofs.Sets.{take-over}
 use Rattle.encode.specs.Encode.{sizeOf, encode, parsIn, whole, tagsOf, lensOf}
 use Rattle.encode.specs.Write.{writeCode, Writes}
@@ -25,7 +25,7 @@ use Rattle.encode.specs.declared.Written.{Written}
 use Rattle.encode.proofs.Lists.{lent-pars, lent-whole}
 use Rattle.encode.proofs.Verdicts.{listCode, length-encode, walk-encode, verdict-encode}
 use Rattle.encode.proofs.Writes.{or-none, if-none, encode-sized}
-use Rattle.encode.proofs.Plain.{tab-append, four-of, pad-before, pars-plain, zeroed}
+use Rattle.encode.proofs.Plain.{tabulate-append, four-of, pad-before, pars-plain, zeroed}
 
 -- ---- reading what was written
 
@@ -123,18 +123,18 @@ module _ (s : List ℕ) (b : Bytes s) (a : Accepted s) where
   ps = walk s 8 .pars
 
   -- the parameters, and their length
-  pars-are : parsBytes ps ≡ tab (length s - 8) (λ k. zeroed s b 8 ps (8 + k))
+  pars-are : parsBytes ps ≡ tabulate (length s - 8) (λ k. zeroed s b 8 ps (8 + k))
   pars-are = pars-plain s b (suc (length s - 8)) 8 (omega arith) (a .long) (a .walked)
 
   size-is : sizeOf ps ≡ length s
   unfolding sizeOf
-  size-is = let l : length (parsBytes ps) ≡ length s - 8 = ap length pars-are ∙ length-tab (length s - 8) _ in let h = a .long in omega arith
+  size-is = let l : length (parsBytes ps) ≡ length s - 8 = ap length pars-are ∙ length-tabulate (length s - 8) _ in let h = a .long in omega arith
 
   -- each byte as `plain` has it
   abbrev g : ℕ → ℕ
   g i = cond (eqb i 1 || isPadding 8 ps i) 0 (getD s i 0)
 
-  field-bytes : four (length s) ≡ getD s 4 0 ∷ getD s 5 0 ∷ getD s 6 0 ∷ getD s 7 0 ∷ []
+  field-bytes : bytes32 (length s) ≡ getD s 4 0 ∷ getD s 5 0 ∷ getD s 6 0 ∷ getD s 7 0 ∷ []
   field-bytes =
       let h = a .long in
       four-of (length s) (getD s 4 0) (getD s 5 0) (getD s 6 0) (getD s 7 0)
@@ -145,8 +145,8 @@ module _ (s : List ℕ) (b : Bytes s) (a : Accepted s) where
   head-is : (i : ℕ) → i < 8 → (eqb i 1 ≡ false) → g i ≡ getD s i 0
   head-is i h e = rw (e, pad-before ps 8 i h)
 
-  header : headBytes c t (length s) ≡ tab 8 g
-  unfolding tab
+  header : headBytes c t (length s) ≡ tabulate 8 g
+  unfolding tabulate
   header =
       let h₀ : g 0 ≡ 1 = head-is 0 (omega arith) refl ∙ a .version in
       let h₂ = head-is 2 (omega arith) refl in
@@ -167,9 +167,9 @@ module _ (s : List ℕ) (b : Bytes s) (a : Accepted s) where
       let l : 8 + (length s - 8) ≡ length s = omega arith in
       sym (encode-sized c t ps (length s) (sym size-is))
       ∙ ap (λ (x : List ℕ). x ++ parsBytes ps) header
-      ∙ ap (λ (x : List ℕ). tab 8 g ++ x) (pars-are ∙ tab-ext 0 (length s - 8) (λ k. zeroed s b 8 ps (8 + k)) (λ k. g (8 + k)) (λ i q. rest i))
-      ∙ sym (tab-append 8 (length s - 8) g)
-      ∙ ap (λ (m : ℕ). tab m g) l
+      ∙ ap (λ (x : List ℕ). tabulate 8 g ++ x) (pars-are ∙ tabulate-ext 0 (length s - 8) (λ k. zeroed s b 8 ps (8 + k)) (λ k. g (8 + k)) (λ i q. rest i))
+      ∙ sym (tabulate-append 8 (length s - 8) g)
+      ∙ ap (λ (m : ℕ). tabulate m g) l
 
   still-accepted : verdict (encode c t ps) ≡ 0
   unfolding listCode

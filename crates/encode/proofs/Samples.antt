@@ -3,7 +3,7 @@
 use mathlib.Core.Path.{_≡_, refl}
 use Prim.Native.Nat.{ℕ}
 use mathlib.Core.List.{List, [], _∷_}
-use Rattle.laws.specs.Tab.{tab}
+use Rattle.laws.specs.Columns.{tabulate}
 use Rattle.wire.specs.Number.{be}
 use Rattle.wire.specs.Walk.{stepAt, walkF, walk}
 use Rattle.put.specs.Bytes.{par, parBytes, parsBytes}
@@ -19,5 +19,5 @@ sample-m = refl
 -- an Up with a spare byte of 0xee, an info string of one byte whose padding is 0xaa, 0xbb, 0xcc, and an ASP identifier behind it
 sample-plain : plain (1 ∷ 0xee ∷ 3 ∷ 1 ∷ 0 ∷ 0 ∷ 0 ∷ 0x18 ∷ 0 ∷ 4 ∷ 0 ∷ 5 ∷ 0x41 ∷ 0xaa ∷ 0xbb ∷ 0xcc ∷ 0 ∷ 0x11 ∷ 0 ∷ 8 ∷ 9 ∷ 9 ∷ 9 ∷ 9 ∷ [])
     ≡ 1 ∷ 0 ∷ 3 ∷ 1 ∷ 0 ∷ 0 ∷ 0 ∷ 0x18 ∷ 0 ∷ 4 ∷ 0 ∷ 5 ∷ 0x41 ∷ 0 ∷ 0 ∷ 0 ∷ 0 ∷ 0x11 ∷ 0 ∷ 8 ∷ 9 ∷ 9 ∷ 9 ∷ 9 ∷ []
-unfolding plain isPadding tab walk walkF stepAt be
+unfolding plain isPadding tabulate walk walkF stepAt be
 sample-plain = refl

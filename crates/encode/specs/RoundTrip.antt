@@ -6,7 +6,7 @@ use mathlib.Core.Bool.{Bool, true, false, cond, _&&_, _||_}
 use mathlib.Core.List.{List, [], _∷_}
 use lib.ListN.{length, getD, take}
 use lib.Dec.{ltb, leb, eqb}
-use Rattle.laws.specs.Tab.{tab}
+use Rattle.laws.specs.Columns.{tabulate}
 use Rattle.wire.specs.Walk.{Par, Walk, walk, padded}
 use Rattle.message.specs.Verdict.{verdict}
 use Rattle.message.specs.Meaning.{meaning, readingOf}
@@ -33,7 +33,7 @@ isPadding at (p ∷ ps) i =
 
 -- a message with the spare byte, its second, and the padding zeroed; every other byte as it was
 unfoldable pub plain : List ℕ → List ℕ
-plain s = tab (length s) (λ i. cond (eqb i 1 || isPadding 8 (walk s 8 .pars) i) 0 (getD s i 0))
+plain s = tabulate (length s) (λ i. cond (eqb i 1 || isPadding 8 (walk s 8 .pars) i) 0 (getD s i 0))
 
 -- a list of bytes
 pub record Bytes (s : List ℕ) : Type 0 where

@@ -9,7 +9,7 @@ use lib.Dec.{ltb, eqb}
 use Rattle.wire.specs.Walk.{Par}
 use Rattle.laws.specs.Choice.{_orElse_, _if_}
 use Rattle.message.specs.Verdict.{most, check7, check8, verdict}
-use Rattle.put.specs.Bytes.{overlay, room}
+use Rattle.put.specs.Bytes.{overlay, parSize}
 use Rattle.encode.specs.Encode.{encode, total, parsIn, whole}
 use Rattle.encode.specs.declared.Written.{Written}
 
@@ -31,7 +31,7 @@ pub record Writes (c t : ℕ) (ts ns vs out : List ℕ) (r : Written) (out′ : 
 -- the bytes of parameters whose values have these lengths
 unfoldable pub sizes : List ℕ → ℕ
 sizes [] = 0
-sizes (n ∷ ns) = room n + sizes ns
+sizes (n ∷ ns) = parSize n + sizes ns
 
 -- the length of the message of a whole list; 0 where the list is not whole or the message is over 2,048 bytes
 unfoldable pub sizeIf : ℕ → List ℕ → ℕ → ℕ

@@ -53,9 +53,16 @@ fn size_of(tags: usize, lens: &[u32], values: usize) -> usize
 }
 
 // The checks 7 and 8 of a whole list: the value of each tag in turn is as many bytes of values as lens says.
-fn list_code(info: RowInfo, class: u8, kind: u8, tags: &[u16], lens: &[u32], values: &[u8]) -> u32
-    requires { ⌜ (rowIn table class kind < 17) × (info ≡ infoOf (rowIn table class kind)) × Lent (now tags) (now lens) (now values) ⌝ }
-    ensures { λ r. ⌜ r ≡ rowCode (rowIn table class kind) class kind (parsIn (now (tags .entry)) (now (lens .entry)) (now (values .entry))) ⌝ }
+fn list_code(
+    info: RowInfo,
+    class: u8,
+    msgtype: u8,
+    tags: &[u16],
+    lens: &[u32],
+    values: &[u8],
+) -> u32
+    requires { ⌜ (rowIn table class msgtype < 17) × (info ≡ infoOf (rowIn table class msgtype)) × Lent (now tags) (now lens) (now values) ⌝ }
+    ensures { λ r. ⌜ r ≡ rowCode (rowIn table class msgtype) class msgtype (parsIn (now (tags .entry)) (now (lens .entry)) (now (values .entry))) ⌝ }
 {
     let mut met = [false; 32];
     let mut words = [0u32; 32];
@@ -77,7 +84,7 @@ fn list_code(info: RowInfo, class: u8, kind: u8, tags: &[u16], lens: &[u32], val
         at = stop;
         i += 1;
     }
-    message::end_code(info.musts, class, kind, &met, &words)
+    message::end_code(info.musts, class, msgtype, &met, &words)
 }
 
 // The verdict on the message of a list, of its length, whether the class is listed, and the row.
@@ -86,13 +93,13 @@ fn verdict_of(
     listed: bool,
     row: usize,
     class: u8,
-    kind: u8,
+    msgtype: u8,
     tags: &[u16],
     lens: &[u32],
     values: &[u8],
 ) -> u32
-    requires { ⌜ (row ≤ 17) × (row ≡ rowIn table class kind) × (size ≡ sizeIf (length (now tags)) (now lens) (length (now values))) ⌝ }
-    ensures { λ r. ⌜ r ≡ listVerdict size listed row class kind (parsIn (now (tags .entry)) (now (lens .entry)) (now (values .entry))) ⌝ }
+    requires { ⌜ (row ≤ 17) × (row ≡ rowIn table class msgtype) × (size ≡ sizeIf (length (now tags)) (now lens) (length (now values))) ⌝ }
+    ensures { λ r. ⌜ r ≡ listVerdict size listed row class msgtype (parsIn (now (tags .entry)) (now (lens .entry)) (now (values .entry))) ⌝ }
 {
     if size == 0 {
         return PROTOCOL_ERROR;
@@ -103,7 +110,7 @@ fn verdict_of(
     if row == NO_ROW {
         return UNSUPPORTED_TYPE;
     }
-    list_code(parameter::row_info(row), class, kind, tags, lens, values)
+    list_code(parameter::row_info(row), class, msgtype, tags, lens, values)
 }
 
 // The reader's number, then 103 where a buffer of so many bytes is short.
@@ -140,15 +147,15 @@ fn put_message(
     out: &mut [u8],
     size: usize,
     class: u8,
-    kind: u8,
+    msgtype: u8,
     tags: &[u16],
     lens: &[u32],
     values: &[u8],
 )
     requires { ⌜ Fits (now tags) (now lens) (now values) size (now out) ⌝ }
-    ensures { λ _. ⌜ now (out .exit) ≡ overlay (now (out .entry)) 0 (encode class kind (parsIn (now (tags .entry)) (now (lens .entry)) (now (values .entry)))) ⌝ }
+    ensures { λ _. ⌜ now (out .exit) ≡ overlay (now (out .entry)) 0 (encode class msgtype (parsIn (now (tags .entry)) (now (lens .entry)) (now (values .entry)))) ⌝ }
 {
-    put::put_header(out, class, kind, size as u32);
+    put::put_header(out, class, msgtype, size as u32);
     put_pars(out, size, tags, lens, values);
 }
 
@@ -157,14 +164,14 @@ fn emit(
     refusal: u32,
     size: usize,
     class: u8,
-    kind: u8,
+    msgtype: u8,
     tags: &[u16],
     lens: &[u32],
     values: &[u8],
     out: &mut [u8],
 ) -> Written
     requires { ⌜ (refusal ≡ 0 → Fits (now tags) (now lens) (now values) size (now out)) ⌝ }
-    ensures { λ r. ⌜ Emits refusal size class kind (parsIn (now (tags .entry)) (now (lens .entry)) (now (values .entry))) (now (out .entry)) r (now (out .exit)) ⌝ }
+    ensures { λ r. ⌜ Emits refusal size class msgtype (parsIn (now (tags .entry)) (now (lens .entry)) (now (values .entry))) (now (out .entry)) r (now (out .exit)) ⌝ }
 {
     if refusal != 0 {
         return Written {
@@ -172,7 +179,7 @@ fn emit(
             length: 0,
         };
     }
-    put_message(out, size, class, kind, tags, lens, values);
+    put_message(out, size, class, msgtype, tags, lens, values);
     Written {
         code: refusal,
         length: size,
@@ -180,16 +187,16 @@ fn emit(
 }
 
 // The number of a list: the reader's.
-fn code_of(size: usize, class: u8, kind: u8, tags: &[u16], lens: &[u32], values: &[u8]) -> u32
+fn code_of(size: usize, class: u8, msgtype: u8, tags: &[u16], lens: &[u32], values: &[u8]) -> u32
     requires { ⌜ size ≡ sizeIf (length (now tags)) (now lens) (length (now values)) ⌝ }
-    ensures { λ r. ⌜ r ≡ listVerdict size (hasClass table class) (rowIn table class kind) class kind (parsIn (now (tags .entry)) (now (lens .entry)) (now (values .entry))) ⌝ }
+    ensures { λ r. ⌜ r ≡ listVerdict size (hasClass table class) (rowIn table class msgtype) class msgtype (parsIn (now (tags .entry)) (now (lens .entry)) (now (values .entry))) ⌝ }
 {
     verdict_of(
         size,
         parameter::class_ok(class),
-        parameter::row_of(class, kind),
+        parameter::row_of(class, msgtype),
         class,
-        kind,
+        msgtype,
         tags,
         lens,
         values,
@@ -200,16 +207,16 @@ fn code_of(size: usize, class: u8, kind: u8, tags: &[u16], lens: &[u32], values:
 // values, and the values one after the other.
 pub fn write(
     class: u8,
-    kind: u8,
+    msgtype: u8,
     tags: &[u16],
     lens: &[u32],
     values: &[u8],
     out: &mut [u8],
 ) -> Written
-    ensures { λ r. ⌜ Writes class kind (now (tags .entry)) (now (lens .entry)) (now (values .entry)) (now (out .entry)) r (now (out .exit)) ⌝ }
+    ensures { λ r. ⌜ Writes class msgtype (now (tags .entry)) (now (lens .entry)) (now (values .entry)) (now (out .entry)) r (now (out .exit)) ⌝ }
 {
     let size = size_of(tags.len(), lens, values.len());
-    let code = code_of(size, class, kind, tags, lens, values);
+    let code = code_of(size, class, msgtype, tags, lens, values);
     let code = with_room(code, size, out.len());
-    emit(code, size, class, kind, tags, lens, values, out)
+    emit(code, size, class, msgtype, tags, lens, values, out)
 }

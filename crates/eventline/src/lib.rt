@@ -14,7 +14,7 @@ ghost use Prim.Native.Nat.{_+_, _*_, _≤_, _<_};
 ghost use lib.ListN.{length};
 
 // `msg`, `lost`, `recovery`, `up`, `down`, `linkmsg`
-pub enum Kind {
+pub enum EventKind {
     Message,
     Lost,
     Recovery,
@@ -25,14 +25,14 @@ pub enum Kind {
 
 // What a name says.
 enum Named {
-    Event(Kind),
+    Event(EventKind),
     NoEvent,
 }
 
 // What an event line says. The index is that of an ASP, an AS or a link place, and 0 for a message of the link side; a message stands in the first bytes of
 // the buffer, `size` of them; `words` is the length of the lent list as it is written.
 pub struct Event {
-    pub kind: Kind,
+    pub kind: EventKind,
     pub index: u32,
     pub words: u32,
     pub size: usize,
@@ -47,22 +47,22 @@ pub enum Parsed {
 
 fn kind_of(name: &[u8]) -> Named {
     if is(name, b"msg") {
-        return Named::Event(Kind::Message);
+        return Named::Event(EventKind::Message);
     }
     if is(name, b"lost") {
-        return Named::Event(Kind::Lost);
+        return Named::Event(EventKind::Lost);
     }
     if is(name, b"recovery") {
-        return Named::Event(Kind::Recovery);
+        return Named::Event(EventKind::Recovery);
     }
     if is(name, b"up") {
-        return Named::Event(Kind::LinkUp);
+        return Named::Event(EventKind::LinkUp);
     }
     if is(name, b"down") {
-        return Named::Event(Kind::LinkDown);
+        return Named::Event(EventKind::LinkDown);
     }
     if is(name, b"linkmsg") {
-        return Named::Event(Kind::LinkMessage);
+        return Named::Event(EventKind::LinkMessage);
     }
     Named::NoEvent
 }
@@ -84,7 +84,13 @@ pub fn lent(n: u32) -> usize
 }
 
 // `HEX`, the last word.
-fn message_of(kind: Kind, index: u32, words: u32, hex: &[u8], bytes: &mut [u8; 32768]) -> Parsed
+fn message_of(
+    kind: EventKind,
+    index: u32,
+    words: u32,
+    hex: &[u8],
+    bytes: &mut [u8; 32768],
+) -> Parsed
     requires { ⌜ length (now hex) ≤ 65535 ⌝ }
 {
     let size = bytes_of(hex, bytes);
@@ -100,7 +106,7 @@ fn message_of(kind: Kind, index: u32, words: u32, hex: &[u8], bytes: &mut [u8; 3
 }
 
 // `LISTLEN HEX`
-fn listed(kind: Kind, index: u32, rest: &[u8], bytes: &mut [u8; 32768]) -> Parsed
+fn listed(kind: EventKind, index: u32, rest: &[u8], bytes: &mut [u8; 32768]) -> Parsed
     requires { ⌜ length (now rest) ≤ 65535 ⌝ }
 {
     let number = number_of(word_of(rest));
@@ -111,7 +117,7 @@ fn listed(kind: Kind, index: u32, rest: &[u8], bytes: &mut [u8; 32768]) -> Parse
 }
 
 // `LISTLEN`, the last word.
-fn plain(kind: Kind, index: u32, rest: &[u8]) -> Parsed {
+fn plain(kind: EventKind, index: u32, rest: &[u8]) -> Parsed {
     let number = number_of(rest);
     let Number::Value(n) = number else {
         return Parsed::NoEvent;
@@ -137,11 +143,11 @@ fn message_line(rest: &[u8], bytes: &mut [u8; 32768]) -> Parsed
     let Number::Value(n) = number else {
         return Parsed::NoEvent;
     };
-    listed(Kind::Message, n, rest_of(rest), bytes)
+    listed(EventKind::Message, n, rest_of(rest), bytes)
 }
 
 // `INDEX LISTLEN`
-fn plain_line(kind: Kind, rest: &[u8]) -> Parsed {
+fn plain_line(kind: EventKind, rest: &[u8]) -> Parsed {
     let number = index_of(rest);
     let Number::Value(n) = number else {
         return Parsed::NoEvent;
@@ -149,16 +155,16 @@ fn plain_line(kind: Kind, rest: &[u8]) -> Parsed {
     plain(kind, n, rest_of(rest))
 }
 
-fn line_of(kind: Kind, rest: &[u8], bytes: &mut [u8; 32768]) -> Parsed
+fn line_of(kind: EventKind, rest: &[u8], bytes: &mut [u8; 32768]) -> Parsed
     requires { ⌜ length (now rest) ≤ 65535 ⌝ }
 {
     match kind {
-        Kind::Message => message_line(rest, bytes),
-        Kind::Lost => plain_line(Kind::Lost, rest),
-        Kind::Recovery => plain_line(Kind::Recovery, rest),
-        Kind::LinkUp => plain_line(Kind::LinkUp, rest),
-        Kind::LinkDown => plain_line(Kind::LinkDown, rest),
-        Kind::LinkMessage => listed(Kind::LinkMessage, 0, rest, bytes),
+        EventKind::Message => message_line(rest, bytes),
+        EventKind::Lost => plain_line(EventKind::Lost, rest),
+        EventKind::Recovery => plain_line(EventKind::Recovery, rest),
+        EventKind::LinkUp => plain_line(EventKind::LinkUp, rest),
+        EventKind::LinkDown => plain_line(EventKind::LinkDown, rest),
+        EventKind::LinkMessage => listed(EventKind::LinkMessage, 0, rest, bytes),
     }
 }
 
@@ -185,7 +191,7 @@ fn put_field(out: &mut [u8; 65536], at: usize, n: u32, end: u8) -> usize
 }
 
 // ` (a,c,s,v)`
-fn put_order(out: &mut [u8; 65536], at: usize, a: u32, c: u32, s: u32, v: u32) -> usize
+fn put_action(out: &mut [u8; 65536], at: usize, a: u32, c: u32, s: u32, v: u32) -> usize
     requires { ⌜ at + 46 ≤ 65536 ⌝ }
     ensures { λ r. ⌜ r ≤ at + 46 ⌝ }
 {
@@ -196,13 +202,13 @@ fn put_order(out: &mut [u8; 65536], at: usize, a: u32, c: u32, s: u32, v: u32) -
     put_field(out, w, v, b')')
 }
 
-fn put_orders(out: &mut [u8; 65536], from: usize, list: &[u32], n: usize) -> usize
+fn put_actions(out: &mut [u8; 65536], from: usize, list: &[u32], n: usize) -> usize
     requires { ⌜ (from + 11868 ≤ 65536) × (n ≤ 258) × (4 * n ≤ length (now list)) ⌝ }
     ensures { λ r. ⌜ r ≤ from + 11868 ⌝ }
 {
     let mut at = from;
     for i in 0..n {
-        at = put_order(
+        at = put_action(
             out,
             at,
             list[4 * i],
@@ -225,7 +231,7 @@ pub fn put_outcome(out: &mut [u8; 65536], at: usize, code: u32, count: u32, list
     }
     let next = put_bytes(out, at, b"N ");
     let from = put_number(out, next, count);
-    put_orders(out, from, list, count as usize)
+    put_actions(out, from, list, count as usize)
 }
 
 // A number after a comma; the first has none.

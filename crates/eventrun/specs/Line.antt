@@ -2,12 +2,12 @@
 -- Assumes nothing.
 use Prim.Native.Nat.{ℕ}
 use mathlib.Core.List.{List}
-use Rattle.eventline.specs.declared.Kind.{Kind as Name}
-use Rattle.eventline.specs.declared.Kind.the-variants.{Message, Lost, Recovery, LinkUp, LinkDown, LinkMessage}
-use Rattle.rules.specs.Event.{Kind, message, lost, recovery, linkUp, linkDown, linkMessage}
+use Rattle.eventline.specs.declared.EventKind.{EventKind as Name}
+use Rattle.eventline.specs.declared.EventKind.the-variants.{Message, Lost, Recovery, LinkUp, LinkDown, LinkMessage}
+use Rattle.rules.specs.Event.{EventKind, message, lost, recovery, linkUp, linkDown, linkMessage}
 
 -- `msg`, `lost`, `recovery`, `up`, `down`, `linkmsg`, with the line's index and message
-abbrev pub said : Name → ℕ → List ℕ → Kind
+abbrev pub said : Name → ℕ → List ℕ → EventKind
 said Message i msg = message i msg
 said Lost i msg = lost i
 said Recovery i msg = recovery i

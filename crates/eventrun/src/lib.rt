@@ -1,41 +1,41 @@
 // The event that a script's line says: run by the entry of its kind, and what it reaches.
-use eventline::Kind;
+use eventline::EventKind;
 use gateway::Gateway;
 use node::Node;
 use rules::Outcome;
 ghost use mathlib.Core.Path.{_≡_};
 ghost use Rattle.ask.specs.Happened.{event, eventOf};
 ghost use Rattle.reach.specs.Reached.{reached};
-ghost use Rattle.rules.specs.Entry.{Handed};
+ghost use Rattle.rules.specs.Entry.{MeetsRules};
 ghost use Rattle.eventrun.specs.Line.{said};
 
 // One of the six events, with the index and the message of its line.
-pub fn happen(kind: Kind, index: u32, msg: &[u8], words: &mut [u32], g: Gateway) -> Outcome
-    ensures { λ r. ⌜ Handed g (event (said kind index (now (msg .entry))) (now (words .entry))) (now (words .entry)) (now (words .exit)) r ⌝ }
+pub fn happen(kind: EventKind, index: u32, msg: &[u8], words: &mut [u32], g: Gateway) -> Outcome
+    ensures { λ r. ⌜ MeetsRules g (event (said kind index (now (msg .entry))) (now (words .entry))) (now (words .entry)) (now (words .exit)) r ⌝ }
 {
     let i = index as usize;
     let node = Node { gateway: g };
     match kind {
-        Kind::Message => node.message(i, msg, words),
-        Kind::Lost => node.lost(i, words),
-        Kind::Recovery => node.recovery(i, words),
-        Kind::LinkUp => node.link_up(i, words),
-        Kind::LinkDown => node.link_down(i, words),
-        Kind::LinkMessage => node.link_message(msg, words),
+        EventKind::Message => node.message(i, msg, words),
+        EventKind::Lost => node.lost(i, words),
+        EventKind::Recovery => node.recovery(i, words),
+        EventKind::LinkUp => node.link_up(i, words),
+        EventKind::LinkDown => node.link_down(i, words),
+        EventKind::LinkMessage => node.link_message(msg, words),
     }
 }
 
 // The ASes that it reaches, where its list has `room` words.
-pub fn reached_by(kind: Kind, index: u32, msg: &[u8], room: usize, g: Gateway) -> [bool; 16]
+pub fn reached_by(kind: EventKind, index: u32, msg: &[u8], room: usize, g: Gateway) -> [bool; 16]
     ensures { λ r. ⌜ r ≡ reached g (eventOf (said kind index (now (msg .entry))) room) ⌝ }
 {
     let i = index as usize;
     match kind {
-        Kind::Message => reach::of_message(g, i, msg, room),
-        Kind::Lost => reach::of_lost(g, i, room),
-        Kind::Recovery => reach::of_recovery(g, i, room),
-        Kind::LinkUp => reach::of_link_up(g, i, room),
-        Kind::LinkDown => reach::of_link_down(g, i, room),
-        Kind::LinkMessage => reach::of_link_message(g, msg, room),
+        EventKind::Message => reach::of_message(g, i, msg, room),
+        EventKind::Lost => reach::of_lost(g, i, room),
+        EventKind::Recovery => reach::of_recovery(g, i, room),
+        EventKind::LinkUp => reach::of_link_up(g, i, room),
+        EventKind::LinkDown => reach::of_link_down(g, i, room),
+        EventKind::LinkMessage => reach::of_link_message(g, msg, room),
     }
 }

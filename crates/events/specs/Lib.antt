@@ -1,3 +1,3 @@
 pub mod Perform
-pub mod Work
+pub mod Decision
 pub mod Columns

@@ -1,20 +1,20 @@
 // Every event: what is asked is refused, or decided and done.
 use ask::Ask;
 use gateway::Gateway;
+use rules::Decision;
 use rules::Outcome;
-use rules::Work;
 ghost use mathlib.Core.Path.{_≡_};
 ghost use Prim.Native.Nat.{_<_, _≤_};
 ghost use lib.ListN.{length};
 ghost use Rattle.action.specs.Words.{Written};
 ghost use Rattle.ranges.specs.Laws.{Table};
-ghost use Rattle.rules.specs.Entry.{Handed};
-ghost use Rattle.rules.specs.Work.{given, spread, deedIn};
+ghost use Rattle.rules.specs.Entry.{MeetsRules};
+ghost use Rattle.rules.specs.Decision.{firstActions, spread, effectIn};
 ghost use Rattle.work.specs.Decides.{aspOf, DecidesOn};
 ghost use Rattle.ask.specs.Happened.{happened, event};
-ghost use Rattle.ask.specs.Inner.Ask.{askDeed, AskFits};
+ghost use Rattle.ask.specs.Inner.Ask.{askEffect, AskFits};
 ghost use Rattle.events.specs.Columns.{AskColumns};
-ghost use Rattle.events.specs.Work.{firstOf, AsesColumns, EnactedOn, linkAfter};
+ghost use Rattle.events.specs.Decision.{firstOf, AsesColumns, EnactedOn, linkAfter};
 
 // ---- what is done
 
@@ -31,9 +31,9 @@ fn decided<'a>(
     iid: &'a [u32; 128],
     owner: &'a [u8; 128],
     state: &'a [u8; 128],
-) -> Work
+) -> Decision
     requires { ⌜ Table (now iid) (now owner) links × AskFits links (now iid) ask ⌝ }
-    ensures { λ w. ⌜ DecidesOn (AskColumns links (now (aspid .entry)) (now (up .entry)) (now (member .entry)) (now (active .entry)) (now (mode .entry)) (now (iid .entry)) (now (owner .entry)) (now (state .entry))) (λ g. askDeed g (now (msg .entry)) ask) w ⌝ }
+    ensures { λ w. ⌜ DecidesOn (AskColumns links (now (aspid .entry)) (now (up .entry)) (now (member .entry)) (now (active .entry)) (now (mode .entry)) (now (iid .entry)) (now (owner .entry)) (now (state .entry))) (λ g. askEffect g (now (msg .entry)) ask) w ⌝ }
 {
     match ask {
         Ask::Up(p, r) => asps::up_work(aspid, member, active, p, r),
@@ -53,9 +53,9 @@ fn decided<'a>(
 }
 
 // The actions that come first, one after the other.
-fn say(w: Work, words: &mut [u32]) -> usize
+fn say(w: Decision, words: &mut [u32]) -> usize
     requires { ⌜ 8 ≤ length (now words) ⌝ }
-    ensures { λ r. ⌜ Written (now (words .entry)) 0 (given w) (now (words .exit)) r ⌝ }
+    ensures { λ r. ⌜ Written (now (words .entry)) 0 (firstActions w) (now (words .exit)) r ⌝ }
 {
     let n = w.count;
     let first = w.first;
@@ -65,16 +65,16 @@ fn say(w: Work, words: &mut [u32]) -> usize
 }
 
 // The first action, to each ASP of `who`.
-fn spread(w: Work, words: &mut [u32]) -> usize
+fn spread(w: Decision, words: &mut [u32]) -> usize
     requires { ⌜ 64 ≤ length (now words) ⌝ }
     ensures { λ r. ⌜ Written (now (words .entry)) 0 (spread w) (now (words .exit)) r ⌝ }
 {
     let who = w.who;
     let o = w.first;
-    action::to_all(who, o.kind, o.subject, o.value, words, 0)
+    action::to_all(who, o.classtype, o.subject, o.value, words, 0)
 }
 
-fn first(w: Work, words: &mut [u32]) -> usize
+fn first(w: Decision, words: &mut [u32]) -> usize
     requires { ⌜ 64 ≤ length (now words) ⌝ }
     ensures { λ r. ⌜ Written (now (words .entry)) 0 (firstOf w) (now (words .exit)) r ⌝ }
 {
@@ -86,7 +86,7 @@ fn first(w: Work, words: &mut [u32]) -> usize
 
 // The actions are written, and the columns of ASPs and ASes are those after it.
 fn enact<'a>(
-    w: Work,
+    w: Decision,
     up: &mut [u8; 16],
     member: &'a [u8; 256],
     mode: &'a [u8; 16],
@@ -95,7 +95,7 @@ fn enact<'a>(
     words: &mut [u32],
 ) -> usize
     requires { ⌜ (1032 ≤ length (now words)) × (aspOf (w .change) < 16) × (length (now up) ≡ 16) × (length (now active) ≡ 256) × (length (now waiting) ≡ 16) ⌝ }
-    ensures { λ r. ⌜ EnactedOn (AsesColumns (now (up .entry)) (now (member .entry)) (now (active .entry)) (now (mode .entry)) (now (waiting .entry))) (deedIn w) (now (words .entry)) (now (up .exit)) (now (active .exit)) (now (waiting .exit)) (now (words .exit)) r ⌝ }
+    ensures { λ r. ⌜ EnactedOn (AsesColumns (now (up .entry)) (now (member .entry)) (now (active .entry)) (now (mode .entry)) (now (waiting .entry))) (effectIn w) (now (words .entry)) (now (up .exit)) (now (active .exit)) (now (waiting .exit)) (now (words .exit)) r ⌝ }
 {
     let n = first(w, words);
     if w.what == 2 {
@@ -109,9 +109,9 @@ fn enact<'a>(
 }
 
 // The links' states are those after it.
-fn settle(w: Work, state: &mut [u8; 128])
+fn settle(w: Decision, state: &mut [u8; 128])
     requires { ⌜ (w .link < 128) × (length (now state) ≡ 128) ⌝ }
-    ensures { λ _. ⌜ now (state .exit) ≡ linkAfter (deedIn w) (now (state .entry)) ⌝ }
+    ensures { λ _. ⌜ now (state .exit) ≡ linkAfter (effectIn w) (now (state .entry)) ⌝ }
 {
     if (w.what == 1) | (3 < w.what) {
         let l = w.link;
@@ -131,7 +131,7 @@ pub extern "C" fn m2ua_event(
     msg: &[u8],
     words: &mut [u32],
 ) -> Outcome
-    ensures { λ r. ⌜ Handed g (event (happened kind i (now (msg .entry))) (now (words .entry))) (now (words .entry)) (now (words .exit)) r ⌝ }
+    ensures { λ r. ⌜ MeetsRules g (event (happened kind i (now (msg .entry))) (now (words .entry))) (now (words .entry)) (now (words .exit)) r ⌝ }
 {
     let mut g = g;
     let ask = ask::asked(kind, i, msg);

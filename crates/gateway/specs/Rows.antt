@@ -9,7 +9,7 @@ use native.Mathlib.Decide.{decLt}
 use lib.Dec.{eqb, leb, ltb}
 use borrow.Author.Tests.{lt-ltb, le-ltb, eqb-true}
 use Rattle.laws.specs.Below.{allBelow, all-at, all-of}
-use Rattle.laws.specs.Tab.{col, on}
+use Rattle.laws.specs.Columns.{numberAt, isSet}
 use Rattle.laws.specs.Every.{and-left, and-right, and-both, same-truth}
 use Rattle.gateway.specs.Sound.{pair, blankFrom, flagIf, memberAt, activeAt, soundRow, activeIn, modeAt, waitingAt, overrideAt, soundAs, soundAses}
 use Rattle.gateway.specs.Laws.{as-parts}
@@ -17,7 +17,7 @@ use Rattle.gateway.specs.Laws.{as-parts}
 -- the row of AS a, where inside says whether it may have members
 unfoldable pub rowIf : List ℕ → List ℕ → List ℕ → ℕ → Bool → ℕ → Bool
 rowIf up member active asps inside a =
-    allBelow (λ q. flagIf (col member (pair a q)) (ltb q asps && inside) && activeAt up member active a q) 16
+    allBelow (λ q. flagIf (numberAt member (pair a q)) (ltb q asps && inside) && activeAt up member active a q) 16
 
 -- ---- laws
 
@@ -27,26 +27,26 @@ and-none false = refl
 
 -- an AS of the plan without a mode is not sound: so whether it has one may stand for whether it is the plan's
 pub as-inside : (up member active mode waiting : List ℕ) (asps ases a : ℕ) → a < ases
-    → (rowIf up member active asps (not (eqb (col mode a) 0)) a && ((modeAt (col mode a) (ltb a ases) && waitingAt (col waiting a) (activeIn active a) (not (eqb (col mode a) 0))) && overrideAt (col mode a) (activeIn active a)))
+    → (rowIf up member active asps (not (eqb (numberAt mode a) 0)) a && ((modeAt (numberAt mode a) (ltb a ases) && waitingAt (numberAt waiting a) (activeIn active a) (not (eqb (numberAt mode a) 0))) && overrideAt (numberAt mode a) (activeIn active a)))
     ≡ soundAs up member active mode waiting asps ases a
 unfolding soundAs soundRow memberAt rowIf modeAt waitingAt
-as-inside up member active mode waiting asps ases a b = go (eqb (col mode a) 0) refl
+as-inside up member active mode waiting asps ases a b = go (eqb (numberAt mode a) 0) refl
   where
-    go : (u : Bool) → eqb (col mode a) 0 ≡ u
-        → (rowIf up member active asps (not u) a && ((modeAt (col mode a) (ltb a ases) && waitingAt (col waiting a) (activeIn active a) (not u)) && overrideAt (col mode a) (activeIn active a)))
+    go : (u : Bool) → eqb (numberAt mode a) 0 ≡ u
+        → (rowIf up member active asps (not u) a && ((modeAt (numberAt mode a) (ltb a ases) && waitingAt (numberAt waiting a) (activeIn active a) (not u)) && overrideAt (numberAt mode a) (activeIn active a)))
         ≡ soundAs up member active mode waiting asps ases a
-    go true e = rw (lt-ltb a ases b, eqb-true (col mode a) 0 e) (and-none (rowIf up member active asps false a) ∙ sym (and-none (rowIf up member active asps true a)))
+    go true e = rw (lt-ltb a ases b, eqb-true (numberAt mode a) 0 e) (and-none (rowIf up member active asps false a) ∙ sym (and-none (rowIf up member active asps true a)))
     go false e = rw (lt-ltb a ases b)
 
-blank-at : (c : List ℕ) (n end : ℕ) → blankFrom c n end ≡ true → (i : ℕ) → n ≤ i → i < end → eqb (col c i) 0 ≡ true
+blank-at : (c : List ℕ) (n end : ℕ) → blankFrom c n end ≡ true → (i : ℕ) → n ≤ i → i < end → eqb (numberAt c i) 0 ≡ true
 unfolding blankFrom
-blank-at c n end h i b d = rw (le-ltb i n b) at (all-at (λ i. ltb i n || eqb (col c i) 0) end h i d)
+blank-at c n end h i b d = rw (le-ltb i n b) at (all-at (λ i. ltb i n || eqb (numberAt c i) 0) end h i d)
 
-blank-of : (c : List ℕ) (n end : ℕ) → ((i : ℕ) → n ≤ i → i < end → eqb (col c i) 0 ≡ true) → blankFrom c n end ≡ true
+blank-of : (c : List ℕ) (n end : ℕ) → ((i : ℕ) → n ≤ i → i < end → eqb (numberAt c i) 0 ≡ true) → blankFrom c n end ≡ true
 unfolding blankFrom
-blank-of c n end f = all-of (λ i. ltb i n || eqb (col c i) 0) end (λ i b. go i b (decLt i n))
+blank-of c n end f = all-of (λ i. ltb i n || eqb (numberAt c i) 0) end (λ i b. go i b (decLt i n))
   where
-    go : (i : ℕ) → i < end → Dec (i < n) → (ltb i n || eqb (col c i) 0) ≡ true
+    go : (i : ℕ) → i < end → Dec (i < n) → (ltb i n || eqb (numberAt c i) 0) ≡ true
     go i b (yes z) = rw (lt-ltb i n z)
     go i b (no z) = rw (le-ltb i n (omega arith)) (f i (omega arith) b)
 
@@ -59,7 +59,7 @@ flag-none x b e h = go (eqb x 0) (eqb x 1) (rw e at h)
     go false true h = absurd (false≢true h)
     go false false h = absurd (false≢true h)
 
-at-pair : (c : List ℕ) (i : ℕ) → eqb (col c (pair (i / 16) (i - i / 16 * 16))) 0 ≡ true → eqb (col c i) 0 ≡ true
+at-pair : (c : List ℕ) (i : ℕ) → eqb (numberAt c (pair (i / 16) (i - i / 16 * 16))) 0 ≡ true → eqb (numberAt c i) 0 ≡ true
 at-pair c i h = let e : i / 16 * 16 + (i - i / 16 * 16) ≡ i = omega arith in rw e at h
 
 module _ (up member active mode waiting : List ℕ) (asps ases : ℕ) where
@@ -68,16 +68,16 @@ module _ (up member active mode waiting : List ℕ) (asps ases : ℕ) where
 
   -- what an AS beyond the plan's holds
   record Blank (a : ℕ) : Type 0 where
-    nobody : (q : ℕ) → q < 16 → eqb (col member (pair a q)) 0 ≡ true
-    idle : (q : ℕ) → q < 16 → eqb (col active (pair a q)) 0 ≡ true
-    no-mode : eqb (col mode a) 0 ≡ true
-    no-wait : eqb (col waiting a) 0 ≡ true
+    nobody : (q : ℕ) → q < 16 → eqb (numberAt member (pair a q)) 0 ≡ true
+    idle : (q : ℕ) → q < 16 → eqb (numberAt active (pair a q)) 0 ≡ true
+    no-mode : eqb (numberAt mode a) 0 ≡ true
+    no-wait : eqb (numberAt waiting a) 0 ≡ true
 
   beyond-sound : (a : ℕ) → ases ≤ a → Blank a → sound a ≡ true
   unfolding soundAs soundRow memberAt activeAt modeAt waitingAt overrideAt
   beyond-sound a b h =
       and-both _ _ (all-of _ 16 (λ q c. rw (h .nobody q c, h .idle q c)))
-      (rw (le-ltb a ases b, h .no-wait, eqb-true (col mode a) 0 (h .no-mode)))
+      (rw (le-ltb a ases b, h .no-wait, eqb-true (numberAt mode a) 0 (h .no-mode)))
 
   beyond-blank : (a : ℕ) → ases ≤ a → sound a ≡ true → Blank a
   unfolding soundRow memberAt activeAt modeAt waitingAt
@@ -85,12 +85,12 @@ module _ (up member active mode waiting : List ℕ) (asps ases : ℕ) where
       let s = as-parts up member active mode waiting asps ases a h in
       let out : ltb a ases ≡ false = le-ltb a ases b in
       let both = all-at (λ q. memberAt member asps ases a q && activeAt up member active a q) 16 (s .row) in
-      let none : (q : ℕ) → q < 16 → eqb (col member (pair a q)) 0 ≡ true = λ q c. flag-none (col member (pair a q)) (ltb q asps && ltb a ases) (rw out (and-none (ltb q asps))) (and-left (memberAt member asps ases a q) (activeAt up member active a q) (both q c)) in
+      let none : (q : ℕ) → q < 16 → eqb (numberAt member (pair a q)) 0 ≡ true = λ q c. flag-none (numberAt member (pair a q)) (ltb q asps && ltb a ases) (rw out (and-none (ltb q asps))) (and-left (memberAt member asps ases a q) (activeAt up member active a q) (both q c)) in
       record {
         nobody = none;
-        idle = λ q c. flag-none (col active (pair a q)) (on member (pair a q) && on up q) (rw (eqb-true (col member (pair a q)) 0 (none q c))) (and-right (memberAt member asps ases a q) (activeAt up member active a q) (both q c));
+        idle = λ q c. flag-none (numberAt active (pair a q)) (isSet member (pair a q) && isSet up q) (rw (eqb-true (numberAt member (pair a q)) 0 (none q c))) (and-right (memberAt member asps ases a q) (activeAt up member active a q) (both q c));
         no-mode = rw out at (s .traffic);
-        no-wait = flag-none (col waiting a) (ltb a ases && eqb (activeIn active a) 0) (rw out) (s .idle);
+        no-wait = flag-none (numberAt waiting a) (ltb a ases && eqb (activeIn active a) 0) (rw out) (s .idle);
       }
 
   row-sound : allBelow sound ases ≡ true → blankFrom member (ases * 16) 256 ≡ true → blankFrom active (ases * 16) 256 ≡ true → blankFrom mode ases 16 ≡ true → blankFrom waiting ases 16 ≡ true

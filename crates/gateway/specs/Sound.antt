@@ -6,7 +6,7 @@ use mathlib.Core.List.{List}
 use lib.ListN.{replicate}
 use lib.Dec.{eqb, leb, ltb}
 use Rattle.laws.specs.Below.{allBelow, countBelow}
-use Rattle.laws.specs.Tab.{col, on}
+use Rattle.laws.specs.Columns.{numberAt, isSet}
 use Rattle.gateway.specs.declared.Gateway.{Gateway}
 
 -- The places of each table, and the largest state of a link: 0 idle, 1 starting, 2 in service, 3 stopping.
@@ -33,7 +33,7 @@ countsIn asps ases links =
 
 -- Places that the plan does not use hold 0: those from n up to an end.
 unfoldable pub blankFrom : List ℕ → ℕ → ℕ → Bool
-blankFrom c n end = allBelow (λ i. ltb i n || eqb (col c i) 0) end
+blankFrom c n end = allBelow (λ i. ltb i n || eqb (numberAt c i) 0) end
 
 -- A flag is 0 or 1 (Rule 5.6), and 1 only where b holds.
 abbrev pub flagIf : ℕ → Bool → Bool
@@ -43,11 +43,11 @@ flagIf x b = eqb x 0 || (eqb x 1 && b)
 
 -- the identifier of place p differs from those before it
 unfoldable pub differs : List ℕ → ℕ → Bool
-differs aspid p = allBelow (λ q. not (eqb (col aspid q) (col aspid p))) p
+differs aspid p = allBelow (λ q. not (eqb (numberAt aspid q) (numberAt aspid p))) p
 
 -- only an ASP of the plan is up
 unfoldable pub upAt : List ℕ → ℕ → ℕ → Bool
-upAt up asps q = flagIf (col up q) (ltb q asps)
+upAt up asps q = flagIf (numberAt up q) (ltb q asps)
 
 unfoldable pub soundAsps : List ℕ → List ℕ → ℕ → Bool
 soundAsps aspid up asps =
@@ -57,11 +57,11 @@ soundAsps aspid up asps =
 
 -- a member is an ASP of the plan, in an AS of the plan (Rule 5.8)
 unfoldable pub memberAt : List ℕ → ℕ → ℕ → ℕ → ℕ → Bool
-memberAt member asps ases a q = flagIf (col member (pair a q)) (ltb q asps && ltb a ases)
+memberAt member asps ases a q = flagIf (numberAt member (pair a q)) (ltb q asps && ltb a ases)
 
 -- who is active is a member and is up (Rule 5.9)
 unfoldable pub activeAt : List ℕ → List ℕ → List ℕ → ℕ → ℕ → Bool
-activeAt up member active a q = flagIf (col active (pair a q)) (on member (pair a q) && on up q)
+activeAt up member active a q = flagIf (numberAt active (pair a q)) (isSet member (pair a q) && isSet up q)
 
 -- the members and the active members of AS a
 unfoldable pub soundRow : List ℕ → List ℕ → List ℕ → ℕ → ℕ → ℕ → Bool
@@ -70,7 +70,7 @@ soundRow up member active asps ases a =
 
 -- how many members of AS a are active
 unfoldable pub activeIn : List ℕ → ℕ → ℕ
-activeIn active a = countBelow (λ q. on active (pair a q)) aspPlaces
+activeIn active a = countBelow (λ q. isSet active (pair a q)) aspPlaces
 
 -- an AS of the plan has one of the three modes, another place none (Rule 5.10)
 unfoldable pub modeAt : ℕ → Bool → Bool
@@ -87,8 +87,8 @@ overrideAt mode n = not (eqb mode 1) || leb n 1
 unfoldable pub soundAs : List ℕ → List ℕ → List ℕ → List ℕ → List ℕ → ℕ → ℕ → ℕ → Bool
 soundAs up member active mode waiting asps ases a =
     soundRow up member active asps ases a
-    && ((modeAt (col mode a) (ltb a ases) && waitingAt (col waiting a) (activeIn active a) (ltb a ases))
-    && overrideAt (col mode a) (activeIn active a))
+    && ((modeAt (numberAt mode a) (ltb a ases) && waitingAt (numberAt waiting a) (activeIn active a) (ltb a ases))
+    && overrideAt (numberAt mode a) (activeIn active a))
 
 unfoldable pub soundAses : List ℕ → List ℕ → List ℕ → List ℕ → List ℕ → ℕ → ℕ → Bool
 soundAses up member active mode waiting asps ases = allBelow (soundAs up member active mode waiting asps ases) asPlaces
@@ -97,11 +97,11 @@ soundAses up member active mode waiting asps ases = allBelow (soundAs up member 
 
 -- each identifier is below the next
 unfoldable pub ascends : List ℕ → ℕ → Bool
-ascends iid links = allBelow (λ l. ltb (col iid l) (col iid (l + 1))) (links - 1)
+ascends iid links = allBelow (λ l. ltb (numberAt iid l) (numberAt iid (l + 1))) (links - 1)
 
 -- the first n places hold numbers below a bound
 unfoldable pub allUnder : List ℕ → ℕ → ℕ → Bool
-allUnder c most n = allBelow (λ l. ltb (col c l) most) n
+allUnder c most n = allBelow (λ l. ltb (numberAt c l) most) n
 
 unfoldable pub soundLinks : List ℕ → List ℕ → List ℕ → ℕ → ℕ → Bool
 soundLinks iid owner state ases links =
@@ -111,17 +111,17 @@ soundLinks iid owner state ases links =
 -- ---- the whole
 
 -- A new column has a condition of its own, which joins as one more conjunct.
-unfoldable pub consistent : Gateway → Bool
-consistent g =
+unfoldable pub isSound : Gateway → Bool
+isSound g =
     countsIn (g .asps) (g .ases) (g .links)
     && (soundAsps (g .aspid) (g .up) (g .asps)
     && (soundAses (g .up) (g .member) (g .active) (g .mode) (g .waiting) (g .asps) (g .ases)
     && soundLinks (g .iid) (g .owner) (g .state) (g .ases) (g .links)))
 
 -- the same of the columns that a state lends
-abbrev pub consistentOf : ℕ → ℕ → ℕ → List ℕ → List ℕ → List ℕ → List ℕ → List ℕ → List ℕ → List ℕ → List ℕ → List ℕ → Bool
-consistentOf asps ases links aspid up member active mode waiting iid owner state =
-    consistent
+abbrev pub isSoundOf : ℕ → ℕ → ℕ → List ℕ → List ℕ → List ℕ → List ℕ → List ℕ → List ℕ → List ℕ → List ℕ → List ℕ → Bool
+isSoundOf asps ases links aspid up member active mode waiting iid owner state =
+    isSound
     (record {
       asps = asps;
       ases = ases;

@@ -5,7 +5,7 @@ ghost use Prim.Native.Nat.{_<_, _≤_};
 ghost use lib.ListN.{length};
 ghost use Rattle.laws.specs.Below.{one, allBelow};
 ghost use Rattle.gateway.specs.Rows.{rowIf};
-ghost use Rattle.gateway.specs.Sound.{countsIn, blankFrom, differs, upAt, soundAsps, soundRow, activeIn, modeAt, waitingAt, overrideAt, soundAs, soundAses, ascends, allUnder, soundLinks, consistentOf, consistent, zeros};
+ghost use Rattle.gateway.specs.Sound.{countsIn, blankFrom, differs, upAt, soundAsps, soundRow, activeIn, modeAt, waitingAt, overrideAt, soundAs, soundAses, ascends, allUnder, soundLinks, isSoundOf, isSound, zeros};
 
 // Index of a pair: as * 16 + asp. Flags are 0 or 1. Traffic modes: 1 override, 2 load-share, 3 broadcast. States of a link:
 // 0 idle, 1 starting, 2 in service, 3 stopping. `iid` is the interface identifier, `waiting` that the recovery time runs.
@@ -263,7 +263,7 @@ pub fn links_ok<'a>(
 }
 
 // The whole of lent columns, for callers that hold the state and would copy it by a call.
-pub fn consistent_of<'a>(
+pub fn sound_of<'a>(
     asps: u8,
     ases: u8,
     links: u8,
@@ -277,7 +277,7 @@ pub fn consistent_of<'a>(
     owner: &'a [u8; 128],
     state: &'a [u8; 128],
 ) -> bool
-    ensures { λ r. ⌜ r ≡ consistentOf asps ases links (now (aspid .entry)) (now (up .entry)) (now (member .entry)) (now (active .entry)) (now (mode .entry)) (now (waiting .entry)) (now (iid .entry)) (now (owner .entry)) (now (state .entry)) ⌝ }
+    ensures { λ r. ⌜ r ≡ isSoundOf asps ases links (now (aspid .entry)) (now (up .entry)) (now (member .entry)) (now (active .entry)) (now (mode .entry)) (now (waiting .entry)) (now (iid .entry)) (now (owner .entry)) (now (state .entry)) ⌝ }
 {
     let c = counts_ok(asps, ases, links);
     let x = asps_ok(asps, aspid, up);
@@ -307,13 +307,13 @@ impl Gateway {
         }
     }
 
-    pub fn is_consistent(self) -> bool
-        ensures { λ r. ⌜ r ≡ consistent self ⌝ }
+    pub fn is_sound(self) -> bool
+        ensures { λ r. ⌜ r ≡ isSound self ⌝ }
     {
         let asps = self.asps;
         let ases = self.ases;
         let links = self.links;
-        consistent_of(
+        sound_of(
             asps,
             ases,
             links,

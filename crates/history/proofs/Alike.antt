@@ -11,26 +11,26 @@ use borrow.Author.Tests.{ltb-true, eq-eqb, not-false}
 use Rattle.laws.specs.Below.{any-ext, countBelow}
 use Rattle.laws.specs.Count.{count-ext}
 use Rattle.laws.specs.Every.{and-left, and-right, and-both}
-use Rattle.laws.specs.Tab.{on, col, tab-ext}
+use Rattle.laws.specs.Columns.{isSet, numberAt, tabulate-ext}
 use Rattle.wire.specs.Walk.{Par, walk}
 use Rattle.message.specs.Verdict.{verdict}
 use Rattle.message.specs.Meaning.{readingOf}
 use Rattle.message.specs.declared.Reading.{Reading}
-use Rattle.gateway.specs.Sound.{pair, consistent}
+use Rattle.gateway.specs.Sound.{pair, isSound}
 use Rattle.gateway.specs.Sound as sound
 use Rattle.gateway.specs.Laws.{active-is-member, counts-within}
 use Rattle.gateway.specs.declared.Gateway.{Gateway}
 use Rattle.lookup.specs.Servers.{receives, before}
 use Rattle.ranges.specs.declared.Refused.{Refused}
-use Rattle.server.specs.declared.Change.the-variants.{Rise, On}
+use Rattle.server.specs.declared.Change.the-variants.{AspUp, Activate}
 use Rattle.action.specs.Words.{toAll}
 use Rattle.server.specs.Record.{some, recordOf}
-use Rattle.rules.specs.Event.{Kind, message, lost, recovery, linkUp, linkDown, linkMessage}
+use Rattle.rules.specs.Event.{EventKind, message, lost, recovery, linkUp, linkDown, linkMessage}
 use Rattle.rules.specs.Identifiers.{firstRefused, ownsNamed, ownersNamed, isKnown, linkOf, ownerAt, isMember, isActive}
-use Rattle.rules.specs.Deed.{Deed, say, turn, change, sent, error, error2}
-use Rattle.rules.specs.Asp.{asesOf, activeIn, upDeed, downDeed, lostDeed, otherMode, activeDeed, trafficDeed}
-use Rattle.rules.specs.Link.{linkWork, classSixDeed, recipientsOf, toRecipients, linkUpDeed, linkDownDeed, linkMessageDeed, starting, idle, inService, stopping}
-use Rattle.rules.specs.Rules.{isError, typeOf, fromAsp, fromLink, readDeed, messageDeed, deedOf, inPlan}
+use Rattle.rules.specs.Effect.{Effect, send, setLink, changeIn, oneAction, error, error2}
+use Rattle.rules.specs.Asp.{asesOf, activeIn, upEffect, downEffect, lostEffect, otherMode, activeEffect, trafficEffect}
+use Rattle.rules.specs.Link.{linkEffect, classSixEffect, recipientsOf, toRecipients, linkUpEffect, linkDownEffect, linkMessageEffect, starting, idle, inService, stopping}
+use Rattle.rules.specs.Rules.{isError, classTypeOf, fromAsp, fromLink, readEffect, messageEffect, effectOf, inPlan}
 use Rattle.rules.specs.Reach.{ownsId, readReach, messageReach, kindReach, fromController}
 use Rattle.history.specs.Local.{false-of}
 use Rattle.history.proofs.Bits.{clash, cond-same, cond-both}
@@ -40,11 +40,11 @@ use Rattle.history.proofs.Within.{Reaches, known-below, owner-in, membe
 
 -- u, c, w, s are what g has, at an event's own controller and in the ASes of R
 pub record Alike (g : Gateway) (R own : ℕ → Bool) (u c w s : List ℕ) : Type 0 where
-  pub mine : (q : ℕ) → q < 16 → own q ≡ true → col u q ≡ col (g .up) q
-  pub ups : (a q : ℕ) → a < 16 → q < 16 → R a ≡ true → isMember g a q ≡ true → col u q ≡ col (g .up) q
-  pub acts : (a q : ℕ) → a < 16 → q < 16 → R a ≡ true → col c (pair a q) ≡ col (g .active) (pair a q)
-  pub waits : (a : ℕ) → a < 16 → R a ≡ true → col w a ≡ col (g .waiting) a
-  pub lines : (l : ℕ) → R (ownerAt g l) ≡ true → col s l ≡ col (g .state) l
+  pub mine : (q : ℕ) → q < 16 → own q ≡ true → numberAt u q ≡ numberAt (g .up) q
+  pub ups : (a q : ℕ) → a < 16 → q < 16 → R a ≡ true → isMember g a q ≡ true → numberAt u q ≡ numberAt (g .up) q
+  pub acts : (a q : ℕ) → a < 16 → q < 16 → R a ≡ true → numberAt c (pair a q) ≡ numberAt (g .active) (pair a q)
+  pub waits : (a : ℕ) → a < 16 → R a ≡ true → numberAt w a ≡ numberAt (g .waiting) a
+  pub lines : (l : ℕ) → R (ownerAt g l) ≡ true → numberAt s l ≡ numberAt (g .state) l
 
 flag : {x y : ℕ} → x ≡ y → eqb x 1 ≡ eqb y 1
 flag e = ap (λ (x : ℕ). eqb x 1) e
@@ -64,7 +64,7 @@ module _ (g : Gateway) (u c w s : List ℕ) where
 
   owners-plan : (ps : List Par) → ownersNamed (dyn g u c w s) ps ≡ ownersNamed g ps
   unfolding ownersNamed
-  owners-plan ps = tab-ext false 16 _ _ (λ a b. owns-plan ps a)
+  owners-plan ps = tabulate-ext false 16 _ _ (λ a b. owns-plan ps a)
 
   known-plan : (x : ℕ) → isKnown (dyn g u c w s) x ≡ isKnown g x
   unfolding isKnown
@@ -78,11 +78,11 @@ module _ (g : Gateway) (u c w s : List ℕ) where
   unfolding otherMode
   other-plan mode named = refl
 
-  active-plan : (p mode : ℕ) (n : List Bool) → activeDeed (dyn g u c w s) p mode n ≡ activeDeed g p mode n
-  unfolding activeDeed
-  active-plan p mode n = ap (λ (t : Bool). cond t (say (error p 5)) (change (sent p 1027 0 0) (On p) n)) (other-plan mode n)
+  active-plan : (p mode : ℕ) (n : List Bool) → activeEffect (dyn g u c w s) p mode n ≡ activeEffect g p mode n
+  unfolding activeEffect
+  active-plan p mode n = ap (λ (t : Bool). cond t (send (error p 5)) (changeIn (oneAction p 1027 0 0) (Activate p) n)) (other-plan mode n)
 
-  pub in-plan : (k : Kind) → inPlan (dyn g u c w s) k ≡ inPlan g k
+  pub in-plan : (k : EventKind) → inPlan (dyn g u c w s) k ≡ inPlan g k
   unfolding isKnown
   in-plan (message p m) = refl
   in-plan (lost p) = refl
@@ -91,7 +91,7 @@ module _ (g : Gateway) (u c w s : List ℕ) where
   in-plan (linkDown l) = refl
   in-plan (linkMessage m) = refl
 
-  pub reach-plan : (k : Kind) (a : ℕ) → kindReach (dyn g u c w s) k a ≡ kindReach g k a
+  pub reach-plan : (k : EventKind) (a : ℕ) → kindReach (dyn g u c w s) k a ≡ kindReach g k a
   unfolding isKnown linkOf ownsId messageReach readReach
   reach-plan (message p m) a = rw (owns-plan (walk m 8 .pars) a)
   reach-plan (lost p) a = refl
@@ -123,94 +123,94 @@ record-alike g R own u c w s k a b r =
 
 -- ---- what hangs on the rest
 
-module _ (g : Gateway) (u c w s : List ℕ) (ok : consistent g ≡ true) (ok′ : consistent (dyn g u c w s) ≡ true) where
+module _ (g : Gateway) (u c w s : List ℕ) (ok : isSound g ≡ true) (ok′ : isSound (dyn g u c w s) ≡ true) where
   -- an ASP is active in its own ASes alone
   active-alike : (R own : ℕ → Bool) → Alike g R own u c w s → (p : ℕ) → p < 16 → ((a : ℕ) → a < 16 → isMember g a p ≡ true → R a ≡ true) → some (activeIn (dyn g u c w s) p) ≡ some (activeIn g p)
   unfolding some
   active-alike R own k p b h =
       any-ext _ _ 16 (λ a d. column-at c p a d ∙ go a d (isMember g a p) refl ∙ sym (column-at (g .active) p a d))
     where
-      go : (a : ℕ) → a < 16 → (t : Bool) → isMember g a p ≡ t → on c (pair a p) ≡ on (g .active) (pair a p)
+      go : (a : ℕ) → a < 16 → (t : Bool) → isMember g a p ≡ t → isSet c (pair a p) ≡ isSet (g .active) (pair a p)
       go a d true m = flag (k .acts a p d b (h a d m))
       go a d false m =
-          false-of (on c (pair a p)) (λ e. clash (isMember g a p) m (active-is-member (dyn g u c w s) ok′ a p d b e .0))
-          ∙ sym (false-of (on (g .active) (pair a p)) (λ e. clash (isMember g a p) m (active-is-member g ok a p d b e .0)))
+          false-of (isSet c (pair a p)) (λ e. clash (isMember g a p) m (active-is-member (dyn g u c w s) ok′ a p d b e .0))
+          ∙ sym (false-of (isSet (g .active) (pair a p)) (λ e. clash (isMember g a p) m (active-is-member g ok a p d b e .0)))
 
   -- the recipients of a link reached
   recipients-alike : (R own : ℕ → Bool) → Alike g R own u c w s → (l : ℕ) → ownerAt g l < 16 → R (ownerAt g l) ≡ true → recipientsOf (dyn g u c w s) l ≡ recipientsOf g l
   unfolding recipientsOf receives before sound.activeIn
   recipients-alike R own k l b r =
-      tab-ext false 16 _ _
-      (λ q d j. at-q q d j && (not (eqb (col (g .mode) (ownerAt g l)) 2) || eqb (below q d j) (col (g .iid) l % every j)))
+      tabulate-ext false 16 _ _
+      (λ q d j. at-q q d j && (not (eqb (numberAt (g .mode) (ownerAt g l)) 2) || eqb (below q d j) (numberAt (g .iid) l % every j)))
     where
-      at-q : (q : ℕ) → q < 16 → on c (pair (ownerAt g l) q) ≡ on (g .active) (pair (ownerAt g l) q)
+      at-q : (q : ℕ) → q < 16 → isSet c (pair (ownerAt g l) q) ≡ isSet (g .active) (pair (ownerAt g l) q)
       at-q q d = flag (k .acts (ownerAt g l) q b d r)
 
-      below : (q : ℕ) → q < 16 → countBelow (λ i. on c (pair (ownerAt g l) i)) q ≡ countBelow (λ i. on (g .active) (pair (ownerAt g l) i)) q
+      below : (q : ℕ) → q < 16 → countBelow (λ i. isSet c (pair (ownerAt g l) i)) q ≡ countBelow (λ i. isSet (g .active) (pair (ownerAt g l) i)) q
       below q d = count-ext _ _ q (λ i e. at-q i (omega arith))
 
-      every : countBelow (λ i. on c (pair (ownerAt g l) i)) 16 ≡ countBelow (λ i. on (g .active) (pair (ownerAt g l) i)) 16
+      every : countBelow (λ i. isSet c (pair (ownerAt g l) i)) 16 ≡ countBelow (λ i. isSet (g .active) (pair (ownerAt g l) i)) 16
       every = count-ext _ _ 16 at-q
 
   told-alike : (R own : ℕ → Bool) → Alike g R own u c w s → (l n : ℕ) → ownerAt g l < 16 → R (ownerAt g l) ≡ true → toRecipients (dyn g u c w s) l n ≡ toRecipients g l n
   unfolding toRecipients
-  told-alike R own k l n b r = ap (λ (x : List Bool). toAll x n (col (g .iid) l) 0) (recipients-alike R own k l b r)
+  told-alike R own k l n b r = ap (λ (x : List Bool). toAll x n (numberAt (g .iid) l) 0) (recipients-alike R own k l b r)
 
   owner-16 : (l : ℕ) → l < g .links → ownerAt g l < 16
   owner-16 l b = omega (arith, counts-within g ok .ases, ltb-true (ownerAt g l) (g .ases) (owner-in g ok l b))
 
   module _ (p : ℕ) (b : p < g .asps) where
-    up-alike : (R : ℕ → Bool) → Alike g R (eqb p) u c w s → ((a : ℕ) → a < 16 → isMember g a p ≡ true → R a ≡ true) → (r : Reading) → upDeed (dyn g u c w s) p r ≡ upDeed g p r
-    unfolding upDeed
+    up-alike : (R : ℕ → Bool) → Alike g R (eqb p) u c w s → ((a : ℕ) → a < 16 → isMember g a p ≡ true → R a ≡ true) → (r : Reading) → upEffect (dyn g u c w s) p r ≡ upEffect g p r
+    unfolding upEffect
     up-alike R k h r =
-        cond-same (eqb (r .identified) 1 && not (eqb (r .aspid) (col (g .aspid) p))) (λ _. refl)
-        (λ _. ap (λ (t : Bool). change (sent p 772 0 0 ++ cond t (error p 6) []) (Rise p) (asesOf g p)) (active-alike R (eqb p) k p (asps-16 g ok p b) h))
+        cond-same (eqb (r .identified) 1 && not (eqb (r .aspid) (numberAt (g .aspid) p))) (λ _. refl)
+        (λ _. ap (λ (t : Bool). changeIn (oneAction p 772 0 0 ++ cond t (error p 6) []) (AspUp p) (asesOf g p)) (active-alike R (eqb p) k p (asps-16 g ok p b) h))
 
-    mine-alike : (R : ℕ → Bool) → Alike g R (eqb p) u c w s → on u p ≡ on (g .up) p
+    mine-alike : (R : ℕ → Bool) → Alike g R (eqb p) u c w s → isSet u p ≡ isSet (g .up) p
     mine-alike R k = flag (k .mine p (asps-16 g ok p b) (eq-eqb p p refl))
 
-    traffic-alike : (R : ℕ → Bool) → Alike g R (eqb p) u c w s → (r : Reading) (ps : List Par) (act′ act : List Bool → Deed) → ((n : List Bool) → act′ n ≡ act n) → trafficDeed (dyn g u c w s) p r ps act′ ≡ trafficDeed g p r ps act
-    unfolding trafficDeed
+    traffic-alike : (R : ℕ → Bool) → Alike g R (eqb p) u c w s → (r : Reading) (ps : List Par) (act′ act : List Bool → Effect) → ((n : List Bool) → act′ n ≡ act n) → trafficEffect (dyn g u c w s) p r ps act′ ≡ trafficEffect g p r ps act
+    unfolding trafficEffect
     traffic-alike R k r ps act′ act h =
-        cond-both (not (on (g .up) p)) (ap not (mine-alike R k)) (λ _. refl)
+        cond-both (not (isSet (g .up) p)) (ap not (mine-alike R k)) (λ _. refl)
         (λ _. cond-same (eqb (r .ids) 1)
         (λ _. cond-both (firstRefused g p ps .found) (ap (λ (x : Refused). x .found) (refused-plan g u c w s p ps))
-        (λ _. ap (λ (x : Refused). say (error2 p (x .id))) (refused-plan g u c w s p ps)) (λ _. ap act′ (owners-plan g u c w s ps) ∙ h (ownersNamed g ps)))
+        (λ _. ap (λ (x : Refused). send (error2 p (x .id))) (refused-plan g u c w s p ps)) (λ _. ap act′ (owners-plan g u c w s ps) ∙ h (ownersNamed g ps)))
         (λ _. cond-same (some (asesOf g p)) (λ _. h (asesOf g p)) (λ _. refl)))
 
-    six-alike : (R : ℕ → Bool) → Alike g R (eqb p) u c w s → (r : Reading) → (isKnown g (r .id) ≡ true → R (ownerAt g (linkOf g (r .id))) ≡ true) → classSixDeed (dyn g u c w s) p r ≡ classSixDeed g p r
-    unfolding classSixDeed isKnown linkOf
+    six-alike : (R : ℕ → Bool) → Alike g R (eqb p) u c w s → (r : Reading) → (isKnown g (r .id) ≡ true → R (ownerAt g (linkOf g (r .id))) ≡ true) → classSixEffect (dyn g u c w s) p r ≡ classSixEffect g p r
+    unfolding classSixEffect isKnown linkOf
     six-alike R k r h =
-        cond-both (not (on (g .up) p)) (ap not (mine-alike R k)) (λ _. refl)
+        cond-both (not (isSet (g .up) p)) (ap not (mine-alike R k)) (λ _. refl)
         (λ _. cond-same (not (isKnown g (r .id) && isMember g (ownerAt g (linkOf g (r .id))) p)) (λ _. refl)
         (λ n.
         let y = and-left (isKnown g (r .id)) _ (not-false (isKnown g (r .id) && isMember g (ownerAt g (linkOf g (r .id))) p) n) in
         let o = owner-16 (linkOf g (r .id)) (known-below g ok (r .id) y) in
         cond-both (not (isActive g (ownerAt g (linkOf g (r .id))) p)) (ap not (flag (k .acts (ownerAt g (linkOf g (r .id))) p o (asps-16 g ok p b) (h y))))
-        (λ _. refl) (λ _. ap (λ (x : ℕ). linkWork p (r .id) (linkOf g (r .id)) x r) (k .lines (linkOf g (r .id)) (h y)))))
+        (λ _. refl) (λ _. ap (λ (x : ℕ). linkEffect p (r .id) (linkOf g (r .id)) x r) (k .lines (linkOf g (r .id)) (h y)))))
 
-    read-alike : (m : List ℕ) (r : Reading) → Alike g (λ a. ltb a (g .ases) && readReach g p m r a) (eqb p) u c w s → readDeed (dyn g u c w s) p m r ≡ readDeed g p m r
-    unfolding readDeed downDeed
+    read-alike : (m : List ℕ) (r : Reading) → Alike g (λ a. ltb a (g .ases) && readReach g p m r a) (eqb p) u c w s → readEffect (dyn g u c w s) p m r ≡ readEffect g p m r
+    unfolding readEffect downEffect
     read-alike m r k =
-        cond-same (eqb (typeOf r) 769) (λ t. up-alike R k (λ a d e. and-both (ltb a (g .ases)) (readReach g p m r a) (member-in g ok p a b d e) (reach-up g ok p b m r a t e)) r)
-        (λ n₁. cond-same (eqb (typeOf r) 770) (λ _. refl)
-        (λ n₂. cond-same (eqb (typeOf r) 771) (λ _. refl)
-        (λ _. cond-same (eqb (typeOf r) 774) (λ _. refl)
-        (λ _. cond-same (eqb (typeOf r) 1025) (λ _. traffic-alike R k r (walk m 8 .pars) _ _ (active-plan g u c w s p (r .mode)))
-        (λ n₃. cond-same (eqb (typeOf r) 1026) (λ _. traffic-alike R k r (walk m 8 .pars) _ _ (λ n. refl))
-        (λ n₄. cond-same (eqb (r .class) 6 && fromAsp (r .kind))
+        cond-same (eqb (classTypeOf r) 769) (λ t. up-alike R k (λ a d e. and-both (ltb a (g .ases)) (readReach g p m r a) (member-in g ok p a b d e) (reach-up g ok p b m r a t e)) r)
+        (λ n₁. cond-same (eqb (classTypeOf r) 770) (λ _. refl)
+        (λ n₂. cond-same (eqb (classTypeOf r) 771) (λ _. refl)
+        (λ _. cond-same (eqb (classTypeOf r) 774) (λ _. refl)
+        (λ _. cond-same (eqb (classTypeOf r) 1025) (λ _. traffic-alike R k r (walk m 8 .pars) _ _ (active-plan g u c w s p (r .mode)))
+        (λ n₃. cond-same (eqb (classTypeOf r) 1026) (λ _. traffic-alike R k r (walk m 8 .pars) _ _ (λ n. refl))
+        (λ n₄. cond-same (eqb (r .class) 6 && fromAsp (r .msgtype))
         (λ t. six-alike R k r
         (λ y.
         let o = ownerAt g (linkOf g (r .id)) in
         and-both (ltb o (g .ases)) (readReach g p m r o) (owner-in g ok (linkOf g (r .id)) (known-below g ok (r .id) y))
-        (reach-six g ok p b m r o (neither (eqb (typeOf r) 769) (eqb (typeOf r) 770) n₁ n₂) (neither (eqb (typeOf r) 1025) (eqb (typeOf r) 1026) n₃ n₄) (and-left (eqb (r .class) 6) _ t) (owns-own g (r .id) y))))
+        (reach-six g ok p b m r o (neither (eqb (classTypeOf r) 769) (eqb (classTypeOf r) 770) n₁ n₂) (neither (eqb (classTypeOf r) 1025) (eqb (classTypeOf r) 1026) n₃ n₄) (and-left (eqb (r .class) 6) _ t) (owns-own g (r .id) y))))
         (λ _. refl)))))))
       where
         R : ℕ → Bool
         R = λ a. ltb a (g .ases) && readReach g p m r a
 
-    message-alike : (m : List ℕ) → Alike g (Reaches g (message p m)) (eqb p) u c w s → messageDeed (dyn g u c w s) p m ≡ messageDeed g p m
-    unfolding messageDeed messageReach
+    message-alike : (m : List ℕ) → Alike g (Reaches g (message p m)) (eqb p) u c w s → messageEffect (dyn g u c w s) p m ≡ messageEffect g p m
+    unfolding messageEffect messageReach
     message-alike m k =
         cond-same (isError m) (λ _. refl)
         (λ n. cond-same (eqb (verdict m) 0)
@@ -221,27 +221,27 @@ module _ (g : Gateway) (u c w s : List ℕ) (ok : consistent g ≡ true) (ok′ 
   link-reached : (l : ℕ) → l < g .links → (ltb (ownerAt g l) (g .ases) && eqb (ownerAt g l) (ownerAt g l)) ≡ true
   link-reached l b = and-both (ltb (ownerAt g l) (g .ases)) (eqb (ownerAt g l) (ownerAt g l)) (owner-in g ok l b) (eq-eqb (ownerAt g l) (ownerAt g l) refl)
 
-  pub deed-alike : (k : Kind) → inPlan g k ≡ true → Alike g (Reaches g k) (fromController k) u c w s → deedOf (dyn g u c w s) k ≡ deedOf g k
-  unfolding lostDeed linkUpDeed linkDownDeed linkMessageDeed
-  deed-alike (message p m) i h = message-alike p (ltb-true p (g .asps) i) m h
-  deed-alike (lost p) i h = refl
-  deed-alike (recovery a) i h = refl
-  deed-alike (linkUp l) i h =
+  pub effect-alike : (k : EventKind) → inPlan g k ≡ true → Alike g (Reaches g k) (fromController k) u c w s → effectOf (dyn g u c w s) k ≡ effectOf g k
+  unfolding lostEffect linkUpEffect linkDownEffect linkMessageEffect
+  effect-alike (message p m) i h = message-alike p (ltb-true p (g .asps) i) m h
+  effect-alike (lost p) i h = refl
+  effect-alike (recovery a) i h = refl
+  effect-alike (linkUp l) i h =
       let b = ltb-true l (g .links) i in
-      cond-both (eqb (col (g .state) l) starting) (ap (λ (x : ℕ). eqb x starting) (h .lines l (link-reached l b)))
-      (λ _. ap (turn l inService) (told-alike (Reaches g (linkUp l)) (λ q. false) h l 1539 (owner-16 l b) (link-reached l b))) (λ _. refl)
-  deed-alike (linkDown l) i h =
+      cond-both (eqb (numberAt (g .state) l) starting) (ap (λ (x : ℕ). eqb x starting) (h .lines l (link-reached l b)))
+      (λ _. ap (setLink l inService) (told-alike (Reaches g (linkUp l)) (λ q. false) h l 1539 (owner-16 l b) (link-reached l b))) (λ _. refl)
+  effect-alike (linkDown l) i h =
       let b = ltb-true l (g .links) i in
       let e = h .lines l (link-reached l b) in
-      cond-both (eqb (col (g .state) l) idle) (ap (λ (x : ℕ). eqb x idle) e) (λ _. refl)
-      (λ _. ap (λ (x : ℕ). turn l idle (toRecipients (dyn g u c w s) l (cond (eqb x stopping) 1541 1542))) e
-      ∙ ap (turn l idle) (told-alike (Reaches g (linkDown l)) (λ q. false) h l (cond (eqb (col (g .state) l) stopping) 1541 1542) (owner-16 l b) (link-reached l b)))
-  deed-alike (linkMessage m) i h =
+      cond-both (eqb (numberAt (g .state) l) idle) (ap (λ (x : ℕ). eqb x idle) e) (λ _. refl)
+      (λ _. ap (λ (x : ℕ). setLink l idle (toRecipients (dyn g u c w s) l (cond (eqb x stopping) 1541 1542))) e
+      ∙ ap (setLink l idle) (told-alike (Reaches g (linkDown l)) (λ q. false) h l (cond (eqb (numberAt (g .state) l) stopping) 1541 1542) (owner-16 l b) (link-reached l b)))
+  effect-alike (linkMessage m) i h =
       let x = readingOf m .id in
-      let y = and-right (fromLink (readingOf m .kind)) (isKnown g x) (and-right (eqb (readingOf m .class) 6) _ (and-right (eqb (verdict m) 0) _ i)) in
+      let y = and-right (fromLink (readingOf m .msgtype)) (isKnown g x) (and-right (eqb (readingOf m .class) 6) _ (and-right (eqb (verdict m) 0) _ i)) in
       let b = known-below g ok x y in
       let o = ownerAt g (linkOf g x) in
-      ap say
-      (ap (λ (l : ℕ). toRecipients (dyn g u c w s) l (readingOf m .class * 256 + readingOf m .kind)) (link-plan g u c w s x)
-      ∙ told-alike (Reaches g (linkMessage m)) (λ q. false) h (linkOf g x) (readingOf m .class * 256 + readingOf m .kind) (owner-16 (linkOf g x) b)
+      ap send
+      (ap (λ (l : ℕ). toRecipients (dyn g u c w s) l (readingOf m .class * 256 + readingOf m .msgtype)) (link-plan g u c w s x)
+      ∙ told-alike (Reaches g (linkMessage m)) (λ q. false) h (linkOf g x) (readingOf m .class * 256 + readingOf m .msgtype) (owner-16 (linkOf g x) b)
       (and-both (ltb o (g .ases)) (ownsId g x o) (owner-in g ok (linkOf g x) b) (owns-own g x y)))

@@ -8,7 +8,7 @@ use native.Mathlib.Omega.{arith}
 use native.Mathlib.Decide.{decLt, ℕ-discrete}
 use lib.ListN.{length, set, drop}
 use lib.Seq.{ext-getD, getD-set-same, getD-set-other, set-out, getD-drop}
-use Rattle.laws.specs.Tab.{col}
+use Rattle.laws.specs.Columns.{numberAt}
 
 pub clash : {A : Type 0} (t : Bool) → t ≡ false → t ≡ true → A
 clash t f h = absurd (false≢true (sym f ∙ h))
@@ -44,23 +44,23 @@ pub cond-no : {A : Type 0} {t : Bool} (x y : A) → t ≡ false → cond t x y �
 cond-no x y p = ap (λ (t : Bool). cond t x y) p
 
 -- the same stored into lists of one length, alike at a place, leaves them alike there
-pub set-same : (l m : List ℕ) (i k v : ℕ) → length l ≡ length m → col l k ≡ col m k → col (set l i v) k ≡ col (set m i v) k
+pub set-same : (l m : List ℕ) (i k v : ℕ) → length l ≡ length m → numberAt l k ≡ numberAt m k → numberAt (set l i v) k ≡ numberAt (set m i v) k
 set-same l m i k v e h = go (ℕ-discrete k i) (decLt i (length l))
   where
-    go : Dec (k ≡ i) → Dec (i < length l) → col (set l i v) k ≡ col (set m i v) k
+    go : Dec (k ≡ i) → Dec (i < length l) → numberAt (set l i v) k ≡ numberAt (set m i v) k
     go (yes p) (yes b) = rw p (getD-set-same l i v 0 b ∙ sym (getD-set-same m i v 0 (omega arith)))
     go (yes p) (no b) = rw (set-out l i v (omega arith), set-out m i v (omega arith)) h
     go (no p) d = getD-set-other l i k v 0 p ∙ h ∙ sym (getD-set-other m i k v 0 p)
 
 -- lists that are alike in their first n places, and have one length and the same after those
-pub ext-front : (n : ℕ) (l m : List ℕ) → ((i : ℕ) → i < n → col l i ≡ col m i) → length l ≡ length m → drop n l ≡ drop n m → l ≡ m
+pub ext-front : (n : ℕ) (l m : List ℕ) → ((i : ℕ) → i < n → numberAt l i ≡ numberAt m i) → length l ≡ length m → drop n l ≡ drop n m → l ≡ m
 ext-front n l m f e d = ext-getD 0 l m e (λ i b. go i (decLt i n))
   where
-    go : (i : ℕ) → Dec (i < n) → col l i ≡ col m i
+    go : (i : ℕ) → Dec (i < n) → numberAt l i ≡ numberAt m i
     go i (yes b) = f i b
     go i (no b) =
         let z : n + (i - n) ≡ i = omega arith in
-        let w : col l (n + (i - n)) ≡ col m (n + (i - n)) = sym (getD-drop n l (i - n) 0) ∙ ap (λ (x : List ℕ). col x (i - n)) d ∙ getD-drop n m (i - n) 0 in
+        let w : numberAt l (n + (i - n)) ≡ numberAt m (n + (i - n)) = sym (getD-drop n l (i - n) 0) ∙ ap (λ (x : List ℕ). numberAt x (i - n)) d ∙ getD-drop n m (i - n) 0 in
         rw z at w
 
 pub cond-both : {A : Type 0} (t : Bool) {t′ : Bool} {x y x′ y′ : A} → t′ ≡ t → (t ≡ true → x′ ≡ x) → (t ≡ false → y′ ≡ y) → cond t′ x′ y′ ≡ cond t x y

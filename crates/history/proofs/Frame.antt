@@ -12,30 +12,30 @@ use lib.Seq.{ext-getD, getD-set-other}
 use borrow.Author.Tests.{ltb-true, lt-ltb, eqb-true}
 use Rattle.laws.specs.Below.{anyBelow, any-at, any-in, one}
 use Rattle.laws.specs.Every.{and-left, and-right, and-both}
-use Rattle.laws.specs.Tab.{at, col}
-use Rattle.gateway.specs.Sound.{pair, consistent}
+use Rattle.laws.specs.Columns.{flagAt, numberAt}
+use Rattle.gateway.specs.Sound.{pair, isSound}
 use Rattle.gateway.specs.Laws.{counts-within}
 use Rattle.gateway.specs.declared.Gateway.{Gateway}
 use Rattle.action.specs.declared.Action.{Action}
 use Rattle.action.specs.Words.{wordsOf}
 use Rattle.server.specs.declared.Change.{Change}
 use Rattle.server.specs.Change.{after}
-use Rattle.servers.specs.Moved.{moved}
+use Rattle.servers.specs.Changed.{withChange}
 use Rattle.servers.specs.Records.{moves, active-new, active-kept, waiting-new, waiting-kept, up-kept}
 use Rattle.rules.specs.Event.{Event}
 use Rattle.rules.specs.Identifiers.{ownerAt, isMember}
-use Rattle.rules.specs.Deed.{Deed, say, turn, change, actionsOf, stateAfter}
-use Rattle.rules.specs.Rules.{deedOf, inPlan, refusalOf, refusal}
+use Rattle.rules.specs.Effect.{Effect, send, setLink, changeIn, actionsOf, stateAfter}
+use Rattle.rules.specs.Rules.{effectOf, inPlan, refusalOf, refusal}
 use Rattle.rules.specs.Reach.{kindReach, reach, fromController}
 use Rattle.rules.specs.Entry.{actions, next}
 use Rattle.rules.specs.Inner.Accepted.{accepted}
 use Rattle.history.specs.Trade.{Commute}
 use Rattle.history.specs.Local.{false-of, Local, Agree, Apart, commutes}
-use Rattle.history.specs.History.{ruled, Free}
+use Rattle.history.specs.History.{rulesAnswer, Independent}
 use Rattle.history.proofs.Bits.{clash, or-left, or-right, or-case, set-same, ext-front, cond-yes, cond-no}
-use Rattle.history.proofs.Servers.{dyn, same-actions, same-up, remakesUp, up-length, up-drop, moved-up, moved-state, active-length, active-drop, waiting-length, waiting-drop}
+use Rattle.history.proofs.Servers.{dyn, same-actions, same-up, remakesUp, up-length, up-drop, change-up, change-state, active-length, active-drop, waiting-length, waiting-drop}
 use Rattle.history.proofs.Within.{In, Within, Reaches, within}
-use Rattle.history.proofs.Alike.{Alike, in-plan, reach-plan, record-alike, deed-alike}
+use Rattle.history.proofs.Alike.{Alike, in-plan, reach-plan, record-alike, effect-alike}
 
 -- ---- the keys of a state
 
@@ -82,11 +82,11 @@ Val (wait a b) = ℕ
 abbrev pub get : Gateway → (k : Key) → Val k
 get g plan = planOf g
 get g sizes = length (g .state)
-get g sound = consistent g
-get g (line l) = col (g .state) l
-get g (up q b) = col (g .up) q
-get g (act a q b c) = col (g .active) (pair a q)
-get g (wait a b) = col (g .waiting) a
+get g sound = isSound g
+get g (line l) = numberAt (g .state) l
+get g (up q b) = numberAt (g .up) q
+get g (act a q b c) = numberAt (g .active) (pair a q)
+get g (wait a b) = numberAt (g .waiting) a
 
 -- the tables of up flags, of activity and of waiting marks may come with other lengths than 16, 256 and 16: a change brings them to these
 pub record Shape : Type 0 where
@@ -129,18 +129,18 @@ abbrev pub live : Gateway → Event → Bool
 live g e = eqb (refusal g e) 0
 
 -- whom an event sets up or down, and what it makes anew
-abbrev pub movesIn : Deed → ℕ → Bool
-movesIn (say os) q = false
-movesIn (turn l v os) q = false
-movesIn (change os k named) q = moves k q
+abbrev pub movesIn : Effect → ℕ → Bool
+movesIn (send os) q = false
+movesIn (setLink l v os) q = false
+movesIn (changeIn os k named) q = moves k q
 
-abbrev pub remakes : Deed → Remade
-remakes (say os) = record { u = false; v = false }
-remakes (turn l v os) = record { u = false; v = false }
-remakes (change os k named) = record { u = remakesUp k; v = true }
+abbrev pub remakes : Effect → Remade
+remakes (send os) = record { u = false; v = false }
+remakes (setLink l v os) = record { u = false; v = false }
+remakes (changeIn os k named) = record { u = remakesUp k; v = true }
 
 abbrev pub shapes : Gateway → Event → Remade
-shapes g e = cond (live g e) (remakes (deedOf g (e .kind))) (record { u = false; v = false })
+shapes g e = cond (live g e) (remakes (effectOf g (e .kind))) (record { u = false; v = false })
 
 abbrev pub reads : Gateway → Event → Key → Bool
 reads g e plan = true
@@ -156,7 +156,7 @@ writes g e plan = false
 writes g e sizes = false
 writes g e sound = false
 writes g e (line l) = ltb l (g .links) && reach g e (ownerAt g l)
-writes g e (up q b) = live g e && movesIn (deedOf g (e .kind)) q
+writes g e (up q b) = live g e && movesIn (effectOf g (e .kind)) q
 writes g e (act a q b c) = reach g e a
 writes g e (wait a b) = reach g e a
 
@@ -196,13 +196,13 @@ ext g h e s = λ j. record {
 -- ---- accepted events
 
 module _ (g : Gateway) (e : Event) where
-  pub live-sound : live g e ≡ true → consistent g ≡ true
-  live-sound l = accepted (consistent g) (inPlan g (e .kind)) (e .room) (eqb-true (refusal g e) 0 l) .sound-yes
+  pub live-sound : live g e ≡ true → isSound g ≡ true
+  live-sound l = accepted (isSound g) (inPlan g (e .kind)) (e .room) (eqb-true (refusal g e) 0 l) .sound-yes
 
   pub live-plan : live g e ≡ true → inPlan g (e .kind) ≡ true
-  live-plan l = accepted (consistent g) (inPlan g (e .kind)) (e .room) (eqb-true (refusal g e) 0 l) .known-yes
+  live-plan l = accepted (isSound g) (inPlan g (e .kind)) (e .room) (eqb-true (refusal g e) 0 l) .known-yes
 
-  pub next-live : live g e ≡ true → next g e ≡ stateAfter g (deedOf g (e .kind))
+  pub next-live : live g e ≡ true → next g e ≡ stateAfter g (effectOf g (e .kind))
   unfolding next
   next-live l = cond-yes _ _ l
 
@@ -211,7 +211,7 @@ module _ (g : Gateway) (e : Event) where
   next-dead l = cond-no _ _ l
 
   -- a fact of the state that the rules give and of the one given, and so of the next
-  pub by-live : (F : Gateway → Type 0) → (live g e ≡ true → F (stateAfter g (deedOf g (e .kind)))) → (live g e ≡ false → F g) → F (next g e)
+  pub by-live : (F : Gateway → Type 0) → (live g e ≡ true → F (stateAfter g (effectOf g (e .kind)))) → (live g e ≡ false → F g) → F (next g e)
   by-live F m d = go (live g e) refl
     where
       go : (t : Bool) → live g e ≡ t → F (next g e)
@@ -244,111 +244,111 @@ writes-live b e (up q c) v = and-left (live b e) _ v
 writes-live b e (act a q c d) v = reach-live b e a v
 writes-live b e (wait a c) v = reach-live b e a v
 
--- whom a deed sets up or down: its own controller, all of whose ASes it reaches
-moves-own : (g : Gateway) (R own : ℕ → Bool) (d : Deed) → Within g R own d → (q : ℕ) → movesIn d q ≡ true → own q ≡ true
-moves-own g R own (say os) w q m = clash false refl m
-moves-own g R own (turn l v os) w q m = clash false refl m
-moves-own g R own (change os k named) w q m = w .mine q m
+-- whom a effect sets up or down: its own controller, all of whose ASes it reaches
+moves-own : (g : Gateway) (R own : ℕ → Bool) (d : Effect) → Within g R own d → (q : ℕ) → movesIn d q ≡ true → own q ≡ true
+moves-own g R own (send os) w q m = clash false refl m
+moves-own g R own (setLink l v os) w q m = clash false refl m
+moves-own g R own (changeIn os k named) w q m = w .mine q m
 
-moves-whole : (g : Gateway) (R own : ℕ → Bool) (d : Deed) → Within g R own d → (q a : ℕ) → a < 16 → movesIn d q ≡ true → isMember g a q ≡ true → R a ≡ true
-moves-whole g R own (say os) w q a b m i = clash false refl m
-moves-whole g R own (turn l v os) w q a b m i = clash false refl m
-moves-whole g R own (change os k named) w q a b m i = w .reached a b (w .whole q a m b ∙ i)
+moves-whole : (g : Gateway) (R own : ℕ → Bool) (d : Effect) → Within g R own d → (q a : ℕ) → a < 16 → movesIn d q ≡ true → isMember g a q ≡ true → R a ≡ true
+moves-whole g R own (send os) w q a b m i = clash false refl m
+moves-whole g R own (setLink l v os) w q a b m i = clash false refl m
+moves-whole g R own (changeIn os k named) w q a b m i = w .reached a b (w .whole q a m b ∙ i)
 
--- ---- what a deed leaves
+-- ---- what a effect leaves
 
 module _ (g : Gateway) where
-  state-plan : (d : Deed) → planOf (stateAfter g d) ≡ planOf g
-  unfolding moved
-  state-plan (say os) = refl
-  state-plan (turn l v os) = refl
-  state-plan (change os k named) = refl
+  state-plan : (d : Effect) → planOf (stateAfter g d) ≡ planOf g
+  unfolding withChange
+  state-plan (send os) = refl
+  state-plan (setLink l v os) = refl
+  state-plan (changeIn os k named) = refl
 
-  state-sizes : (d : Deed) → length (stateAfter g d .state) ≡ length (g .state)
-  state-sizes (say os) = refl
-  state-sizes (turn l v os) = length-set (g .state) l v
-  state-sizes (change os k named) = ap length (moved-state g k named)
+  state-sizes : (d : Effect) → length (stateAfter g d .state) ≡ length (g .state)
+  state-sizes (send os) = refl
+  state-sizes (setLink l v os) = length-set (g .state) l v
+  state-sizes (changeIn os k named) = ap length (change-state g k named)
 
-  state-shape : (d : Deed) → shape (stateAfter g d) ≡ reshape (remakes d) (shape g)
-  state-shape (say os) = refl
-  state-shape (turn l v os) = refl
-  state-shape (change os k named) = λ j. record {
-    ups = (ap length (moved-up g k named) ∙ up-length k (g .up)) j;
-    afterUps = (ap (drop 16) (moved-up g k named) ∙ up-drop k (g .up)) j;
+  state-shape : (d : Effect) → shape (stateAfter g d) ≡ reshape (remakes d) (shape g)
+  state-shape (send os) = refl
+  state-shape (setLink l v os) = refl
+  state-shape (changeIn os k named) = λ j. record {
+    ups = (ap length (change-up g k named) ∙ up-length k (g .up)) j;
+    afterUps = (ap (drop 16) (change-up g k named) ∙ up-drop k (g .up)) j;
     rows = active-length g k named j;
     afterRows = active-drop g k named j;
     marks = waiting-length g k named j;
     afterMarks = waiting-drop g k named j;
   }
 
-  kept-up : (d : Deed) (q : ℕ) → q < 16 → movesIn d q ≡ false → col (stateAfter g d .up) q ≡ col (g .up) q
-  kept-up (say os) q b n = refl
-  kept-up (turn l v os) q b n = refl
-  kept-up (change os k named) q b n = ap (λ (c : List ℕ). col c q) (moved-up g k named) ∙ up-kept k (g .up) q b n
+  kept-up : (d : Effect) (q : ℕ) → q < 16 → movesIn d q ≡ false → numberAt (stateAfter g d .up) q ≡ numberAt (g .up) q
+  kept-up (send os) q b n = refl
+  kept-up (setLink l v os) q b n = refl
+  kept-up (changeIn os k named) q b n = ap (λ (c : List ℕ). numberAt c q) (change-up g k named) ∙ up-kept k (g .up) q b n
 
 module _ (g : Gateway) (R own : ℕ → Bool) where
   -- an AS out of reach is not named
-  unnamed : {k : Change} {named : List Bool} → In g R own k named → (a : ℕ) → a < 16 → R a ≡ false → at named a ≡ false
-  unnamed {k} {named} w a b r = false-of (at named a) (λ e. clash (R a) r (w .reached a b e))
+  unnamed : {k : Change} {named : List Bool} → In g R own k named → (a : ℕ) → a < 16 → R a ≡ false → flagAt named a ≡ false
+  unnamed {k} {named} w a b r = false-of (flagAt named a) (λ e. clash (R a) r (w .reached a b e))
 
-  kept-act : (d : Deed) → Within g R own d → (a q : ℕ) → a < 16 → q < 16 → R a ≡ false → col (stateAfter g d .active) (pair a q) ≡ col (g .active) (pair a q)
-  kept-act (say os) w a q b c r = refl
-  kept-act (turn l v os) w a q b c r = refl
-  kept-act (change os k named) w a q b c r = active-kept g k named a q b c (unnamed w a b r)
+  kept-act : (d : Effect) → Within g R own d → (a q : ℕ) → a < 16 → q < 16 → R a ≡ false → numberAt (stateAfter g d .active) (pair a q) ≡ numberAt (g .active) (pair a q)
+  kept-act (send os) w a q b c r = refl
+  kept-act (setLink l v os) w a q b c r = refl
+  kept-act (changeIn os k named) w a q b c r = active-kept g k named a q b c (unnamed w a b r)
 
-  kept-wait : (d : Deed) → Within g R own d → (a : ℕ) → a < 16 → R a ≡ false → col (stateAfter g d .waiting) a ≡ col (g .waiting) a
-  kept-wait (say os) w a b r = refl
-  kept-wait (turn l v os) w a b r = refl
-  kept-wait (change os k named) w a b r = waiting-kept g k named a b (unnamed w a b r)
+  kept-wait : (d : Effect) → Within g R own d → (a : ℕ) → a < 16 → R a ≡ false → numberAt (stateAfter g d .waiting) a ≡ numberAt (g .waiting) a
+  kept-wait (send os) w a b r = refl
+  kept-wait (setLink l v os) w a b r = refl
+  kept-wait (changeIn os k named) w a b r = waiting-kept g k named a b (unnamed w a b r)
 
-  kept-line : (d : Deed) → Within g R own d → (l : ℕ) → (ltb l (g .links) && R (ownerAt g l)) ≡ false → col (stateAfter g d .state) l ≡ col (g .state) l
-  kept-line (say os) w l r = refl
-  kept-line (turn m v os) w l r = getD-set-other (g .state) m l v 0 (λ z. clash (ltb l (g .links) && R (ownerAt g l)) r (rw z (and-both (ltb m (g .links)) (R (ownerAt g m)) (lt-ltb m (g .links) (w .0)) (w .2))))
-  kept-line (change os k named) w l r = ap (λ (c : List ℕ). col c l) (moved-state g k named)
+  kept-line : (d : Effect) → Within g R own d → (l : ℕ) → (ltb l (g .links) && R (ownerAt g l)) ≡ false → numberAt (stateAfter g d .state) l ≡ numberAt (g .state) l
+  kept-line (send os) w l r = refl
+  kept-line (setLink m v os) w l r = getD-set-other (g .state) m l v 0 (λ z. clash (ltb l (g .links) && R (ownerAt g l)) r (rw z (and-both (ltb m (g .links)) (R (ownerAt g m)) (lt-ltb m (g .links) (w .0)) (w .2))))
+  kept-line (changeIn os k named) w l r = ap (λ (c : List ℕ). numberAt c l) (change-state g k named)
 
--- ---- the same deed in states that are alike
+-- ---- the same effect in states that are alike
 
 module _ (g : Gateway) (R own : ℕ → Bool) (u c w s : List ℕ) (k : Alike g R own u c w s) where
-  said : (d : Deed) → Within g R own d → actionsOf (dyn g u c w s) d ≡ actionsOf g d
-  said (say os) v = refl
-  said (turn l n os) v = refl
-  said (change os h named) v =
+  said : (d : Effect) → Within g R own d → actionsOf (dyn g u c w s) d ≡ actionsOf g d
+  said (send os) v = refl
+  said (setLink l n os) v = refl
+  said (changeIn os h named) v =
       ap (λ (x : List Action). os ++ x)
       (same-actions (dyn g u c w s) g h named (λ a b e. record-alike g R own u c w s k a b (v .reached a b e)))
 
-  alike-up : (d : Deed) (q : ℕ) → q < 16 → col u q ≡ col (g .up) q → col (stateAfter (dyn g u c w s) d .up) q ≡ col (stateAfter g d .up) q
-  alike-up (say os) q b z = z
-  alike-up (turn l n os) q b z = z
-  alike-up (change os h named) q b z =
-      ap (λ (x : List ℕ). col x q) (moved-up (dyn g u c w s) h named) ∙ same-up h u (g .up) q b z ∙ sym (ap (λ (x : List ℕ). col x q) (moved-up g h named))
+  alike-up : (d : Effect) (q : ℕ) → q < 16 → numberAt u q ≡ numberAt (g .up) q → numberAt (stateAfter (dyn g u c w s) d .up) q ≡ numberAt (stateAfter g d .up) q
+  alike-up (send os) q b z = z
+  alike-up (setLink l n os) q b z = z
+  alike-up (changeIn os h named) q b z =
+      ap (λ (x : List ℕ). numberAt x q) (change-up (dyn g u c w s) h named) ∙ same-up h u (g .up) q b z ∙ sym (ap (λ (x : List ℕ). numberAt x q) (change-up g h named))
 
-  alike-act : (d : Deed) (a q : ℕ) → a < 16 → q < 16 → R a ≡ true → col (stateAfter (dyn g u c w s) d .active) (pair a q) ≡ col (stateAfter g d .active) (pair a q)
-  alike-act (say os) a q b d r = k .acts a q b d r
-  alike-act (turn l n os) a q b d r = k .acts a q b d r
-  alike-act (change os h named) a q b d r = go (at named a) refl
+  alike-act : (d : Effect) (a q : ℕ) → a < 16 → q < 16 → R a ≡ true → numberAt (stateAfter (dyn g u c w s) d .active) (pair a q) ≡ numberAt (stateAfter g d .active) (pair a q)
+  alike-act (send os) a q b d r = k .acts a q b d r
+  alike-act (setLink l n os) a q b d r = k .acts a q b d r
+  alike-act (changeIn os h named) a q b d r = go (flagAt named a) refl
     where
-      go : (t : Bool) → at named a ≡ t → col (moved (dyn g u c w s) h named .active) (pair a q) ≡ col (moved g h named .active) (pair a q)
+      go : (t : Bool) → flagAt named a ≡ t → numberAt (withChange (dyn g u c w s) h named .active) (pair a q) ≡ numberAt (withChange g h named .active) (pair a q)
       go true e =
-          active-new (dyn g u c w s) h named a q b d e ∙ (λ j. one (at (after h (record-alike g R own u c w s k a b r j) .acts) q))
+          active-new (dyn g u c w s) h named a q b d e ∙ (λ j. one (flagAt (after h (record-alike g R own u c w s k a b r j) .acts) q))
           ∙ sym (active-new g h named a q b d e)
       go false e = active-kept (dyn g u c w s) h named a q b d e ∙ k .acts a q b d r ∙ sym (active-kept g h named a q b d e)
 
-  alike-wait : (d : Deed) (a : ℕ) → a < 16 → R a ≡ true → col (stateAfter (dyn g u c w s) d .waiting) a ≡ col (stateAfter g d .waiting) a
-  alike-wait (say os) a b r = k .waits a b r
-  alike-wait (turn l n os) a b r = k .waits a b r
-  alike-wait (change os h named) a b r = go (at named a) refl
+  alike-wait : (d : Effect) (a : ℕ) → a < 16 → R a ≡ true → numberAt (stateAfter (dyn g u c w s) d .waiting) a ≡ numberAt (stateAfter g d .waiting) a
+  alike-wait (send os) a b r = k .waits a b r
+  alike-wait (setLink l n os) a b r = k .waits a b r
+  alike-wait (changeIn os h named) a b r = go (flagAt named a) refl
     where
-      go : (t : Bool) → at named a ≡ t → col (moved (dyn g u c w s) h named .waiting) a ≡ col (moved g h named .waiting) a
+      go : (t : Bool) → flagAt named a ≡ t → numberAt (withChange (dyn g u c w s) h named .waiting) a ≡ numberAt (withChange g h named .waiting) a
       go true e =
           waiting-new (dyn g u c w s) h named a b e ∙ (λ j. one (after h (record-alike g R own u c w s k a b r j) .waiting))
           ∙ sym (waiting-new g h named a b e)
       go false e = waiting-kept (dyn g u c w s) h named a b e ∙ k .waits a b r ∙ sym (waiting-kept g h named a b e)
 
-  alike-line : length s ≡ length (g .state) → (d : Deed) (l : ℕ) → R (ownerAt g l) ≡ true → col (stateAfter (dyn g u c w s) d .state) l ≡ col (stateAfter g d .state) l
-  alike-line e (say os) l r = k .lines l r
-  alike-line e (turn m n os) l r = set-same s (g .state) m l n e (k .lines l r)
-  alike-line e (change os h named) l r =
-      ap (λ (x : List ℕ). col x l) (moved-state (dyn g u c w s) h named) ∙ k .lines l r ∙ sym (ap (λ (x : List ℕ). col x l) (moved-state g h named))
+  alike-line : length s ≡ length (g .state) → (d : Effect) (l : ℕ) → R (ownerAt g l) ≡ true → numberAt (stateAfter (dyn g u c w s) d .state) l ≡ numberAt (stateAfter g d .state) l
+  alike-line e (send os) l r = k .lines l r
+  alike-line e (setLink m n os) l r = set-same s (g .state) m l n e (k .lines l r)
+  alike-line e (changeIn os h named) l r =
+      ap (λ (x : List ℕ). numberAt x l) (change-state (dyn g u c w s) h named) ∙ k .lines l r ∙ sym (ap (λ (x : List ℕ). numberAt x l) (change-state g h named))
 
 -- ---- two states with one plan, both sound or neither: what is refused and what is reached is the same
 
@@ -370,7 +370,7 @@ module _ (b b′ : Gateway) (P : planOf b′ ≡ planOf b) where
     state = b′ .state;
   }
 
-  module _ (S : consistent b′ ≡ consistent b) (e : Event) where
+  module _ (S : isSound b′ ≡ isSound b) (e : Event) where
     plan-in : inPlan b′ (e .kind) ≡ inPlan b (e .kind)
     plan-in = ap (λ (x : Gateway). inPlan x (e .kind)) to ∙ in-plan b (b′ .up) (b′ .active) (b′ .waiting) (b′ .state) (e .kind)
 
@@ -412,27 +412,27 @@ module _ (b b′ : Gateway) (e : Event) (h : Agree get reads writes b b′ e) wh
           lines = λ k r. h (line k) (reach-of b e (ownerAt b k) l r);
         }
 
-    ok : consistent b ≡ true
+    ok : isSound b ≡ true
     ok = live-sound b e l
 
-    ok′ : consistent (dyn b (b′ .up) (b′ .active) (b′ .waiting) (b′ .state)) ≡ true
-    ok′ = sym (ap (λ (x : Gateway). consistent x) is-dyn) ∙ h sound refl ∙ ok
+    ok′ : isSound (dyn b (b′ .up) (b′ .active) (b′ .waiting) (b′ .state)) ≡ true
+    ok′ = sym (ap (λ (x : Gateway). isSound x) is-dyn) ∙ h sound refl ∙ ok
 
-    same-deed : deedOf b′ (e .kind) ≡ deedOf b (e .kind)
-    same-deed =
-        ap (λ (x : Gateway). deedOf x (e .kind)) is-dyn
-        ∙ deed-alike b (b′ .up) (b′ .active) (b′ .waiting) (b′ .state) ok ok′ (e .kind) (live-plan b e l) alike
+    same-effect : effectOf b′ (e .kind) ≡ effectOf b (e .kind)
+    same-effect =
+        ap (λ (x : Gateway). effectOf x (e .kind)) is-dyn
+        ∙ effect-alike b (b′ .up) (b′ .active) (b′ .waiting) (b′ .state) ok ok′ (e .kind) (live-plan b e l) alike
 
-    in-reach : Within b (Reaches b (e .kind)) (fromController (e .kind)) (deedOf b (e .kind))
+    in-reach : Within b (Reaches b (e .kind)) (fromController (e .kind)) (effectOf b (e .kind))
     in-reach = within b ok (e .kind) (live-plan b e l)
 
-    same-said : actionsOf b′ (deedOf b′ (e .kind)) ≡ actionsOf b (deedOf b (e .kind))
+    same-said : actionsOf b′ (effectOf b′ (e .kind)) ≡ actionsOf b (effectOf b (e .kind))
     same-said =
-        (λ j. actionsOf (is-dyn j) (same-deed j))
-        ∙ said b (Reaches b (e .kind)) (fromController (e .kind)) (b′ .up) (b′ .active) (b′ .waiting) (b′ .state) alike (deedOf b (e .kind)) in-reach
+        (λ j. actionsOf (is-dyn j) (same-effect j))
+        ∙ said b (Reaches b (e .kind)) (fromController (e .kind)) (b′ .up) (b′ .active) (b′ .waiting) (b′ .state) alike (effectOf b (e .kind)) in-reach
 
-    same-state : (k : Key) → writes b e k ≡ true → get (stateAfter b′ (deedOf b′ (e .kind))) k ≡ get (stateAfter b (deedOf b (e .kind))) k
-    same-state k v = (λ j. get (stateAfter (is-dyn j) (same-deed j)) k) ∙ go k v
+    same-state : (k : Key) → writes b e k ≡ true → get (stateAfter b′ (effectOf b′ (e .kind))) k ≡ get (stateAfter b (effectOf b (e .kind))) k
+    same-state k v = (λ j. get (stateAfter (is-dyn j) (same-effect j)) k) ∙ go k v
       where
         R : ℕ → Bool
         R = Reaches b (e .kind)
@@ -440,10 +440,10 @@ module _ (b b′ : Gateway) (e : Event) (h : Agree get reads writes b b′ e) wh
         own : ℕ → Bool
         own = fromController (e .kind)
 
-        d : Deed
-        d = deedOf b (e .kind)
+        d : Effect
+        d = effectOf b (e .kind)
 
-        go : (k : Key) → writes b e k ≡ true → get (stateAfter (dyn b (b′ .up) (b′ .active) (b′ .waiting) (b′ .state)) (deedOf b (e .kind))) k ≡ get (stateAfter b (deedOf b (e .kind))) k
+        go : (k : Key) → writes b e k ≡ true → get (stateAfter (dyn b (b′ .up) (b′ .active) (b′ .waiting) (b′ .state)) (effectOf b (e .kind))) k ≡ get (stateAfter b (effectOf b (e .kind))) k
         go plan v = clash false refl v
         go sizes v = clash false refl v
         go sound v = clash false refl v
@@ -466,7 +466,7 @@ module _ (b b′ : Gateway) (e : Event) (h : Agree get reads writes b b′ e) wh
   same-actions-all =
       by-test (λ l. cond-yes _ _ (same-live ∙ l) ∙ same-said l ∙ sym (cond-yes _ _ l)) (λ l. cond-no _ _ (same-live ∙ l) ∙ sym (cond-no _ _ l))
 
-  same-out : ruled b′ e ≡ ruled b e
+  same-out : rulesAnswer b′ e ≡ rulesAnswer b e
   same-out = λ j. record { refusal = same-refusal j; count = length (same-actions-all j); words = wordsOf (same-actions-all j) }
 
   same-writes : (k : Key) → writes b′ e k ≡ writes b e k
@@ -474,16 +474,16 @@ module _ (b b′ : Gateway) (e : Event) (h : Agree get reads writes b b′ e) wh
   same-writes sizes = refl
   same-writes sound = refl
   same-writes (up q c) =
-      by-test (λ l j. same-live j && movesIn (same-deed l j) q)
-      (λ l. ap (λ (t : Bool). t && movesIn (deedOf b′ (e .kind)) q) (same-live ∙ l) ∙ sym (ap (λ (t : Bool). t && movesIn (deedOf b (e .kind)) q) l))
+      by-test (λ l j. same-live j && movesIn (same-effect l j) q)
+      (λ l. ap (λ (t : Bool). t && movesIn (effectOf b′ (e .kind)) q) (same-live ∙ l) ∙ sym (ap (λ (t : Bool). t && movesIn (effectOf b (e .kind)) q) l))
   same-writes (line i) =
-      ap (λ (p : Plan). ltb i (p .links) && reach b′ e (col (p .owner) i)) (h plan refl) ∙ ap (λ (t : Bool). ltb i (b .links) && t) (same-reach (ownerAt b i))
+      ap (λ (p : Plan). ltb i (p .links) && reach b′ e (numberAt (p .owner) i)) (h plan refl) ∙ ap (λ (t : Bool). ltb i (b .links) && t) (same-reach (ownerAt b i))
   same-writes (act a q c d) = same-reach a
   same-writes (wait a c) = same-reach a
 
   same-shapes : shapes b′ e ≡ shapes b e
   same-shapes =
-      by-test (λ l j. cond (same-live j) (remakes (same-deed l j)) (record { u = false; v = false }))
+      by-test (λ l j. cond (same-live j) (remakes (same-effect l j)) (record { u = false; v = false }))
       (λ l. cond-no _ _ (same-live ∙ l) ∙ sym (cond-no _ _ l))
 
   same-next : (k : Key) → writes b e k ≡ true → get (next b′ e) k ≡ get (next b e) k
@@ -491,12 +491,12 @@ module _ (b b′ : Gateway) (e : Event) (h : Agree get reads writes b b′ e) wh
       let l = writes-live b e k v in
       ap (λ (x : Gateway). get x k) (next-live b′ e (same-live ∙ l)) ∙ same-state l k v ∙ sym (ap (λ (x : Gateway). get x k) (next-live b e l))
 
--- ---- all of it: every event is local, once it is known that it keeps a consistent state so
+-- ---- all of it: every event is local, once it is known that it keeps a sound state so
 
-writes-mine : (b : Gateway) (e : Event) (q : ℕ) → (live b e && movesIn (deedOf b (e .kind)) q) ≡ true → fromController (e .kind) q ≡ true
+writes-mine : (b : Gateway) (e : Event) (q : ℕ) → (live b e && movesIn (effectOf b (e .kind)) q) ≡ true → fromController (e .kind) q ≡ true
 writes-mine b e q v =
-    let l = and-left (live b e) (movesIn (deedOf b (e .kind)) q) v in
-    moves-own b (Reaches b (e .kind)) (fromController (e .kind)) (deedOf b (e .kind)) (within b (live-sound b e l) (e .kind) (live-plan b e l)) q (and-right (live b e) (movesIn (deedOf b (e .kind)) q) v)
+    let l = and-left (live b e) (movesIn (effectOf b (e .kind)) q) v in
+    moves-own b (Reaches b (e .kind)) (fromController (e .kind)) (effectOf b (e .kind)) (within b (live-sound b e l) (e .kind) (live-plan b e l)) q (and-right (live b e) (movesIn (effectOf b (e .kind)) q) v)
 
 covers : (b : Gateway) (e : Event) (k : Key) → writes b e k ≡ true → reads b e k ≡ true
 covers b e plan v = refl
@@ -516,15 +516,15 @@ pub not-reached : (b : Gateway) (e : Event) (a q : ℕ) → a < 16 → (c : q < 
 not-reached b e a q d c n m =
     false-of (writes b e (up q c))
     (λ v.
-    let l = and-left (live b e) (movesIn (deedOf b (e .kind)) q) v in
+    let l = and-left (live b e) (movesIn (effectOf b (e .kind)) q) v in
     let w = within b (live-sound b e l) (e .kind) (live-plan b e l) in
     clash (reach b e a) n
-    (reach-of b e a l (moves-whole b (Reaches b (e .kind)) (fromController (e .kind)) (deedOf b (e .kind)) w q a d (and-right (live b e) (movesIn (deedOf b (e .kind)) q) v) m)))
+    (reach-of b e a l (moves-whole b (Reaches b (e .kind)) (fromController (e .kind)) (effectOf b (e .kind)) w q a d (and-right (live b e) (movesIn (effectOf b (e .kind)) q) v) m)))
 
 reshaped : (b : Gateway) (e : Event) → shape (next b e) ≡ reshape (shapes b e) (shape b)
 reshaped b e =
     by-live b e (λ (x : Gateway). shape x ≡ reshape (shapes b e) (shape b))
-    (λ l. state-shape b (deedOf b (e .kind)) ∙ ap (λ (m : Remade). reshape m (shape b)) (sym (cond-yes _ _ l)))
+    (λ l. state-shape b (effectOf b (e .kind)) ∙ ap (λ (m : Remade). reshape m (shape b)) (sym (cond-yes _ _ l)))
     (λ l. ap (λ (m : Remade). reshape m (shape b)) (sym (cond-no _ _ l)))
 
 cond-trade : {A : Type 0} (u v : Bool) (x y : A) → cond u x (cond v x y) ≡ cond v x (cond u x y)
@@ -543,36 +543,36 @@ reshape-trade m n s = λ j. record {
   afterMarks = cond-trade (m .v) (n .v) [] (s .afterMarks) j;
 }
 
-module _ (keeps : (b : Gateway) (e : Event) → consistent b ≡ true → consistent (next b e) ≡ true) where
+module _ (keeps : (b : Gateway) (e : Event) → isSound b ≡ true → isSound (next b e) ≡ true) where
   pub untouched : (b : Gateway) (e : Event) (k : Key) → writes b e k ≡ false → get (next b e) k ≡ get b k
-  untouched b e plan v = by-live b e (λ (x : Gateway). planOf x ≡ planOf b) (λ l. state-plan b (deedOf b (e .kind))) (λ l. refl)
-  untouched b e sizes v = by-live b e (λ (x : Gateway). get x sizes ≡ get b sizes) (λ l. state-sizes b (deedOf b (e .kind))) (λ l. refl)
-  untouched b e sound v = go (consistent b) refl
+  untouched b e plan v = by-live b e (λ (x : Gateway). planOf x ≡ planOf b) (λ l. state-plan b (effectOf b (e .kind))) (λ l. refl)
+  untouched b e sizes v = by-live b e (λ (x : Gateway). get x sizes ≡ get b sizes) (λ l. state-sizes b (effectOf b (e .kind))) (λ l. refl)
+  untouched b e sound v = go (isSound b) refl
     where
-      go : (t : Bool) → consistent b ≡ t → consistent (next b e) ≡ consistent b
+      go : (t : Bool) → isSound b ≡ t → isSound (next b e) ≡ isSound b
       go true s = keeps b e s ∙ sym s
-      go false s = ap (λ (x : Gateway). consistent x) (next-dead b e (false-of (live b e) (λ l. clash (consistent b) s (live-sound b e l))))
+      go false s = ap (λ (x : Gateway). isSound x) (next-dead b e (false-of (live b e) (λ l. clash (isSound b) s (live-sound b e l))))
   untouched b e (up q c) v =
-      by-live b e (λ (x : Gateway). col (x .up) q ≡ col (b .up) q)
-      (λ l. kept-up b (deedOf b (e .kind)) q c (ap (λ (t : Bool). t && movesIn (deedOf b (e .kind)) q) (sym l) ∙ v)) (λ l. refl)
+      by-live b e (λ (x : Gateway). numberAt (x .up) q ≡ numberAt (b .up) q)
+      (λ l. kept-up b (effectOf b (e .kind)) q c (ap (λ (t : Bool). t && movesIn (effectOf b (e .kind)) q) (sym l) ∙ v)) (λ l. refl)
   untouched b e (line i) v =
-      by-live b e (λ (x : Gateway). col (x .state) i ≡ col (b .state) i)
-      (λ l. kept-line b (Reaches b (e .kind)) (fromController (e .kind)) (deedOf b (e .kind)) (within b (live-sound b e l) (e .kind) (live-plan b e l)) i
+      by-live b e (λ (x : Gateway). numberAt (x .state) i ≡ numberAt (b .state) i)
+      (λ l. kept-line b (Reaches b (e .kind)) (fromController (e .kind)) (effectOf b (e .kind)) (within b (live-sound b e l) (e .kind) (live-plan b e l)) i
       (false-of (ltb i (b .links) && Reaches b (e .kind) (ownerAt b i)) (λ r. clash (writes b e (line i)) v (and-both (ltb i (b .links)) (reach b e (ownerAt b i)) (and-left (ltb i (b .links)) _ r) (reach-of b e (ownerAt b i) l (and-right (ltb i (b .links)) _ r)))))) (λ l. refl)
   untouched b e (act a q c d) v =
-      by-live b e (λ (x : Gateway). col (x .active) (pair a q) ≡ col (b .active) (pair a q))
-      (λ l. kept-act b (Reaches b (e .kind)) (fromController (e .kind)) (deedOf b (e .kind)) (within b (live-sound b e l) (e .kind) (live-plan b e l)) a q c d
+      by-live b e (λ (x : Gateway). numberAt (x .active) (pair a q) ≡ numberAt (b .active) (pair a q))
+      (λ l. kept-act b (Reaches b (e .kind)) (fromController (e .kind)) (effectOf b (e .kind)) (within b (live-sound b e l) (e .kind) (live-plan b e l)) a q c d
       (false-of (Reaches b (e .kind) a) (λ r. clash (reach b e a) v (reach-of b e a l r)))) (λ l. refl)
   untouched b e (wait a c) v =
-      by-live b e (λ (x : Gateway). col (x .waiting) a ≡ col (b .waiting) a)
-      (λ l. kept-wait b (Reaches b (e .kind)) (fromController (e .kind)) (deedOf b (e .kind)) (within b (live-sound b e l) (e .kind) (live-plan b e l)) a c
+      by-live b e (λ (x : Gateway). numberAt (x .waiting) a ≡ numberAt (b .waiting) a)
+      (λ l. kept-wait b (Reaches b (e .kind)) (fromController (e .kind)) (effectOf b (e .kind)) (within b (live-sound b e l) (e .kind) (live-plan b e l)) a c
       (false-of (Reaches b (e .kind) a) (λ r. clash (reach b e a) v (reach-of b e a l r)))) (λ l. refl)
 
   -- what an event reaches does not change along a history: it may be read off the first state
   pub reach-next : (b : Gateway) (e f : Event) (a : ℕ) → reach (next b e) f a ≡ reach b f a
   reach-next b e f a = plan-reach b (next b e) (untouched b e plan refl) (untouched b e sound refl) f a
 
-  pub local : Local get shape reads writes shapes reshape ruled next
+  pub local : Local get shape reads writes shapes reshape rulesAnswer next
   local =
       record {
         ext = ext;
@@ -588,35 +588,35 @@ module _ (keeps : (b : Gateway) (e : Event) → consistent b ≡ true → consis
 
 -- ---- the condition for a trade (Rule 10.4)
 
-apart : (b : Gateway) (e f : Event) → Free b e f → Apart get reads writes b e f
+apart : (b : Gateway) (e f : Event) → Independent b e f → Apart get reads writes b e f
 apart b e f d plan v r = clash false refl v
 apart b e f d sizes v r = clash false refl v
 apart b e f d sound v r = clash false refl v
 apart b e f d (up q c) v r =
-    or-case (fromController (f .kind) q) _ r (λ o. d .controllers q (moves-own b (Reaches b (e .kind)) (fromController (e .kind)) (deedOf b (e .kind)) w q m) o) (λ s. go (any-at (λ a. reach b f a && isMember b a q) 16 s))
+    or-case (fromController (f .kind) q) _ r (λ o. d .controllers q (moves-own b (Reaches b (e .kind)) (fromController (e .kind)) (effectOf b (e .kind)) w q m) o) (λ s. go (any-at (λ a. reach b f a && isMember b a q) 16 s))
   where
     l : live b e ≡ true
-    l = and-left (live b e) (movesIn (deedOf b (e .kind)) q) v
+    l = and-left (live b e) (movesIn (effectOf b (e .kind)) q) v
 
-    m : movesIn (deedOf b (e .kind)) q ≡ true
-    m = and-right (live b e) (movesIn (deedOf b (e .kind)) q) v
+    m : movesIn (effectOf b (e .kind)) q ≡ true
+    m = and-right (live b e) (movesIn (effectOf b (e .kind)) q) v
 
-    w : Within b (Reaches b (e .kind)) (fromController (e .kind)) (deedOf b (e .kind))
+    w : Within b (Reaches b (e .kind)) (fromController (e .kind)) (effectOf b (e .kind))
     w = within b (live-sound b e l) (e .kind) (live-plan b e l)
 
     -- who sets q up or down reaches all ASes of q
     go : (a : ℕ) × (a < 16) × ((reach b f a && isMember b a q) ≡ true) → ⊥
     go t =
         d .servers (t .0)
-        (reach-of b e (t .0) l (moves-whole b (Reaches b (e .kind)) (fromController (e .kind)) (deedOf b (e .kind)) w q (t .0) (t .1) m (and-right (reach b f (t .0)) (isMember b (t .0) q) (t .2))))
+        (reach-of b e (t .0) l (moves-whole b (Reaches b (e .kind)) (fromController (e .kind)) (effectOf b (e .kind)) w q (t .0) (t .1) m (and-right (reach b f (t .0)) (isMember b (t .0) q) (t .2))))
         (and-left (reach b f (t .0)) (isMember b (t .0) q) (t .2))
 apart b e f d (line i) v r = d .servers (ownerAt b i) (and-right (ltb i (b .links)) _ v) r
 apart b e f d (act a q c i) v r = d .servers a v r
 apart b e f d (wait a c) v r = d .servers a v r
 
-flip : (b : Gateway) (e f : Event) → Free b e f → Free b f e
+flip : (b : Gateway) (e f : Event) → Independent b e f → Independent b f e
 flip b e f d = record { controllers = λ q p r. d .controllers q r p; servers = λ a p r. d .servers a r p }
 
-pub free-commute : ((b : Gateway) (e : Event) → consistent b ≡ true → consistent (next b e) ≡ true) → (b : Gateway) (e f : Event) → Free b e f → Commute ruled next b e f
+pub free-commute : ((b : Gateway) (e : Event) → isSound b ≡ true → isSound (next b e) ≡ true) → (b : Gateway) (e f : Event) → Independent b e f → Commute rulesAnswer next b e f
 free-commute keeps b e f d =
-    commutes get shape reads writes shapes reshape ruled next (local keeps) b e f (apart b e f d) (apart b f e (flip b e f d))
+    commutes get shape reads writes shapes reshape rulesAnswer next (local keeps) b e f (apart b e f d) (apart b f e (flip b e f d))

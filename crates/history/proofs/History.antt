@@ -17,23 +17,23 @@ use Rattle.message.specs.Meaning.{readingOf}
 use Rattle.gateway.specs.declared.Gateway.{Gateway}
 use Rattle.rules.specs.Event.{Event, message}
 use Rattle.rules.specs.Identifiers.{isMember}
-use Rattle.rules.specs.Rules.{isError, typeOf, refusal}
+use Rattle.rules.specs.Rules.{isError, classTypeOf, refusal}
 use Rattle.rules.specs.Reach.{reach, messageReach, readReach}
-use Rattle.rules.specs.Entry.{actions, next, Handed}
+use Rattle.rules.specs.Entry.{actions, next, MeetsRules}
 use Rattle.rules.specs.Inner.Few.{few-actions}
-use Rattle.rules.specs.Samples.{g₁, takes, rises}
+use Rattle.rules.specs.Samples.{g₁, takes, comesUp}
 use Rattle.rules.proofs.Samples.{reach-apart}
 use Rattle.history.specs.Trade.{swaps, outs, last, Commute, traded-outs, traded-last}
-use Rattle.history.specs.History.{Call, events, Calls, none, call, given, ruled, reaches, Free, Untouched, Outside, Statement, isUp, ReachOfUp, Rooms, Made, TradesExist}
+use Rattle.history.specs.History.{Call, events, Calls, none, call, answer, rulesAnswer, reaches, Independent, Untouched, Outside, Statement, isUp, ReachOfUp, Rooms, Made, TradesExist}
 use Rattle.history.proofs.Frame.{Plan, planOf, plan, wait, act, line, up, untouched, not-mine, not-reached, reach-next, free-commute}
 use Rattle.history.proofs.Keeps.{keeps}
 
-ruled-commute : (g : Gateway) (e f : Event) → Free g e f → Commute ruled next g e f
+ruled-commute : (g : Gateway) (e f : Event) → Independent g e f → Commute rulesAnswer next g e f
 ruled-commute = free-commute keeps
 
 -- ---- what the calls hand back is what the rules give
 
-one-given : (g : Gateway) (d : Call) → Handed g (d .event) (d .lent) (d .left) (d .outcome) → given d ≡ ruled g (d .event)
+one-given : (g : Gateway) (d : Call) → MeetsRules g (d .event) (d .lent) (d .left) (d .outcome) → answer d ≡ rulesAnswer g (d .event)
 one-given g d h = λ j. record { refusal = h .refused j; count = h .count j; words = words j }
   where
     os : List Action
@@ -45,14 +45,14 @@ one-given g d h = λ j. record { refusal = h .refused j; count = h .count j; wor
     words : take (4 * d .outcome .count) (d .left) ≡ wordsOf os
     words = (λ j. take (4 * h .count j) (h .words j)) ∙ take-at (wordsOf os) (drop (4 * length os) (d .lent)) (4 * length os) long
 
-by-rules : {g c : Gateway} {cs : List Call} → Calls g cs c → map given cs ≡ outs ruled next g (events cs)
+by-rules : {g c : Gateway} {cs : List Call} → Calls g cs c → map answer cs ≡ outs rulesAnswer next g (events cs)
 by-rules none = refl
 by-rules (call {g} {d = d} {ds} h t) =
-    λ j. one-given g d h j ∷ (by-rules t ∙ ap (λ (s : Gateway). outs ruled next s (events ds)) (h .state)) j
+    λ j. one-given g d h j ∷ (by-rules t ∙ ap (λ (s : Gateway). outs rulesAnswer next s (events ds)) (h .state)) j
 
-state-by-rules : {g c : Gateway} {cs : List Call} → Calls g cs c → c ≡ last ruled next g (events cs)
+state-by-rules : {g c : Gateway} {cs : List Call} → Calls g cs c → c ≡ last rulesAnswer next g (events cs)
 state-by-rules none = refl
-state-by-rules (call {g} {d = d} {ds} h t) = state-by-rules t ∙ ap (λ (s : Gateway). last ruled next s (events ds)) (h .state)
+state-by-rules (call {g} {d = d} {ds} h t) = state-by-rules t ∙ ap (λ (s : Gateway). last rulesAnswer next s (events ds)) (h .state)
 
 -- ---- what lies outside the reach is as before
 
@@ -88,8 +88,8 @@ demand-3 g c c′ cs ds ts C D t e =
     record {
       by-rules = by-rules C;
       state-by-rules = state-by-rules C;
-      same-given = by-rules D ∙ ap (outs ruled next g) e ∙ traded-outs ruled next Free ruled-commute g (events cs) ts t ∙ ap (swaps ts) (sym (by-rules C));
-      same-state = state-by-rules D ∙ ap (last ruled next g) e ∙ traded-last ruled next Free ruled-commute g (events cs) ts t ∙ sym (state-by-rules C);
+      same-answers = by-rules D ∙ ap (outs rulesAnswer next g) e ∙ traded-outs rulesAnswer next Independent ruled-commute g (events cs) ts t ∙ ap (swaps ts) (sym (by-rules C));
+      same-state = state-by-rules D ∙ ap (last rulesAnswer next g) e ∙ traded-last rulesAnswer next Independent ruled-commute g (events cs) ts t ∙ sym (state-by-rules C);
       outside = outside C;
     }
 
@@ -104,8 +104,8 @@ made g e l =
       outcome = record { refusal = refusal g e; count = length (actions g e); gateway = next g e };
     }
 
-made-handed : (g : Gateway) (e : Event) (l : List ℕ) → length l ≡ e .room → Handed g e l (made g e l .left) (made g e l .outcome)
-made-handed g e l r = record { room = r; refused = refl; count = refl; few = few-actions g e; state = refl; words = refl }
+made-meets : (g : Gateway) (e : Event) (l : List ℕ) → length l ≡ e .room → MeetsRules g e l (made g e l .left) (made g e l .outcome)
+made-meets g e l r = record { room = r; refused = refl; count = refl; few = few-actions g e; state = refl; words = refl }
 
 pub some-calls : (g : Gateway) (h : List Event) (ls : List (List ℕ)) → Rooms h ls → Made g h ls
 some-calls g [] [] r = record { list = []; end = g; are = none; of = refl; lend = refl }
@@ -116,7 +116,7 @@ some-calls g (e ∷ h) (l ∷ ls) r =
     record {
       list = made g e l ∷ m .list;
       end = m .end;
-      are = call {d = made g e l} (made-handed g e l (r .0)) (m .are);
+      are = call {d = made g e l} (made-meets g e l (r .0)) (m .are);
       of = ap (λ (x : List Event). e ∷ x) (m .of);
       lend = ap (λ (x : List (List ℕ)). l ∷ x) (m .lend);
     }
@@ -132,12 +132,12 @@ some-rooms (e ∷ h) = (length-replicate (e .room) 0, some-rooms h)
 -- ---- and trades exist
 
 -- ASP 0 takes AS 0 over, ASP 2 comes up in AS 1
-apart-events : Free g₁ takes rises
-unfolding takes rises reach
+apart-events : Independent g₁ takes comesUp
+unfolding takes comesUp reach
 apart-events =
     record { controllers = λ q x y. let z : ⊥ = omega (arith, eqb-true 0 q x, eqb-true 2 q y) in absurd z; servers = go }
   where
-    go : (a : ℕ) → reaches g₁ takes a ≡ true → reaches g₁ rises a ≡ true → ⊥
+    go : (a : ℕ) → reaches g₁ takes a ≡ true → reaches g₁ comesUp a ≡ true → ⊥
     go zero x y = false≢true (sym (reach-apart .second .0) ∙ y)
     go (suc zero) x y = false≢true (sym (reach-apart .first .1) ∙ x)
     go (suc (suc a)) x y =
@@ -146,11 +146,11 @@ apart-events =
         absurd z
 
 pub trades-exist : TradesExist
-unfolding takes rises
+unfolding takes comesUp
 trades-exist =
     record {
-      calls = some-calls g₁ (takes ∷ rises ∷ []) _ (some-rooms (takes ∷ rises ∷ []));
-      traded = some-calls g₁ (rises ∷ takes ∷ []) _ (some-rooms (rises ∷ takes ∷ []));
+      calls = some-calls g₁ (takes ∷ comesUp ∷ []) _ (some-rooms (takes ∷ comesUp ∷ []));
+      traded = some-calls g₁ (comesUp ∷ takes ∷ []) _ (some-rooms (comesUp ∷ takes ∷ []));
       trades = (apart-events, tt);
       events-trade = refl;
       first = reach-apart .first .0;
@@ -170,7 +170,7 @@ up-reach g p s n a r u = λ j. eq-eqb (refusal g (record { kind = message p s; r
     inside : messageReach g p s a ≡ isMember g a p
     inside =
         let x = not-true (isError s) (and-left (not (isError s)) _ u) in
-        let y = and-right (not (isError s)) (eqb (verdict s) 0 && eqb (typeOf (readingOf s)) 769) u in
-        let v = and-left (eqb (verdict s) 0) (eqb (typeOf (readingOf s)) 769) y in
-        let t = and-right (eqb (verdict s) 0) (eqb (typeOf (readingOf s)) 769) y in
+        let y = and-right (not (isError s)) (eqb (verdict s) 0 && eqb (classTypeOf (readingOf s)) 769) u in
+        let v = and-left (eqb (verdict s) 0) (eqb (classTypeOf (readingOf s)) 769) y in
+        let t = and-right (eqb (verdict s) 0) (eqb (classTypeOf (readingOf s)) 769) y in
         rw (x, v, t)

@@ -1,4 +1,4 @@
--- Every event leaves a consistent state consistent.
+-- Every event leaves a sound state sound.
 -- Assumes nothing.
 use mathlib.Core.Path.{_≡_, ap, _∙_}
 use mathlib.Core.Bool.{Bool, true, false}
@@ -6,52 +6,52 @@ use mathlib.Core.List.{List}
 use Prim.Native.Nat.{ℕ, _<_}
 use lib.Dec.{ltb}
 use Rattle.laws.specs.Every.{and-left, and-both}
-use Rattle.laws.specs.Tab.{at, on}
-use Rattle.gateway.specs.Sound.{pair, consistent}
+use Rattle.laws.specs.Columns.{flagAt, isSet}
+use Rattle.gateway.specs.Sound.{pair, isSound}
 use Rattle.gateway.specs.declared.Gateway.{Gateway}
 use Rattle.server.specs.declared.Change.{Change}
-use Rattle.server.specs.declared.Change.the-variants.{Rise, Fall, Off, On, Recover}
+use Rattle.server.specs.declared.Change.the-variants.{AspUp, AspDown, Deactivate, Activate, Recover}
 use Rattle.server.specs.Record.{recordFrom, recordOf}
 use Rattle.servers.specs.Records.{ups-at}
 use Rattle.keeps.specs.Good.{Allowed}
 use Rattle.keeps.specs.Keeps.{InPlan, keeps as keeps-change, keeps-link}
 use Rattle.rules.specs.Event.{Event}
-use Rattle.rules.specs.Deed.{Deed, say, turn, change, stateAfter}
+use Rattle.rules.specs.Effect.{Effect, send, setLink, changeIn, stateAfter}
 use Rattle.rules.specs.Reach.{kindReach, fromController}
-use Rattle.rules.specs.Rules.{deedOf, inPlan, refusalOf, refusal}
+use Rattle.rules.specs.Rules.{effectOf, inPlan, refusalOf, refusal}
 use Rattle.rules.specs.Entry.{next}
 use Rattle.history.proofs.Within.{Safe, Within, Reaches, within}
 use Rattle.history.proofs.Frame.{live-plan, by-live}
 
 module _ (g : Gateway) (named : List Bool) where
   in-plan : (k : Change) → Safe g k named → InPlan (g .asps) k
-  in-plan (Rise p) s = s
-  in-plan (Fall p) s = tt
-  in-plan (Off p) s = tt
-  in-plan (On p) s = tt
+  in-plan (AspUp p) s = s
+  in-plan (AspDown p) s = tt
+  in-plan (Deactivate p) s = tt
+  in-plan (Activate p) s = tt
   in-plan Recover s = tt
 
-  allowed : (k : Change) → Safe g k named → ((a : ℕ) → a < 16 → at named a ≡ true → ltb a (g .ases) ≡ true) → (a : ℕ) → a < 16 → at named a ≡ true → Allowed (ltb a (g .ases)) k (recordOf g a)
+  allowed : (k : Change) → Safe g k named → ((a : ℕ) → a < 16 → flagAt named a ≡ true → ltb a (g .ases) ≡ true) → (a : ℕ) → a < 16 → flagAt named a ≡ true → Allowed (ltb a (g .ases)) k (recordOf g a)
   unfolding recordFrom
-  allowed (Rise p) s h a b e = h a b e
-  allowed (Fall p) s h a b e = tt
-  allowed (Off p) s h a b e = tt
-  allowed (On p) s h a b e = ups-at (g .up) (g .member) a p (s .0) ∙ and-both (on (g .member) (pair a p)) (on (g .up) p) (s .2 a b e) (s .1)
+  allowed (AspUp p) s h a b e = h a b e
+  allowed (AspDown p) s h a b e = tt
+  allowed (Deactivate p) s h a b e = tt
+  allowed (Activate p) s h a b e = ups-at (g .up) (g .member) a p (s .0) ∙ and-both (isSet (g .member) (pair a p)) (isSet (g .up) p) (s .2 a b e) (s .1)
   allowed Recover s h a b e = tt
 
-keeps-deed : (g : Gateway) (R own : ℕ → Bool) → consistent g ≡ true → ((a : ℕ) → R a ≡ true → ltb a (g .ases) ≡ true) → (d : Deed) → Within g R own d → consistent (stateAfter g d) ≡ true
-keeps-deed g R own ok h (say os) w = ok
-keeps-deed g R own ok h (turn l v os) w = keeps-link g l v ok (w .0) (w .1)
-keeps-deed g R own ok h (change os k named) w =
+keeps-effect : (g : Gateway) (R own : ℕ → Bool) → isSound g ≡ true → ((a : ℕ) → R a ≡ true → ltb a (g .ases) ≡ true) → (d : Effect) → Within g R own d → isSound (stateAfter g d) ≡ true
+keeps-effect g R own ok h (send os) w = ok
+keeps-effect g R own ok h (setLink l v os) w = keeps-link g l v ok (w .0) (w .1)
+keeps-effect g R own ok h (changeIn os k named) w =
     keeps-change g k named ok (w .whole) (in-plan g named k (w .safe)) (allowed g named k (w .safe) (λ a b e. h a (w .reached a b e)))
 
-pub keeps : (g : Gateway) (e : Event) → consistent g ≡ true → consistent (next g e) ≡ true
+pub keeps : (g : Gateway) (e : Event) → isSound g ≡ true → isSound (next g e) ≡ true
 keeps g e ok =
-    by-live g e (λ (x : Gateway). consistent x ≡ true)
-    (λ l. keeps-deed g (Reaches g (e .kind)) (fromController (e .kind)) ok (λ a r. and-left (ltb a (g .ases)) (kindReach g (e .kind) a) r) (deedOf g (e .kind)) (within g ok (e .kind) (live-plan g e l)))
+    by-live g e (λ (x : Gateway). isSound x ≡ true)
+    (λ l. keeps-effect g (Reaches g (e .kind)) (fromController (e .kind)) ok (λ a r. and-left (ltb a (g .ases)) (kindReach g (e .kind) a) r) (effectOf g (e .kind)) (within g ok (e .kind) (live-plan g e l)))
     (λ l. ok)
 
 -- an unsound state refuses every event (Rule 6.4): and so it stays, since a refused event changes nothing
-pub refused-unsound : (g : Gateway) (e : Event) → consistent g ≡ false → refusal g e ≡ 105
+pub refused-unsound : (g : Gateway) (e : Event) → isSound g ≡ false → refusal g e ≡ 105
 unfolding refusalOf
 refused-unsound g e n = ap (λ (t : Bool). refusalOf t (inPlan g (e .kind)) (e .room)) n

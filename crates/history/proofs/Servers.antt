@@ -8,14 +8,14 @@ use native.Mathlib.Omega.{arith}
 use lib.ListN.{length, drop, drop-of-length-le}
 use lib.Dec.{eqb}
 use Rattle.laws.specs.Below.{concat-ext}
-use Rattle.laws.specs.Tab.{at, on, col, tab, length-tab, tab-ext}
+use Rattle.laws.specs.Columns.{flagAt, isSet, numberAt, tabulate, length-tabulate, tabulate-ext}
 use Rattle.gateway.specs.Sound.{pair}
 use Rattle.gateway.specs.declared.Gateway.{Gateway}
 use Rattle.server.specs.declared.Change.{Change}
-use Rattle.server.specs.declared.Change.the-variants.{Rise, Fall, Off, On, Recover}
+use Rattle.server.specs.declared.Change.the-variants.{AspUp, AspDown, Deactivate, Activate, Recover}
 use Rattle.server.specs.Record.{row, membersUp, recordFrom, recordOf}
 use Rattle.server.specs.Notify.{actionsIn}
-use Rattle.servers.specs.Moved.{flagAt, newActive, newWaiting, upAfter, moved, actionsAt, allActions}
+use Rattle.servers.specs.Changed.{withFlag, newActive, newWaiting, upAfter, withChange, actionsAt, allActions}
 use Rattle.servers.specs.Records.{flag-at}
 use Rattle.history.proofs.Bits.{and-cong}
 
@@ -39,87 +39,87 @@ dyn g u c w s =
 
 -- the record of an AS hangs on its members' up flags, its row, its mark and its mode
 pub same-record : (up′ up member active′ active waiting′ waiting mode : List ℕ) (a : ℕ)
-    → ((q : ℕ) → q < 16 → on member (pair a q) ≡ true → col up′ q ≡ col up q)
-    → ((q : ℕ) → q < 16 → col active′ (pair a q) ≡ col active (pair a q))
-    → col waiting′ a ≡ col waiting a → recordFrom up′ member active′ waiting′ mode a ≡ recordFrom up member active waiting mode a
+    → ((q : ℕ) → q < 16 → isSet member (pair a q) ≡ true → numberAt up′ q ≡ numberAt up q)
+    → ((q : ℕ) → q < 16 → numberAt active′ (pair a q) ≡ numberAt active (pair a q))
+    → numberAt waiting′ a ≡ numberAt waiting a → recordFrom up′ member active′ waiting′ mode a ≡ recordFrom up member active waiting mode a
 unfolding recordFrom membersUp row
 same-record up′ up member active′ active waiting′ waiting mode a hu hc hw =
-    λ j. record { ups = ups j; acts = acts j; waiting = eqb (hw j) 1; mode = col mode a }
+    λ j. record { ups = ups j; acts = acts j; waiting = eqb (hw j) 1; mode = numberAt mode a }
   where
-    ups : tab 16 (λ q. on member (pair a q) && on up′ q) ≡ tab 16 (λ q. on member (pair a q) && on up q)
-    ups = tab-ext false 16 _ _ (λ q b. and-cong (on member (pair a q)) (λ m. ap (λ (x : ℕ). eqb x 1) (hu q b m)))
+    ups : tabulate 16 (λ q. isSet member (pair a q) && isSet up′ q) ≡ tabulate 16 (λ q. isSet member (pair a q) && isSet up q)
+    ups = tabulate-ext false 16 _ _ (λ q b. and-cong (isSet member (pair a q)) (λ m. ap (λ (x : ℕ). eqb x 1) (hu q b m)))
 
-    acts : tab 16 (λ q. on active′ (pair a q)) ≡ tab 16 (λ q. on active (pair a q))
-    acts = tab-ext false 16 _ _ (λ q b. ap (λ (x : ℕ). eqb x 1) (hc q b))
+    acts : tabulate 16 (λ q. isSet active′ (pair a q)) ≡ tabulate 16 (λ q. isSet active (pair a q))
+    acts = tabulate-ext false 16 _ _ (λ q b. ap (λ (x : ℕ). eqb x 1) (hc q b))
 
 -- the actions hang on the records of the ASes named
-pub same-actions : (g′ g : Gateway) (k : Change) (named : List Bool) → ((a : ℕ) → a < 16 → at named a ≡ true → recordOf g′ a ≡ recordOf g a)
+pub same-actions : (g′ g : Gateway) (k : Change) (named : List Bool) → ((a : ℕ) → a < 16 → flagAt named a ≡ true → recordOf g′ a ≡ recordOf g a)
     → allActions g′ k named ≡ allActions g k named
 unfolding allActions actionsAt actionsIn
-same-actions g′ g k named h = concat-ext _ _ 16 (λ a b. go a (at named a) (h a b))
+same-actions g′ g k named h = concat-ext _ _ 16 (λ a b. go a (flagAt named a) (h a b))
   where
     go : (a : ℕ) (t : Bool) → (t ≡ true → recordOf g′ a ≡ recordOf g a) → actionsIn t k a (recordOf g′ a) ≡ actionsIn t k a (recordOf g a)
     go a true e = ap (actionsIn true k a) (e refl)
     go a false e = refl
 
 -- an up flag after a change hangs on that flag
-pub same-up : (k : Change) (u v : List ℕ) (q : ℕ) → q < 16 → col u q ≡ col v q → col (upAfter k u) q ≡ col (upAfter k v) q
-same-up (Rise p) u v q b e = flag-at u p 1 q b ∙ ap (cond (eqb q p) 1) e ∙ sym (flag-at v p 1 q b)
-same-up (Fall p) u v q b e = flag-at u p 0 q b ∙ ap (cond (eqb q p) 0) e ∙ sym (flag-at v p 0 q b)
-same-up (Off p) u v q b e = e
-same-up (On p) u v q b e = e
+pub same-up : (k : Change) (u v : List ℕ) (q : ℕ) → q < 16 → numberAt u q ≡ numberAt v q → numberAt (upAfter k u) q ≡ numberAt (upAfter k v) q
+same-up (AspUp p) u v q b e = flag-at u p 1 q b ∙ ap (cond (eqb q p) 1) e ∙ sym (flag-at v p 1 q b)
+same-up (AspDown p) u v q b e = flag-at u p 0 q b ∙ ap (cond (eqb q p) 0) e ∙ sym (flag-at v p 0 q b)
+same-up (Deactivate p) u v q b e = e
+same-up (Activate p) u v q b e = e
 same-up Recover u v q b e = e
 
 -- ---- what a change leaves, and the lengths of what it makes
 
 -- whether a change makes the table of up flags anew
 abbrev pub remakesUp : Change → Bool
-remakesUp (Rise p) = true
-remakesUp (Fall p) = true
-remakesUp (Off p) = false
-remakesUp (On p) = false
+remakesUp (AspUp p) = true
+remakesUp (AspDown p) = true
+remakesUp (Deactivate p) = false
+remakesUp (Activate p) = false
 remakesUp Recover = false
 
-tab-drop : (n : ℕ) (f : ℕ → ℕ) → drop n (tab n f) ≡ []
-tab-drop n f = drop-of-length-le (tab n f) {i = n} (omega (arith, length-tab n f))
+tabulate-drop : (n : ℕ) (f : ℕ → ℕ) → drop n (tabulate n f) ≡ []
+tabulate-drop n f = drop-of-length-le (tabulate n f) {i = n} (omega (arith, length-tabulate n f))
 
 pub up-length : (k : Change) (u : List ℕ) → length (upAfter k u) ≡ cond (remakesUp k) 16 (length u)
-unfolding flagAt
-up-length (Rise p) u = length-tab 16 _
-up-length (Fall p) u = length-tab 16 _
-up-length (Off p) u = refl
-up-length (On p) u = refl
+unfolding withFlag
+up-length (AspUp p) u = length-tabulate 16 _
+up-length (AspDown p) u = length-tabulate 16 _
+up-length (Deactivate p) u = refl
+up-length (Activate p) u = refl
 up-length Recover u = refl
 
 pub up-drop : (k : Change) (u : List ℕ) → drop 16 (upAfter k u) ≡ cond (remakesUp k) [] (drop 16 u)
-unfolding flagAt
-up-drop (Rise p) u = tab-drop 16 _
-up-drop (Fall p) u = tab-drop 16 _
-up-drop (Off p) u = refl
-up-drop (On p) u = refl
+unfolding withFlag
+up-drop (AspUp p) u = tabulate-drop 16 _
+up-drop (AspDown p) u = tabulate-drop 16 _
+up-drop (Deactivate p) u = refl
+up-drop (Activate p) u = refl
 up-drop Recover u = refl
 
 module _ (g : Gateway) (k : Change) (named : List Bool) where
-  pub moved-up : moved g k named .up ≡ upAfter k (g .up)
-  unfolding moved
-  moved-up = refl
+  pub change-up : withChange g k named .up ≡ upAfter k (g .up)
+  unfolding withChange
+  change-up = refl
 
-  pub moved-state : moved g k named .state ≡ g .state
-  unfolding moved
-  moved-state = refl
+  pub change-state : withChange g k named .state ≡ g .state
+  unfolding withChange
+  change-state = refl
 
-  pub active-length : length (moved g k named .active) ≡ 256
-  unfolding moved
-  active-length = length-tab 256 (newActive k named (recordOf g) (g .active))
+  pub active-length : length (withChange g k named .active) ≡ 256
+  unfolding withChange
+  active-length = length-tabulate 256 (newActive k named (recordOf g) (g .active))
 
-  pub active-drop : drop 256 (moved g k named .active) ≡ []
-  unfolding moved
-  active-drop = tab-drop 256 (newActive k named (recordOf g) (g .active))
+  pub active-drop : drop 256 (withChange g k named .active) ≡ []
+  unfolding withChange
+  active-drop = tabulate-drop 256 (newActive k named (recordOf g) (g .active))
 
-  pub waiting-length : length (moved g k named .waiting) ≡ 16
-  unfolding moved
-  waiting-length = length-tab 16 (newWaiting k named (recordOf g) (g .waiting))
+  pub waiting-length : length (withChange g k named .waiting) ≡ 16
+  unfolding withChange
+  waiting-length = length-tabulate 16 (newWaiting k named (recordOf g) (g .waiting))
 
-  pub waiting-drop : drop 16 (moved g k named .waiting) ≡ []
-  unfolding moved
-  waiting-drop = tab-drop 16 (newWaiting k named (recordOf g) (g .waiting))
+  pub waiting-drop : drop 16 (withChange g k named .waiting) ≡ []
+  unfolding withChange
+  waiting-drop = tabulate-drop 16 (newWaiting k named (recordOf g) (g .waiting))

@@ -10,65 +10,65 @@ use lib.Dec.{eqb, ltb}
 use borrow.Author.Tests.{lt-ltb, le-ltb, ltb-true, eqb-true, eq-eqb, not-false}
 use Rattle.laws.specs.Below.{any-at, firstBelow}
 use Rattle.laws.specs.Every.{and-left, and-right, and-both}
-use Rattle.laws.specs.Tab.{at, on, col, tab, getD-tab}
+use Rattle.laws.specs.Columns.{flagAt, isSet, numberAt, tabulate, getD-tabulate}
 use Rattle.wire.specs.Walk.{Par, walk}
 use Rattle.message.specs.Verdict.{verdict}
 use Rattle.message.specs.Meaning.{readingOf}
 use Rattle.message.specs.declared.Reading.{Reading}
-use Rattle.gateway.specs.Sound.{pair, consistent}
+use Rattle.gateway.specs.Sound.{pair, isSound}
 use Rattle.gateway.specs.Laws.{counts-within, owner-within, member-within}
 use Rattle.gateway.specs.declared.Gateway.{Gateway}
 use Rattle.lookup.specs.Links.{indexOf, known}
-use Rattle.ranges.specs.Named.{ownerOf, isRefused, isOf, span, nothing, refusing, firstIn, someIn, startAt, stopAt, entries, firstOf, refusedEntry, refusedIn, someEntry, someOf}
+use Rattle.ranges.specs.Named.{ownerOf, isRefused, isOwnedBy, span, nothing, refusing, firstIn, someIn, startAt, stopAt, entries, firstOf, refusedEntry, refusedIn, someEntry, someOf}
 use Rattle.ranges.specs.declared.Refused.{Refused}
 use Rattle.action.specs.declared.Action.{Action}
 use Rattle.server.specs.declared.Change.{Change}
-use Rattle.server.specs.declared.Change.the-variants.{Rise, Fall, Off, On, Recover}
+use Rattle.server.specs.declared.Change.the-variants.{AspUp, AspDown, Deactivate, Activate, Recover}
 use Rattle.server.specs.Record.{some}
 use Rattle.servers.specs.Records.{moves, NamesOwn, names-own, column-at}
-use Rattle.rules.specs.Event.{Kind, message, lost, recovery, linkUp, linkDown, linkMessage}
+use Rattle.rules.specs.Event.{EventKind, message, lost, recovery, linkUp, linkDown, linkMessage}
 use Rattle.rules.specs.Identifiers.{isIds, firstRefused, ownsNamed, ownersNamed, isKnown, linkOf, ownerAt, isMember, isActive}
-use Rattle.rules.specs.Deed.{Deed, say, turn, change}
-use Rattle.rules.specs.Asp.{asesOf, upDeed, downDeed, lostDeed, otherMode, activeDeed, inactiveDeed, trafficDeed}
-use Rattle.rules.specs.Link.{starting, inService, stopping, idle, establish, release, dataWork, linkWork, classSixDeed, linkUpDeed, linkDownDeed, linkMessageDeed}
-use Rattle.rules.specs.Rules.{isError, typeOf, fromAsp, readDeed, messageDeed, deedOf, inPlan}
+use Rattle.rules.specs.Effect.{Effect, send, setLink, changeIn}
+use Rattle.rules.specs.Asp.{asesOf, upEffect, downEffect, lostEffect, otherMode, activeEffect, inactiveEffect, trafficEffect}
+use Rattle.rules.specs.Link.{starting, inService, stopping, idle, establish, release, dataEffect, linkEffect, classSixEffect, linkUpEffect, linkDownEffect, linkMessageEffect}
+use Rattle.rules.specs.Rules.{isError, classTypeOf, fromAsp, readEffect, messageEffect, effectOf, inPlan}
 use Rattle.rules.specs.Reach.{ownsId, readReach, messageReach, kindReach, fromController}
 use Rattle.history.specs.Local.{false-of}
 use Rattle.history.proofs.Bits.{clash, or-left, or-right, or-case, by-cond}
 
--- what a change needs to leave a consistent state so
+-- what a change needs to leave a sound state so
 abbrev pub Safe : Gateway → Change → List Bool → Type 0
-Safe g (Rise p) named = p < g .asps
-Safe g (Fall p) named = Unit {0}
-Safe g (Off p) named = Unit {0}
-Safe g (On p) named = (p < 16) × (on (g .up) p ≡ true) × ((a : ℕ) → a < 16 → at named a ≡ true → isMember g a p ≡ true)
+Safe g (AspUp p) named = p < g .asps
+Safe g (AspDown p) named = Unit {0}
+Safe g (Deactivate p) named = Unit {0}
+Safe g (Activate p) named = (p < 16) × (isSet (g .up) p ≡ true) × ((a : ℕ) → a < 16 → flagAt named a ≡ true → isMember g a p ≡ true)
 Safe g Recover named = Unit {0}
 
 -- A change in the ASes named, by an event that reaches the ASes of R and is of the controllers of `own`: it names only what it reaches; whom it
 -- sets up or down is its own controller, and all ASes of that one are named.
 pub record In (g : Gateway) (R own : ℕ → Bool) (k : Change) (named : List Bool) : Type 0 where
-  pub reached : (a : ℕ) → a < 16 → at named a ≡ true → R a ≡ true
+  pub reached : (a : ℕ) → a < 16 → flagAt named a ≡ true → R a ≡ true
   pub mine : (q : ℕ) → moves k q ≡ true → own q ≡ true
   pub whole : NamesOwn k (g .member) named
   pub safe : Safe g k named
 
 -- the same of all that an event does; a link that it turns is the plan's, and its owner is reached
-abbrev pub Within : Gateway → (ℕ → Bool) → (ℕ → Bool) → Deed → Type 0
-Within g R own (say os) = Unit {0}
-Within g R own (turn l v os) = (l < g .links) × (v < 4) × (R (ownerAt g l) ≡ true)
-Within g R own (change os k named) = In g R own k named
+abbrev pub Within : Gateway → (ℕ → Bool) → (ℕ → Bool) → Effect → Type 0
+Within g R own (send os) = Unit {0}
+Within g R own (setLink l v os) = (l < g .links) × (v < 4) × (R (ownerAt g l) ≡ true)
+Within g R own (changeIn os k named) = In g R own k named
 
 -- the ASes that an accepted event reaches
-abbrev pub Reaches : Gateway → Kind → ℕ → Bool
+abbrev pub Reaches : Gateway → EventKind → ℕ → Bool
 Reaches g k a = ltb a (g .ases) && kindReach g k a
 
 pub neither : (t u : Bool) → t ≡ false → u ≡ false → (t || u) ≡ false
 neither t u x y = rw (x, y)
 
-widen : (g : Gateway) (R R′ own : ℕ → Bool) (d : Deed) → ((a : ℕ) → R a ≡ true → R′ a ≡ true) → Within g R own d → Within g R′ own d
-widen g R R′ own (say os) h w = tt
-widen g R R′ own (turn l v os) h w = (w .0, w .1, h (ownerAt g l) (w .2))
-widen g R R′ own (change os k named) h w =
+widen : (g : Gateway) (R R′ own : ℕ → Bool) (d : Effect) → ((a : ℕ) → R a ≡ true → R′ a ≡ true) → Within g R own d → Within g R′ own d
+widen g R R′ own (send os) h w = tt
+widen g R R′ own (setLink l v os) h w = (w .0, w .1, h (ownerAt g l) (w .2))
+widen g R R′ own (changeIn os k named) h w =
     record { reached = λ a b e. h a (w .reached a b e); mine = w .mine; whole = w .whole; safe = w .safe }
 
 -- ---- the identifiers that a message names
@@ -127,11 +127,11 @@ passed true r rest h = go (r .found) refl h
     go false e h = (h, λ z. e)
 
 -- an AS that owns one of those named owns one in the plan, and, where none is refused, has p
-named-one : (g : Gateway) (ps : List Par) (a : ℕ) → ownsNamed g ps a ≡ true → (x : ℕ) × (isOf (g .iid) (g .owner) (g .links) a x ≡ true)
+named-one : (g : Gateway) (ps : List Par) (a : ℕ) → ownsNamed g ps a ≡ true → (x : ℕ) × (isOwnedBy (g .iid) (g .owner) (g .links) a x ≡ true)
 unfolding ownsNamed someOf someEntry someIn
 named-one g [] a h = clash false refl h
 named-one g (x ∷ ps) a h =
-    let good = isOf (g .iid) (g .owner) (g .links) a in
+    let good = isOwnedBy (g .iid) (g .owner) (g .links) a in
     or-case (isIds (x .tag) && someOf good (eqb (x .tag) 0x8) (x .body)) (ownsNamed g ps a) h
     (λ e.
     let i = any-at (λ i. someIn good (startAt (eqb (x .tag) 0x8) (x .body) i) (stopAt (eqb (x .tag) 0x8) (x .body) i)) (entries (eqb (x .tag) 0x8) (x .body)) (and-right (isIds (x .tag)) _ e) in
@@ -140,24 +140,24 @@ named-one g (x ∷ ps) a h =
     (named-one g ps a)
 
 named-mine : (g : Gateway) (p : ℕ) (ps : List Par) (a : ℕ) → firstRefused g p ps .found ≡ false → ownsNamed g ps a ≡ true → isMember g a p ≡ true
-unfolding firstRefused ownsNamed isOf isRefused
+unfolding firstRefused ownsNamed isOwnedBy isRefused
 named-mine g p [] a n h = clash false refl h
 named-mine g p (x ∷ ps) a n h =
     let bad = isRefused (g .iid) (g .owner) (g .member) (g .links) p in
-    let good = isOf (g .iid) (g .owner) (g .links) a in
+    let good = isOwnedBy (g .iid) (g .owner) (g .links) a in
     let pairs = eqb (x .tag) 0x8 in
     let z = passed (isIds (x .tag)) (refusedIn bad pairs (x .body)) (firstRefused g p ps) n in
     or-case (isIds (x .tag) && someOf good pairs (x .body)) (ownsNamed g ps a) h
     (λ e.
     let y = value-good bad good pairs (x .body) (z .1 (and-left (isIds (x .tag)) _ e)) (and-right (isIds (x .tag)) _ e) in
-    let m = not-false (known (g .iid) (g .links) (y .0) && on (g .member) (pair (ownerOf (g .iid) (g .owner) (g .links) (y .0)) p)) (y .2) in
+    let m = not-false (known (g .iid) (g .links) (y .0) && isSet (g .member) (pair (ownerOf (g .iid) (g .owner) (g .links) (y .0)) p)) (y .2) in
     let o = eqb-true (ownerOf (g .iid) (g .owner) (g .links) (y .0)) a (and-right (known (g .iid) (g .links) (y .0)) _ (y .1)) in
-    rw o at (and-right (known (g .iid) (g .links) (y .0)) (on (g .member) (pair (ownerOf (g .iid) (g .owner) (g .links) (y .0)) p)) m))
+    rw o at (and-right (known (g .iid) (g .links) (y .0)) (isSet (g .member) (pair (ownerOf (g .iid) (g .owner) (g .links) (y .0)) p)) m))
     (named-mine g p ps a (z .0))
 
--- ---- what a consistent state says of the ASes reached
+-- ---- what a sound state says of the ASes reached
 
-module _ (g : Gateway) (ok : consistent g ≡ true) where
+module _ (g : Gateway) (ok : isSound g ≡ true) where
   pub asps-16 : (p : ℕ) → p < g .asps → p < 16
   asps-16 p b = omega (arith, counts-within g ok .asps)
 
@@ -170,11 +170,11 @@ module _ (g : Gateway) (ok : consistent g ≡ true) where
   owner-in l b = lt-ltb (ownerAt g l) (g .ases) (owner-within g ok l b)
 
   named-in : (ps : List Par) (a : ℕ) → ownsNamed g ps a ≡ true → ltb a (g .ases) ≡ true
-  unfolding isOf ownerOf known
+  unfolding isOwnedBy ownerOf known
   named-in ps a h =
       let x = named-one g ps a h in
-      let k = and-left (ltb (indexOf (g .iid) (g .links) (x .0)) (g .links)) (eqb (col (g .owner) (indexOf (g .iid) (g .links) (x .0))) a) (x .1) in
-      let o = eqb-true (col (g .owner) (indexOf (g .iid) (g .links) (x .0))) a (and-right (ltb (indexOf (g .iid) (g .links) (x .0)) (g .links)) _ (x .1)) in
+      let k = and-left (ltb (indexOf (g .iid) (g .links) (x .0)) (g .links)) (eqb (numberAt (g .owner) (indexOf (g .iid) (g .links) (x .0))) a) (x .1) in
+      let o = eqb-true (numberAt (g .owner) (indexOf (g .iid) (g .links) (x .0))) a (and-right (ltb (indexOf (g .iid) (g .links) (x .0)) (g .links)) _ (x .1)) in
       rw o at (owner-in (indexOf (g .iid) (g .links) (x .0)) (ltb-true _ (g .links) k))
 
   pub member-in : (p a : ℕ) → p < g .asps → a < 16 → isMember g a p ≡ true → ltb a (g .ases) ≡ true
@@ -184,7 +184,7 @@ module _ (g : Gateway) (ok : consistent g ≡ true) where
 
   module _ (p : ℕ) (b : p < g .asps) where
     -- all ASes of p
-    all-of-p : (K : ℕ → Bool) → ((a : ℕ) → isMember g a p ≡ true → K a ≡ true) → (a : ℕ) → a < 16 → at (asesOf g p) a ≡ true → (ltb a (g .ases) && K a) ≡ true
+    all-of-p : (K : ℕ → Bool) → ((a : ℕ) → isMember g a p ≡ true → K a ≡ true) → (a : ℕ) → a < 16 → flagAt (asesOf g p) a ≡ true → (ltb a (g .ases) && K a) ≡ true
     all-of-p K h a c e =
         let m = sym (column-at (g .member) p a c) ∙ e in
         and-both (ltb a (g .ases)) (K a) (member-in p a b c m) (h a m)
@@ -192,59 +192,59 @@ module _ (g : Gateway) (ok : consistent g ≡ true) where
     mine-p : (q : ℕ) → eqb q p ≡ true → eqb p q ≡ true
     mine-p q e = eq-eqb p q (sym (eqb-true q p e))
 
-    rise-in : (K : ℕ → Bool) → ((a : ℕ) → isMember g a p ≡ true → K a ≡ true) → In g (λ a. ltb a (g .ases) && K a) (eqb p) (Rise p) (asesOf g p)
-    rise-in K h = record { reached = all-of-p K h; mine = mine-p; whole = names-own (Rise p) (g .member) p (λ q m. eqb-true q p m); safe = b }
+    up-in : (K : ℕ → Bool) → ((a : ℕ) → isMember g a p ≡ true → K a ≡ true) → In g (λ a. ltb a (g .ases) && K a) (eqb p) (AspUp p) (asesOf g p)
+    up-in K h = record { reached = all-of-p K h; mine = mine-p; whole = names-own (AspUp p) (g .member) p (λ q m. eqb-true q p m); safe = b }
 
-    fall-in : (K : ℕ → Bool) → ((a : ℕ) → isMember g a p ≡ true → K a ≡ true) → In g (λ a. ltb a (g .ases) && K a) (eqb p) (Fall p) (asesOf g p)
-    fall-in K h = record { reached = all-of-p K h; mine = mine-p; whole = names-own (Fall p) (g .member) p (λ q m. eqb-true q p m); safe = tt }
+    down-in : (K : ℕ → Bool) → ((a : ℕ) → isMember g a p ≡ true → K a ≡ true) → In g (λ a. ltb a (g .ases) && K a) (eqb p) (AspDown p) (asesOf g p)
+    down-in K h = record { reached = all-of-p K h; mine = mine-p; whole = names-own (AspDown p) (g .member) p (λ q m. eqb-true q p m); safe = tt }
 
     -- Active and Inactive: those named by identifiers, or all ASes of p
-    traffic-in : (K : ℕ → Bool) (r : Reading) (ps : List Par) (act : List Bool → Deed)
-        → ((named : List Bool) → ((a : ℕ) → a < 16 → at named a ≡ true → (ltb a (g .ases) && K a) ≡ true) → ((a : ℕ) → a < 16 → at named a ≡ true → isMember g a p ≡ true) → on (g .up) p ≡ true → Within g (λ a. ltb a (g .ases) && K a) (eqb p) (act named))
+    traffic-in : (K : ℕ → Bool) (r : Reading) (ps : List Par) (act : List Bool → Effect)
+        → ((named : List Bool) → ((a : ℕ) → a < 16 → flagAt named a ≡ true → (ltb a (g .ases) && K a) ≡ true) → ((a : ℕ) → a < 16 → flagAt named a ≡ true → isMember g a p ≡ true) → isSet (g .up) p ≡ true → Within g (λ a. ltb a (g .ases) && K a) (eqb p) (act named))
         → (eqb (r .ids) 1 ≡ true → (a : ℕ) → ownsNamed g ps a ≡ true → K a ≡ true)
         → (eqb (r .ids) 1 ≡ false → (a : ℕ) → isMember g a p ≡ true → K a ≡ true)
-        → Within g (λ a. ltb a (g .ases) && K a) (eqb p) (trafficDeed g p r ps act)
-    unfolding trafficDeed ownersNamed
+        → Within g (λ a. ltb a (g .ases) && K a) (eqb p) (trafficEffect g p r ps act)
+    unfolding trafficEffect ownersNamed
     traffic-in K r ps act h ids all =
-        by-cond (not (on (g .up) p)) W (λ _. tt)
+        by-cond (not (isSet (g .up) p)) W (λ _. tt)
         (λ u. by-cond (eqb (r .ids) 1) W
         (λ i. by-cond (firstRefused g p ps .found) W (λ _. tt)
-        (λ n. h (tab 16 (ownsNamed g ps)) (λ a c e. and-both (ltb a (g .ases)) (K a) (named-in ps a (own a c e)) (ids i a (own a c e)))
-        (λ a c e. named-mine g p ps a n (own a c e)) (not-false (on (g .up) p) u)))
+        (λ n. h (tabulate 16 (ownsNamed g ps)) (λ a c e. and-both (ltb a (g .ases)) (K a) (named-in ps a (own a c e)) (ids i a (own a c e)))
+        (λ a c e. named-mine g p ps a n (own a c e)) (not-false (isSet (g .up) p) u)))
         (λ i. by-cond (some (asesOf g p)) W
-        (λ _. h (asesOf g p) (all-of-p K (all i)) (λ a c e. sym (column-at (g .member) p a c) ∙ e) (not-false (on (g .up) p) u)) (λ _. tt)))
+        (λ _. h (asesOf g p) (all-of-p K (all i)) (λ a c e. sym (column-at (g .member) p a c) ∙ e) (not-false (isSet (g .up) p) u)) (λ _. tt)))
       where
-        W : Deed → Type 0
+        W : Effect → Type 0
         W = Within g (λ a. ltb a (g .ases) && K a) (eqb p)
 
-        own : (a : ℕ) → a < 16 → at (tab 16 (ownsNamed g ps)) a ≡ true → ownsNamed g ps a ≡ true
-        own a c e = sym (getD-tab 16 (ownsNamed g ps) a false c) ∙ e
+        own : (a : ℕ) → a < 16 → flagAt (tabulate 16 (ownsNamed g ps)) a ≡ true → ownsNamed g ps a ≡ true
+        own a c e = sym (getD-tabulate 16 (ownsNamed g ps) a false c) ∙ e
 
-    active-in : (K : ℕ → Bool) (mode : ℕ) (named : List Bool) → ((a : ℕ) → a < 16 → at named a ≡ true → (ltb a (g .ases) && K a) ≡ true) → ((a : ℕ) → a < 16 → at named a ≡ true → isMember g a p ≡ true) → on (g .up) p ≡ true → Within g (λ a. ltb a (g .ases) && K a) (eqb p) (activeDeed g p mode named)
-    unfolding activeDeed
+    active-in : (K : ℕ → Bool) (mode : ℕ) (named : List Bool) → ((a : ℕ) → a < 16 → flagAt named a ≡ true → (ltb a (g .ases) && K a) ≡ true) → ((a : ℕ) → a < 16 → flagAt named a ≡ true → isMember g a p ≡ true) → isSet (g .up) p ≡ true → Within g (λ a. ltb a (g .ases) && K a) (eqb p) (activeEffect g p mode named)
+    unfolding activeEffect
     active-in K mode named h m u =
         by-cond (otherMode g mode named) (Within g (λ a. ltb a (g .ases) && K a) (eqb p)) (λ _. tt)
         (λ _. record { reached = h; mine = λ q e. clash false refl e; whole = λ q a e c. clash false refl e; safe = (asps-16 p b, u, m) })
 
-    inactive-in : (K : ℕ → Bool) (named : List Bool) → ((a : ℕ) → a < 16 → at named a ≡ true → (ltb a (g .ases) && K a) ≡ true) → ((a : ℕ) → a < 16 → at named a ≡ true → isMember g a p ≡ true) → on (g .up) p ≡ true → Within g (λ a. ltb a (g .ases) && K a) (eqb p) (inactiveDeed p named)
-    unfolding inactiveDeed
+    inactive-in : (K : ℕ → Bool) (named : List Bool) → ((a : ℕ) → a < 16 → flagAt named a ≡ true → (ltb a (g .ases) && K a) ≡ true) → ((a : ℕ) → a < 16 → flagAt named a ≡ true → isMember g a p ≡ true) → isSet (g .up) p ≡ true → Within g (λ a. ltb a (g .ases) && K a) (eqb p) (inactiveEffect p named)
+    unfolding inactiveEffect
     inactive-in K named h m u = record { reached = h; mine = λ q e. clash false refl e; whole = λ q a e c. clash false refl e; safe = tt }
 
     -- class 6: the owner of a known identifier
-    six-in : (K : ℕ → Bool) (r : Reading) → ((a : ℕ) → ownsId g (r .id) a ≡ true → K a ≡ true) → Within g (λ a. ltb a (g .ases) && K a) (eqb p) (classSixDeed g p r)
-    unfolding classSixDeed linkWork dataWork establish release ownsId
+    six-in : (K : ℕ → Bool) (r : Reading) → ((a : ℕ) → ownsId g (r .id) a ≡ true → K a ≡ true) → Within g (λ a. ltb a (g .ases) && K a) (eqb p) (classSixEffect g p r)
+    unfolding classSixEffect linkEffect dataEffect establish release ownsId
     six-in K r h =
-        by-cond (not (on (g .up) p)) W (λ _. tt)
+        by-cond (not (isSet (g .up) p)) W (λ _. tt)
         (λ _. by-cond (not (isKnown g x && isMember g (ownerAt g l) p)) W (λ _. tt)
         (λ k. by-cond (not (isActive g (ownerAt g l) p)) W (λ _. tt)
-        (λ _. by-cond (eqb (r .kind) 1) W (λ _. by-cond (eqb st inService) W (λ _. tt) (λ _. tt))
-        (λ _. by-cond (eqb (r .kind) 2) W
+        (λ _. by-cond (eqb (r .msgtype) 1) W (λ _. by-cond (eqb st inService) W (λ _. tt) (λ _. tt))
+        (λ _. by-cond (eqb (r .msgtype) 2) W
         (λ _. by-cond (eqb st inService) W (λ _. tt) (λ _. by-cond (eqb st starting) W (λ _. tt) (λ _. turned starting (omega arith) k)))
-        (λ _. by-cond (eqb (r .kind) 4) W
+        (λ _. by-cond (eqb (r .msgtype) 4) W
         (λ _. by-cond (eqb st idle) W (λ _. tt) (λ _. by-cond (eqb st stopping) W (λ _. tt) (λ _. turned stopping (omega arith) k)))
-        (λ _. by-cond (eqb (r .kind) 7) W (λ _. tt) (λ _. by-cond (eqb (r .kind) 10) W (λ _. tt) (λ _. tt))))))))
+        (λ _. by-cond (eqb (r .msgtype) 7) W (λ _. tt) (λ _. by-cond (eqb (r .msgtype) 10) W (λ _. tt) (λ _. tt))))))))
       where
-        W : Deed → Type 0
+        W : Effect → Type 0
         W = Within g (λ a. ltb a (g .ases) && K a) (eqb p)
 
         x : ℕ
@@ -254,7 +254,7 @@ module _ (g : Gateway) (ok : consistent g ≡ true) where
         l = linkOf g (r .id)
 
         st : ℕ
-        st = col (g .state) (linkOf g (r .id))
+        st = numberAt (g .state) (linkOf g (r .id))
 
         turned : (v : ℕ) → v < 4 → not (isKnown g (r .id) && isMember g (ownerAt g (linkOf g (r .id))) p) ≡ false
             → (linkOf g (r .id) < g .links) × (v < 4) × ((ltb (ownerAt g (linkOf g (r .id))) (g .ases) && K (ownerAt g (linkOf g (r .id)))) ≡ true)
@@ -267,76 +267,76 @@ module _ (g : Gateway) (ok : consistent g ≡ true) where
     -- ---- what a readable message reaches, type by type
 
     module _ (s : List ℕ) (r : Reading) (a : ℕ) where
-      pub reach-up : eqb (typeOf r) 769 ≡ true → isMember g a p ≡ true → readReach g p s r a ≡ true
+      pub reach-up : eqb (classTypeOf r) 769 ≡ true → isMember g a p ≡ true → readReach g p s r a ≡ true
       unfolding readReach
       reach-up t m = rw t m
 
-      reach-down : eqb (typeOf r) 769 ≡ false → eqb (typeOf r) 770 ≡ true → isMember g a p ≡ true → readReach g p s r a ≡ true
+      reach-down : eqb (classTypeOf r) 769 ≡ false → eqb (classTypeOf r) 770 ≡ true → isMember g a p ≡ true → readReach g p s r a ≡ true
       unfolding readReach
       reach-down u t m = rw (u, t) m
 
-      reach-ids : (eqb (typeOf r) 769 || eqb (typeOf r) 770) ≡ false → (eqb (typeOf r) 1025 || eqb (typeOf r) 1026) ≡ true → eqb (r .ids) 1 ≡ true → ownsNamed g (walk s 8 .pars) a ≡ true → readReach g p s r a ≡ true
+      reach-ids : (eqb (classTypeOf r) 769 || eqb (classTypeOf r) 770) ≡ false → (eqb (classTypeOf r) 1025 || eqb (classTypeOf r) 1026) ≡ true → eqb (r .ids) 1 ≡ true → ownsNamed g (walk s 8 .pars) a ≡ true → readReach g p s r a ≡ true
       unfolding readReach
       reach-ids u v i m = rw (u, v, i) m
 
-      reach-all : (eqb (typeOf r) 769 || eqb (typeOf r) 770) ≡ false → (eqb (typeOf r) 1025 || eqb (typeOf r) 1026) ≡ true → eqb (r .ids) 1 ≡ false → isMember g a p ≡ true → readReach g p s r a ≡ true
+      reach-all : (eqb (classTypeOf r) 769 || eqb (classTypeOf r) 770) ≡ false → (eqb (classTypeOf r) 1025 || eqb (classTypeOf r) 1026) ≡ true → eqb (r .ids) 1 ≡ false → isMember g a p ≡ true → readReach g p s r a ≡ true
       unfolding readReach
       reach-all u v i m = rw (u, v, i) m
 
-      pub reach-six : (eqb (typeOf r) 769 || eqb (typeOf r) 770) ≡ false → (eqb (typeOf r) 1025 || eqb (typeOf r) 1026) ≡ false → eqb (r .class) 6 ≡ true → ownsId g (r .id) a ≡ true → readReach g p s r a ≡ true
+      pub reach-six : (eqb (classTypeOf r) 769 || eqb (classTypeOf r) 770) ≡ false → (eqb (classTypeOf r) 1025 || eqb (classTypeOf r) 1026) ≡ false → eqb (r .class) 6 ≡ true → ownsId g (r .id) a ≡ true → readReach g p s r a ≡ true
       unfolding readReach
       reach-six u v c m = rw (u, v, c) m
 
-    read-in : (s : List ℕ) (r : Reading) → Within g (λ a. ltb a (g .ases) && readReach g p s r a) (eqb p) (readDeed g p s r)
-    unfolding readDeed upDeed downDeed
+    read-in : (s : List ℕ) (r : Reading) → Within g (λ a. ltb a (g .ases) && readReach g p s r a) (eqb p) (readEffect g p s r)
+    unfolding readEffect upEffect downEffect
     read-in s r =
-        by-cond (eqb (typeOf r) 769) W
-        (λ t. by-cond (eqb (r .identified) 1 && not (eqb (r .aspid) (col (g .aspid) p))) W (λ _. tt) (λ _. rise-in K (λ a. reach-up s r a t)))
-        (λ n₁. by-cond (eqb (typeOf r) 770) W (λ t. fall-in K (λ a. reach-down s r a n₁ t))
-        (λ n₂. by-cond (eqb (typeOf r) 771) W (λ _. tt)
-        (λ _. by-cond (eqb (typeOf r) 774) W (λ _. tt)
-        (λ _. by-cond (eqb (typeOf r) 1025) W
+        by-cond (eqb (classTypeOf r) 769) W
+        (λ t. by-cond (eqb (r .identified) 1 && not (eqb (r .aspid) (numberAt (g .aspid) p))) W (λ _. tt) (λ _. up-in K (λ a. reach-up s r a t)))
+        (λ n₁. by-cond (eqb (classTypeOf r) 770) W (λ t. down-in K (λ a. reach-down s r a n₁ t))
+        (λ n₂. by-cond (eqb (classTypeOf r) 771) W (λ _. tt)
+        (λ _. by-cond (eqb (classTypeOf r) 774) W (λ _. tt)
+        (λ _. by-cond (eqb (classTypeOf r) 1025) W
         (λ t.
-        let u = neither (eqb (typeOf r) 769) (eqb (typeOf r) 770) n₁ n₂ in
-        let v = or-left (eqb (typeOf r) 1026) t in
-        traffic-in K r (walk s 8 .pars) (activeDeed g p (r .mode)) (active-in K (r .mode)) (λ i a. reach-ids s r a u v i) (λ i a. reach-all s r a u v i))
-        (λ n₃. by-cond (eqb (typeOf r) 1026) W
+        let u = neither (eqb (classTypeOf r) 769) (eqb (classTypeOf r) 770) n₁ n₂ in
+        let v = or-left (eqb (classTypeOf r) 1026) t in
+        traffic-in K r (walk s 8 .pars) (activeEffect g p (r .mode)) (active-in K (r .mode)) (λ i a. reach-ids s r a u v i) (λ i a. reach-all s r a u v i))
+        (λ n₃. by-cond (eqb (classTypeOf r) 1026) W
         (λ t.
-        let u = neither (eqb (typeOf r) 769) (eqb (typeOf r) 770) n₁ n₂ in
-        let v = or-right (eqb (typeOf r) 1025) t in
-        traffic-in K r (walk s 8 .pars) (inactiveDeed p) (inactive-in K) (λ i a. reach-ids s r a u v i) (λ i a. reach-all s r a u v i))
-        (λ n₄. by-cond (eqb (r .class) 6 && fromAsp (r .kind)) W
-        (λ t. six-in K r (λ a. reach-six s r a (neither (eqb (typeOf r) 769) (eqb (typeOf r) 770) n₁ n₂) (neither (eqb (typeOf r) 1025) (eqb (typeOf r) 1026) n₃ n₄) (and-left (eqb (r .class) 6) _ t)))
+        let u = neither (eqb (classTypeOf r) 769) (eqb (classTypeOf r) 770) n₁ n₂ in
+        let v = or-right (eqb (classTypeOf r) 1025) t in
+        traffic-in K r (walk s 8 .pars) (inactiveEffect p) (inactive-in K) (λ i a. reach-ids s r a u v i) (λ i a. reach-all s r a u v i))
+        (λ n₄. by-cond (eqb (r .class) 6 && fromAsp (r .msgtype)) W
+        (λ t. six-in K r (λ a. reach-six s r a (neither (eqb (classTypeOf r) 769) (eqb (classTypeOf r) 770) n₁ n₂) (neither (eqb (classTypeOf r) 1025) (eqb (classTypeOf r) 1026) n₃ n₄) (and-left (eqb (r .class) 6) _ t)))
         (λ _. tt)))))))
       where
         K : ℕ → Bool
         K = readReach g p s r
 
-        W : Deed → Type 0
+        W : Effect → Type 0
         W = Within g (λ a. ltb a (g .ases) && K a) (eqb p)
 
-    message-in : (s : List ℕ) → Within g (Reaches g (message p s)) (eqb p) (messageDeed g p s)
-    unfolding messageDeed messageReach
+    message-in : (s : List ℕ) → Within g (Reaches g (message p s)) (eqb p) (messageEffect g p s)
+    unfolding messageEffect messageReach
     message-in s =
         by-cond (isError s) W (λ _. tt)
         (λ n. by-cond (eqb (verdict s) 0) W
-        (λ v. widen g (λ a. ltb a (g .ases) && readReach g p s (readingOf s) a) (Reaches g (message p s)) (eqb p) (readDeed g p s (readingOf s)) (λ a e. rw (n, v) e) (read-in s (readingOf s)))
+        (λ v. widen g (λ a. ltb a (g .ases) && readReach g p s (readingOf s) a) (Reaches g (message p s)) (eqb p) (readEffect g p s (readingOf s)) (λ a e. rw (n, v) e) (read-in s (readingOf s)))
         (λ _. tt))
       where
-        W : Deed → Type 0
+        W : Effect → Type 0
         W = Within g (Reaches g (message p s)) (eqb p)
 
   -- ---- link events
 
-  link-turn : (l v : ℕ) (os : List Action) (own : ℕ → Bool) → l < g .links → v < 4 → Within g (λ a. ltb a (g .ases) && eqb (ownerAt g l) a) own (turn l v os)
+  link-turn : (l v : ℕ) (os : List Action) (own : ℕ → Bool) → l < g .links → v < 4 → Within g (λ a. ltb a (g .ases) && eqb (ownerAt g l) a) own (setLink l v os)
   link-turn l v os own b c =
       (b, c, and-both (ltb (ownerAt g l) (g .ases)) (eqb (ownerAt g l) (ownerAt g l)) (owner-in l b) (eq-eqb (ownerAt g l) (ownerAt g l) refl))
 
-  recover-in : (a : ℕ) → a < g .ases → In g (λ c. ltb c (g .ases) && eqb a c) (λ q. false) Recover (tab 16 (λ c. eqb c a))
+  recover-in : (a : ℕ) → a < g .ases → In g (λ c. ltb c (g .ases) && eqb a c) (λ q. false) Recover (tabulate 16 (λ c. eqb c a))
   recover-in a b =
       record {
         reached = λ c d e.
-            let z : c ≡ a = eqb-true c a (sym (getD-tab 16 (λ c. eqb c a) c false d) ∙ e) in
+            let z : c ≡ a = eqb-true c a (sym (getD-tabulate 16 (λ c. eqb c a) c false d) ∙ e) in
             rw z (and-both (ltb a (g .ases)) (eqb a a) (lt-ltb a (g .ases) b) (eq-eqb a a refl));
         mine = λ q e. clash false refl e;
         whole = λ q c e d. clash false refl e;
@@ -345,15 +345,15 @@ module _ (g : Gateway) (ok : consistent g ≡ true) where
 
   -- ---- every kind
 
-  pub within : (k : Kind) → inPlan g k ≡ true → Within g (Reaches g k) (fromController k) (deedOf g k)
-  unfolding lostDeed linkUpDeed linkDownDeed linkMessageDeed
+  pub within : (k : EventKind) → inPlan g k ≡ true → Within g (Reaches g k) (fromController k) (effectOf g k)
+  unfolding lostEffect linkUpEffect linkDownEffect linkMessageEffect
   within (message p s) i = message-in p (ltb-true p (g .asps) i) s
-  within (lost p) i = fall-in p (ltb-true p (g .asps) i) (λ a. isMember g a p) (λ a m. m)
+  within (lost p) i = down-in p (ltb-true p (g .asps) i) (λ a. isMember g a p) (λ a m. m)
   within (recovery a) i = recover-in a (ltb-true a (g .ases) i)
   within (linkUp l) i =
-      by-cond (eqb (col (g .state) l) starting) (Within g (Reaches g (linkUp l)) (λ q. false))
+      by-cond (eqb (numberAt (g .state) l) starting) (Within g (Reaches g (linkUp l)) (λ q. false))
       (λ _. link-turn l inService [] (λ q. false) (ltb-true l (g .links) i) (omega arith)) (λ _. tt)
   within (linkDown l) i =
-      by-cond (eqb (col (g .state) l) idle) (Within g (Reaches g (linkDown l)) (λ q. false)) (λ _. tt)
+      by-cond (eqb (numberAt (g .state) l) idle) (Within g (Reaches g (linkDown l)) (λ q. false)) (λ _. tt)
       (λ _. link-turn l idle [] (λ q. false) (ltb-true l (g .links) i) (omega arith))
   within (linkMessage s) i = tt

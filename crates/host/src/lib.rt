@@ -9,7 +9,7 @@ ghost use mathlib.Core.Path.{_≡_};
 ghost use mathlib.Core.Bool.{cond};
 ghost use Rattle.message.specs.Meaning.{readingOf};
 ghost use Rattle.config.specs.Plan.{loadOf};
-ghost use Rattle.gateway.specs.Sound.{consistent};
+ghost use Rattle.gateway.specs.Sound.{isSound};
 ghost use Rattle.encode.specs.Write.{Writes};
 
 fn flag(b: bool) -> u32
@@ -30,15 +30,15 @@ pub extern "C" fn m2ua_read(msg: &[u8]) -> Reading
 #[no_mangle]
 pub extern "C" fn m2ua_write(
     class: u8,
-    kind: u8,
+    msgtype: u8,
     tags: &[u16],
     lens: &[u32],
     values: &[u8],
     out: &mut [u8],
 ) -> Written
-    ensures { λ r. ⌜ Writes class kind (now (tags .entry)) (now (lens .entry)) (now (values .entry)) (now (out .entry)) r (now (out .exit)) ⌝ }
+    ensures { λ r. ⌜ Writes class msgtype (now (tags .entry)) (now (lens .entry)) (now (values .entry)) (now (out .entry)) r (now (out .exit)) ⌝ }
 {
-    encode::write(class, kind, tags, lens, values, out)
+    encode::write(class, msgtype, tags, lens, values, out)
 }
 
 // Loads a plan file: a fresh state, or a refusal with a state of zeros.
@@ -51,8 +51,8 @@ pub extern "C" fn m2ua_load(file: &[u8]) -> Loaded
 
 // 1 where the state is sound (Rule 5.4), else 0.
 #[no_mangle]
-pub extern "C" fn m2ua_is_consistent(g: Gateway) -> u32
-    ensures { λ r. ⌜ r ≡ cond (consistent g) 1 0 ⌝ }
+pub extern "C" fn m2ua_is_sound(g: Gateway) -> u32
+    ensures { λ r. ⌜ r ≡ cond (isSound g) 1 0 ⌝ }
 {
-    flag(g.is_consistent())
+    flag(g.is_sound())
 }

@@ -3,4 +3,4 @@ pub mod Choice
 pub mod Count
 pub mod Every
 pub mod Rank
-pub mod Tab
+pub mod Columns

@@ -4,13 +4,13 @@ use Prim.Native.Nat.{ℕ}
 use mathlib.Core.Path.{_≡_}
 use mathlib.Core.Bool.{Bool}
 use mathlib.Core.List.{List}
-use Rattle.laws.specs.Tab.{col, tab}
+use Rattle.laws.specs.Columns.{numberAt, tabulate}
 use Rattle.gateway.specs.declared.Gateway.{Gateway}
 use Rattle.lookup.specs.Servers.{receives}
 
 -- a flag for each ASP: whether it is a recipient of the link at l (Rule 5.15)
 unfoldable pub recipientsAt : List ℕ → List ℕ → List ℕ → List ℕ → ℕ → List Bool
-recipientsAt active mode iid owner l = tab 16 (receives active (col mode (col owner l)) (col owner l) (col iid l))
+recipientsAt active mode iid owner l = tabulate 16 (receives active (numberAt mode (numberAt owner l)) (numberAt owner l) (numberAt iid l))
 
 -- the state g has these columns
 pub record SideColumns (links : ℕ) (active mode iid owner state : List ℕ) (g : Gateway) : Type 0 where

@@ -20,7 +20,7 @@ use Rattle.rules.specs.Rules.{fromLink, inPlan}
 
 -- a message of the link side that is not refused with 102 (Rule 6.5)
 unfoldable pub passes : List ℕ → ℕ → Reading → Bool
-passes iid links r = eqb (r .code) 0 && (eqb (r .class) 6 && (fromLink (r .kind) && known iid links (r .id)))
+passes iid links r = eqb (r .code) 0 && (eqb (r .class) 6 && (fromLink (r .msgtype) && known iid links (r .id)))
 
 -- the number of a reading is the verdict
 pub code-is : (s : List ℕ) → readingOf s .code ≡ verdict s
@@ -50,15 +50,15 @@ from-small k h = go (decLt k 256)
 -- what a message of the link side that passes has
 pub record Side (iid : List ℕ) (links : ℕ) (r : Reading) : Type 0 where
   pub class : r .class ≡ 6
-  pub kind : r .kind < 256
+  pub msgtype : r .msgtype < 256
   pub there : known iid links (r .id) ≡ true
 
 pub side : (iid : List ℕ) (links : ℕ) (r : Reading) → passes iid links r ≡ true → Side iid links r
 unfolding passes
 side iid links r h =
     let a = eqb (r .class) 6 in
-    let b = fromLink (r .kind) in
+    let b = fromLink (r .msgtype) in
     let d = known iid links (r .id) in
     let x = and-right (eqb (r .code) 0) (a && (b && d)) h in
     let y = and-right a (b && d) x in
-    record { class = eqb-true (r .class) 6 (and-left a (b && d) x); kind = from-small (r .kind) (and-left b d y); there = and-right b d y }
+    record { class = eqb-true (r .class) 6 (and-left a (b && d) x); msgtype = from-small (r .msgtype) (and-left b d y); there = and-right b d y }

@@ -1,6 +1,6 @@
 // What the events of links do: class 6 messages of an ASP, link up, link down, messages of the link side.
 use message::Reading;
-use rules::Work;
+use rules::Decision;
 ghost use mathlib.Core.Path.{_≡_};
 ghost use mathlib.Core.Bool.{true, cond};
 ghost use mathlib.Core.List.{[], _∷_};
@@ -9,8 +9,8 @@ ghost use lib.Dec.{eqb};
 ghost use Rattle.action.specs.Words.{action, linkSide, toAll};
 ghost use Rattle.gateway.specs.Sound.{ascends};
 ghost use Rattle.ranges.specs.Laws.{Table};
-ghost use Rattle.rules.specs.Link.{establish, release, dataWork, linkWork, classSixDeed, linkUpDeed, linkDownDeed, linkMessageDeed};
-ghost use Rattle.rules.specs.Deed.{say, turn};
+ghost use Rattle.rules.specs.Link.{establish, release, dataEffect, linkEffect, classSixEffect, linkUpEffect, linkDownEffect, linkMessageEffect};
+ghost use Rattle.rules.specs.Effect.{send, setLink};
 ghost use Rattle.rules.specs.Rules.{fromLink};
 ghost use Rattle.work.specs.Decides.{Decides, DecidesOn};
 ghost use Rattle.links.specs.Recipients.{recipientsAt, SideColumns};
@@ -20,7 +20,7 @@ ghost use Rattle.links.specs.Side.{passes, Side};
 // ---- class 6 of an ASP: p is the ASP, x the identifier, l the link's index, st its state
 
 // Establish (Rule 7.15).
-fn establish_work(p: usize, x: u32, l: usize, st: u8) -> Work
+fn establish_work(p: usize, x: u32, l: usize, st: u8) -> Decision
     requires { ⌜ (p < 16) × (l < 128) ⌝ }
     ensures { λ r. ⌜ Decides r (establish p x l st) ⌝ }
 {
@@ -30,11 +30,11 @@ fn establish_work(p: usize, x: u32, l: usize, st: u8) -> Work
     if st == 1 {
         return work::nothing();
     }
-    work::turn_order(l, 1, 1538, x)
+    work::turn_and_send(l, 1, 1538, x)
 }
 
 // Release (Rule 7.16).
-fn release_work(p: usize, x: u32, l: usize, st: u8) -> Work
+fn release_work(p: usize, x: u32, l: usize, st: u8) -> Decision
     requires { ⌜ (p < 16) × (l < 128) ⌝ }
     ensures { λ r. ⌜ Decides r (release p x l st) ⌝ }
 {
@@ -44,57 +44,60 @@ fn release_work(p: usize, x: u32, l: usize, st: u8) -> Work
     if st == 3 {
         return work::nothing();
     }
-    work::turn_order(l, 3, 1540, x)
+    work::turn_and_send(l, 3, 1540, x)
 }
 
 // An order to the link side, then a reply to p.
-fn order_and_reply(p: usize, kind: u32, x: u32, reply: u32, value: u32) -> Work
+fn send_and_reply(p: usize, classtype: u32, x: u32, reply: u32, value: u32) -> Decision
     requires { ⌜ p < 16 ⌝ }
-    ensures { λ r. ⌜ Decides r (say (action linkSide kind x 0 ∷ action p reply x value ∷ [])) ⌝ }
+    ensures { λ r. ⌜ Decides r (send (action linkSide classtype x 0 ∷ action p reply x value ∷ [])) ⌝ }
 {
-    work::say_two(work::to_link(kind, x, 0), work::to_asp(p, reply, x, value))
+    work::say_two(
+        work::to_link(classtype, x, 0),
+        work::to_asp(p, reply, x, value),
+    )
 }
 
 // Data (Rule 7.17), as a tree.
-fn data_tree(p: usize, x: u32, st: u8, r: Reading) -> Work
+fn data_tree(p: usize, x: u32, st: u8, r: Reading) -> Decision
     requires { ⌜ p < 16 ⌝ }
     ensures { λ w. ⌜ Decides w (dataTree p x st r) ⌝ }
 {
     if st == 2 {
         if r.correlated == 1 {
-            return order_and_reply(p, 1537, x, 1551, r.correlation);
+            return send_and_reply(p, 1537, x, 1551, r.correlation);
         }
         return work::order(1537, x, 0);
     }
     work::error(p, 6)
 }
 
-fn data_work(p: usize, x: u32, st: u8, r: Reading) -> Work
+fn data_work(p: usize, x: u32, st: u8, r: Reading) -> Decision
     requires { ⌜ p < 16 ⌝ }
-    ensures { λ w. ⌜ Decides w (dataWork p x st r) ⌝ }
+    ensures { λ w. ⌜ Decides w (dataEffect p x st r) ⌝ }
 {
     data_tree(p, x, st, r)
 }
 
 // A message of class 6 whose sender may send it, by its type (Rules 7.15 to 7.19).
-fn link_work(p: usize, x: u32, l: usize, st: u8, r: Reading) -> Work
+fn link_work(p: usize, x: u32, l: usize, st: u8, r: Reading) -> Decision
     requires { ⌜ (p < 16) × (l < 128) ⌝ }
-    ensures { λ w. ⌜ Decides w (linkWork p x l st r) ⌝ }
+    ensures { λ w. ⌜ Decides w (linkEffect p x l st r) ⌝ }
 {
-    if r.kind == 1 {
+    if r.msgtype == 1 {
         return data_work(p, x, st, r);
     }
-    if r.kind == 2 {
+    if r.msgtype == 2 {
         return establish_work(p, x, l, st);
     }
-    if r.kind == 4 {
+    if r.msgtype == 4 {
         return release_work(p, x, l, st);
     }
-    if r.kind == 7 {
+    if r.msgtype == 7 {
         return work::order(1543, x, r.state);
     }
-    if r.kind == 10 {
-        return work::order(1546, x, r.action);
+    if r.msgtype == 10 {
+        return work::order(1546, x, r.retrieval);
     }
     work::nothing()
 }
@@ -111,7 +114,7 @@ fn six_at<'a>(
     p: usize,
     l: usize,
     r: Reading,
-) -> Work
+) -> Decision
     requires { ⌜ Table (now iid) (now owner) links × (p < 16) ⌝ }
     ensures { λ w. ⌜ Decides w (sixAt links (now (up .entry)) (now (member .entry)) (now (active .entry)) (now (owner .entry)) (now (state .entry)) p l r) ⌝ }
 {
@@ -142,9 +145,9 @@ pub fn class_six<'a>(
     state: &'a [u8; 128],
     p: usize,
     r: Reading,
-) -> Work
+) -> Decision
     requires { ⌜ Table (now iid) (now owner) links × (p < 16) ⌝ }
-    ensures { λ w. ⌜ DecidesOn (SixColumns links (now (up .entry)) (now (member .entry)) (now (active .entry)) (now (iid .entry)) (now (owner .entry)) (now (state .entry))) (λ g. classSixDeed g p r) w ⌝ }
+    ensures { λ w. ⌜ DecidesOn (SixColumns links (now (up .entry)) (now (member .entry)) (now (active .entry)) (now (iid .entry)) (now (owner .entry)) (now (state .entry))) (λ g. classSixEffect g p r) w ⌝ }
 {
     let l = lookup::index_of(iid, links, r.id);
     six_at(links, up, member, active, iid, owner, state, p, l, r)
@@ -169,9 +172,9 @@ fn recipients_at<'a>(
 }
 
 // Link up, where they are given.
-fn up_at(l: usize, st: u8, who: [bool; 16], x: u32) -> Work
+fn up_at(l: usize, st: u8, who: [bool; 16], x: u32) -> Decision
     requires { ⌜ l < 128 ⌝ }
-    ensures { λ w. ⌜ Decides w (cond (eqb st 1) (turn l 2 (toAll who 1539 x 0)) (say [])) ⌝ }
+    ensures { λ w. ⌜ Decides w (cond (eqb st 1) (setLink l 2 (toAll who 1539 x 0)) (send [])) ⌝ }
 {
     if st == 1 {
         return work::turn_spread(l, 2, who, 1539, x);
@@ -189,14 +192,14 @@ fn down_type(st: u8) -> u32
     1542
 }
 
-fn down_at(l: usize, st: u8, who: [bool; 16], kind: u32, x: u32) -> Work
+fn down_at(l: usize, st: u8, who: [bool; 16], classtype: u32, x: u32) -> Decision
     requires { ⌜ l < 128 ⌝ }
-    ensures { λ w. ⌜ Decides w (cond (eqb st 0) (say []) (turn l 0 (toAll who kind x 0))) ⌝ }
+    ensures { λ w. ⌜ Decides w (cond (eqb st 0) (send []) (setLink l 0 (toAll who classtype x 0))) ⌝ }
 {
     if st == 0 {
         return work::nothing();
     }
-    work::turn_spread(l, 0, who, kind, x)
+    work::turn_spread(l, 0, who, classtype, x)
 }
 
 // Link up (Rule 7.20).
@@ -208,9 +211,9 @@ pub fn link_up<'a>(
     owner: &'a [u8; 128],
     state: &'a [u8; 128],
     l: usize,
-) -> Work
+) -> Decision
     requires { ⌜ Table (now iid) (now owner) links × (l < links) ⌝ }
-    ensures { λ w. ⌜ DecidesOn (SideColumns links (now (active .entry)) (now (mode .entry)) (now (iid .entry)) (now (owner .entry)) (now (state .entry))) (λ g. linkUpDeed g l) w ⌝ }
+    ensures { λ w. ⌜ DecidesOn (SideColumns links (now (active .entry)) (now (mode .entry)) (now (iid .entry)) (now (owner .entry)) (now (state .entry))) (λ g. linkUpEffect g l) w ⌝ }
 {
     let who = recipients_at(links, active, mode, iid, owner, l);
     up_at(l, state[l], who, iid[l])
@@ -225,9 +228,9 @@ pub fn link_down<'a>(
     owner: &'a [u8; 128],
     state: &'a [u8; 128],
     l: usize,
-) -> Work
+) -> Decision
     requires { ⌜ Table (now iid) (now owner) links × (l < links) ⌝ }
-    ensures { λ w. ⌜ DecidesOn (SideColumns links (now (active .entry)) (now (mode .entry)) (now (iid .entry)) (now (owner .entry)) (now (state .entry))) (λ g. linkDownDeed g l) w ⌝ }
+    ensures { λ w. ⌜ DecidesOn (SideColumns links (now (active .entry)) (now (mode .entry)) (now (iid .entry)) (now (owner .entry)) (now (state .entry))) (λ g. linkDownEffect g l) w ⌝ }
 {
     let who = recipients_at(links, active, mode, iid, owner, l);
     down_at(l, state[l], who, down_type(state[l]), iid[l])
@@ -247,7 +250,7 @@ pub fn is_in_plan(iid: &[u32; 128], links: usize, r: Reading) -> bool
     requires { ⌜ (links ≤ 128) × (ascends (now iid) links ≡ true) ⌝ }
     ensures { λ w. ⌜ w ≡ passes (now (iid .entry)) links r ⌝ }
 {
-    (r.code == 0) & ((r.class == 6) & (from_link(r.kind) & lookup::is_known(iid, links, r.id)))
+    (r.code == 0) & ((r.class == 6) & (from_link(r.msgtype) & lookup::is_known(iid, links, r.id)))
 }
 
 // A message of the link side that is not refused (Rule 7.22).
@@ -259,11 +262,11 @@ pub fn link_message<'a>(
     owner: &'a [u8; 128],
     state: &'a [u8; 128],
     r: Reading,
-) -> Work
+) -> Decision
     requires { ⌜ Table (now iid) (now owner) links × Side (now iid) links r ⌝ }
-    ensures { λ w. ⌜ DecidesOn (SideColumns links (now (active .entry)) (now (mode .entry)) (now (iid .entry)) (now (owner .entry)) (now (state .entry))) (λ g. linkMessageDeed g r) w ⌝ }
+    ensures { λ w. ⌜ DecidesOn (SideColumns links (now (active .entry)) (now (mode .entry)) (now (iid .entry)) (now (owner .entry)) (now (state .entry))) (λ g. linkMessageEffect g r) w ⌝ }
 {
     let l = lookup::index_of(iid, links, r.id);
     let who = recipients_at(links, active, mode, iid, owner, l);
-    work::spread(who, r.class * 256 + r.kind, iid[l])
+    work::spread(who, r.class * 256 + r.msgtype, iid[l])
 }

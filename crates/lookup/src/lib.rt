@@ -3,7 +3,7 @@ ghost use mathlib.Core.Path.{_≡_};
 ghost use mathlib.Core.Bool.{true, _&&_, cond};
 ghost use Prim.Native.Nat.{_%_, _<_, _≤_};
 ghost use Rattle.laws.specs.Below.{anyBelow, one};
-ghost use Rattle.laws.specs.Tab.{on, tab};
+ghost use Rattle.laws.specs.Columns.{isSet, tabulate};
 ghost use Rattle.gateway.specs.Sound.{pair, ascends};
 ghost use Rattle.lookup.specs.Servers.{stateOf, receives};
 ghost use Rattle.lookup.specs.Links.{indexOf, known, rank};
@@ -13,7 +13,7 @@ ghost use Rattle.lookup.specs.Links.{indexOf, known, rank};
 // Whether ASP p is a member of AS a.
 pub fn is_member(member: &[u8; 256], a: usize, p: usize) -> bool
     requires { ⌜ (a < 16) × (p < 16) ⌝ }
-    ensures { λ r. ⌜ r ≡ on (now (member .entry)) (pair a p) ⌝ }
+    ensures { λ r. ⌜ r ≡ isSet (now (member .entry)) (pair a p) ⌝ }
 {
     member[a * 16 + p] == 1
 }
@@ -21,7 +21,7 @@ pub fn is_member(member: &[u8; 256], a: usize, p: usize) -> bool
 // Whether some member of AS a is active.
 pub fn some_active(active: &[u8; 256], a: usize) -> bool
     requires { ⌜ a < 16 ⌝ }
-    ensures { λ r. ⌜ r ≡ anyBelow (λ q. on (now (active .entry)) (pair a q)) 16 ⌝ }
+    ensures { λ r. ⌜ r ≡ anyBelow (λ q. isSet (now (active .entry)) (pair a q)) 16 ⌝ }
 {
     let mut found = false;
     for q in 0..16usize {
@@ -33,7 +33,7 @@ pub fn some_active(active: &[u8; 256], a: usize) -> bool
 // Whether some member of AS a is up.
 pub fn some_up<'a>(up: &'a [u8; 16], member: &'a [u8; 256], a: usize) -> bool
     requires { ⌜ a < 16 ⌝ }
-    ensures { λ r. ⌜ r ≡ anyBelow (λ q. on (now (member .entry)) (pair a q) && on (now (up .entry)) q) 16 ⌝ }
+    ensures { λ r. ⌜ r ≡ anyBelow (λ q. isSet (now (member .entry)) (pair a q) && isSet (now (up .entry)) q) 16 ⌝ }
 {
     let mut found = false;
     for q in 0..16usize {
@@ -87,7 +87,7 @@ fn rest(x: u32, k: usize) -> usize
 // Who gets a message of a link of AS a: a flag for each ASP. x is the number that load-share goes by.
 pub fn recipients(active: &[u8; 256], mode: u8, a: usize, x: u32) -> [bool; 16]
     requires { ⌜ a < 16 ⌝ }
-    ensures { λ r. ⌜ r ≡ tab 16 (receives (now (active .entry)) mode a x) ⌝ }
+    ensures { λ r. ⌜ r ≡ tabulate 16 (receives (now (active .entry)) mode a x) ⌝ }
 {
     let k = gateway::count_active(active, a);
     let place = rest(x, k);

@@ -140,15 +140,15 @@ seen-more {met} {words} {ps} p k e hm hw h s =
 -- ---- check 8 and the meaning
 
 -- the sequence number rules, asked test by test
-sequence-same : (c t action result : ℕ) (given : Bool)
-    → sequenceAt c t action result given
-    ≡ cond (eqb c 6 && eqb t 10) (exactly (eqb action 2) given) (cond (eqb c 6 && eqb t 11) (exactly (eqb action 1 && eqb result 0) given) 0)
+sequence-same : (c t retrieval result : ℕ) (given : Bool)
+    → sequenceAt c t retrieval result given
+    ≡ cond (eqb c 6 && eqb t 10) (exactly (eqb retrieval 2) given) (cond (eqb c 6 && eqb t 11) (exactly (eqb retrieval 1 && eqb result 0) given) 0)
 unfolding sequenceAt
-sequence-same c t action result given = go (eqb c 6) (eqb t 10) (eqb t 11) (eqb action 1)
+sequence-same c t retrieval result given = go (eqb c 6) (eqb t 10) (eqb t 11) (eqb retrieval 1)
   where
     go : (x y z a : Bool)
-        → cond x (cond y (exactly (eqb action 2) given) (cond z (cond a (exactly (eqb result 0) given) (exactly false given)) 0)) 0
-        ≡ cond (x && y) (exactly (eqb action 2) given) (cond (x && z) (exactly (a && eqb result 0) given) 0)
+        → cond x (cond y (exactly (eqb retrieval 2) given) (cond z (cond a (exactly (eqb result 0) given) (exactly false given)) 0)) 0
+        ≡ cond (x && y) (exactly (eqb retrieval 2) given) (cond (x && z) (exactly (a && eqb result 0) given) 0)
     go false y z a = refl
     go true true z a = refl
     go true false false a = refl

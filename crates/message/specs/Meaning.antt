@@ -22,7 +22,7 @@ refusal n =
     record {
       code = n;
       class = 0;
-      kind = 0;
+      msgtype = 0;
       ids = 0;
       id = 0;
       mode = 0;
@@ -31,7 +31,7 @@ refusal n =
       correlated = 0;
       correlation = 0;
       state = 0;
-      action = 0;
+      retrieval = 0;
     }
 
 -- an accepted message of a class and type with these parameters: what events and hosts ask of it
@@ -40,7 +40,7 @@ meaning c t ps =
     record {
       code = 0;
       class = c;
-      kind = t;
+      msgtype = t;
       ids = flag (has 0x1 ps || has 0x8 ps);
       id = number 0x1 ps;
       mode = number 0xb ps;
@@ -49,7 +49,7 @@ meaning c t ps =
       correlated = flag (has 0x13 ps);
       correlation = number 0x13 ps;
       state = number 0x302 ps;
-      action = number 0x306 ps;
+      retrieval = number 0x306 ps;
     }
 
 -- what a verdict hands back of a message

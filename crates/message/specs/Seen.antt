@@ -34,10 +34,10 @@ pub record Seen (met : List Bool) (words : List ℕ) (ps : List Par) : Type 0 wh
 
 -- the sequence number rules, of an action, a result, and whether there is a sequence number
 unfoldable pub sequenceAt : ℕ → ℕ → ℕ → ℕ → Bool → ℕ
-sequenceAt c t action result given =
+sequenceAt c t retrieval result given =
     cond (eqb c 6)
-    (cond (eqb t 10) (exactly (eqb action getMessages) given)
-    (cond (eqb t 11) (cond (eqb action getBsn) (exactly (eqb result 0) given) (exactly false given))
+    (cond (eqb t 10) (exactly (eqb retrieval getMessages) given)
+    (cond (eqb t 11) (cond (eqb retrieval getBsn) (exactly (eqb result 0) given) (exactly false given))
     0))
     0
 
@@ -52,7 +52,7 @@ meaningAt c t met words =
     record {
       code = 0;
       class = c;
-      kind = t;
+      msgtype = t;
       ids = flag (getD met (slot 0x1) false || getD met (slot 0x8) false);
       id = getD words (slot 0x1) 0;
       mode = getD words (slot 0xb) 0;
@@ -61,7 +61,7 @@ meaningAt c t met words =
       correlated = flag (getD met (slot 0x13) false);
       correlation = getD words (slot 0x13) 0;
       state = getD words (slot 0x302) 0;
-      action = getD words (slot 0x306) 0;
+      retrieval = getD words (slot 0x306) 0;
     }
 
 -- what a number hands back: the meaning, or the refusal

@@ -63,7 +63,7 @@ pub struct Reading {
     // 0, or the number of the refusal
     pub code: u32,
     pub class: u32,
-    pub kind: u32,
+    pub msgtype: u32,
     // 1 where identifiers or ranges of them are given, else 0
     pub ids: u32,
     // the first interface identifier
@@ -79,7 +79,7 @@ pub struct Reading {
     // of a State Request or Confirm
     pub state: u32,
     // of a Retrieval Request or Confirm
-    pub action: u32,
+    pub retrieval: u32,
 }
 
 fn unit(b: bool) -> u32
@@ -95,7 +95,7 @@ fn refused(code: u32) -> Reading
     Reading {
         code,
         class: 0,
-        kind: 0,
+        msgtype: 0,
         ids: 0,
         id: 0,
         mode: 0,
@@ -104,7 +104,7 @@ fn refused(code: u32) -> Reading
         correlated: 0,
         correlation: 0,
         state: 0,
-        action: 0,
+        retrieval: 0,
     }
 }
 
@@ -125,15 +125,15 @@ fn exact(wanted: bool, given: bool) -> u32
 }
 
 // The sequence number rules.
-fn sequence_code(c: u8, t: u8, action: u32, result: u32, given: bool) -> u32
-    ensures { λ r. ⌜ r ≡ sequenceAt c t action result given ⌝ }
+fn sequence_code(c: u8, t: u8, retrieval: u32, result: u32, given: bool) -> u32
+    ensures { λ r. ⌜ r ≡ sequenceAt c t retrieval result given ⌝ }
 {
     if c == LINK_CLASS {
         if t == RETRIEVAL_REQUEST {
-            return exact(action == GET_MESSAGES, given);
+            return exact(retrieval == GET_MESSAGES, given);
         }
         if t == RETRIEVAL_CONFIRM {
-            if action == GET_BSN {
+            if retrieval == GET_BSN {
                 return exact(result == DONE, given);
             }
             return exact(false, given);
@@ -152,7 +152,7 @@ fn meaning_at(c: u8, t: u8, state: u32, met: &[bool; 32], words: &[u32; 32]) -> 
     Reading {
         code: 0,
         class: c as u32,
-        kind: t as u32,
+        msgtype: t as u32,
         ids: unit(met[ID] | met[RANGE]),
         id: words[ID],
         mode: words[MODE],
@@ -161,7 +161,7 @@ fn meaning_at(c: u8, t: u8, state: u32, met: &[bool; 32], words: &[u32; 32]) -> 
         correlated: unit(met[CORRELATION]),
         correlation: words[CORRELATION],
         state,
-        action: words[ACTION],
+        retrieval: words[ACTION],
     }
 }
 

@@ -3,10 +3,10 @@ use ranges::Refused;
 ghost use mathlib.Core.Path.{_≡_};
 ghost use mathlib.Core.Bool.{true, false, _||_};
 ghost use Prim.Native.Nat.{_<_, _≤_};
-ghost use Rattle.laws.specs.Tab.{at, tab};
+ghost use Rattle.laws.specs.Columns.{flagAt, tabulate};
 ghost use Rattle.gateway.specs.Sound.{ascends};
 ghost use Rattle.lookup.specs.Links.{rank};
-ghost use Rattle.ranges.specs.Named.{isRefused, isOf, nothing, refusing, firstIn, someIn, startAt, stopAt, refusedIn, someOf};
+ghost use Rattle.ranges.specs.Named.{isRefused, isOwnedBy, nothing, refusing, firstIn, someIn, startAt, stopAt, refusedIn, someOf};
 ghost use Rattle.ranges.specs.Laws.{Table};
 ghost use Rattle.naming.specs.Names.{Names};
 
@@ -81,7 +81,7 @@ pub fn of_ids<'a>(
     p: usize,
 ) -> Named
     requires { ⌜ Table (now iid) (now owner) links × (p < 16) ⌝ }
-    ensures { λ r. ⌜ Names r (refusedIn (isRefused (now (iid .entry)) (now (owner .entry)) (now (member .entry)) links p) false (now (value .entry))) (tab 16 (λ a. at set a || someOf (isOf (now (iid .entry)) (now (owner .entry)) links a) false (now (value .entry)))) ⌝ }
+    ensures { λ r. ⌜ Names r (refusedIn (isRefused (now (iid .entry)) (now (owner .entry)) (now (member .entry)) links p) false (now (value .entry))) (tabulate 16 (λ a. flagAt set a || someOf (isOwnedBy (now (iid .entry)) (now (owner .entry)) links a) false (now (value .entry)))) ⌝ }
 {
     let n = value.len() / 4;
     let mut r = set;
@@ -111,7 +111,7 @@ fn of_range<'a>(
     stop: u32,
 ) -> Named
     requires { ⌜ Table (now iid) (now owner) links × (p < 16) ⌝ }
-    ensures { λ r. ⌜ Names r (firstIn (isRefused (now (iid .entry)) (now (owner .entry)) (now (member .entry)) links p) start stop) (tab 16 (λ a. at set a || someIn (isOf (now (iid .entry)) (now (owner .entry)) links a) start stop)) ⌝ }
+    ensures { λ r. ⌜ Names r (firstIn (isRefused (now (iid .entry)) (now (owner .entry)) (now (member .entry)) links p) start stop) (tabulate 16 (λ a. flagAt set a || someIn (isOwnedBy (now (iid .entry)) (now (owner .entry)) links a) start stop)) ⌝ }
 {
     if stop < start {
         return passes(set);
@@ -144,7 +144,7 @@ pub fn of_ranges<'a>(
     p: usize,
 ) -> Named
     requires { ⌜ Table (now iid) (now owner) links × (p < 16) ⌝ }
-    ensures { λ r. ⌜ Names r (refusedIn (isRefused (now (iid .entry)) (now (owner .entry)) (now (member .entry)) links p) true (now (value .entry))) (tab 16 (λ a. at set a || someOf (isOf (now (iid .entry)) (now (owner .entry)) links a) true (now (value .entry)))) ⌝ }
+    ensures { λ r. ⌜ Names r (refusedIn (isRefused (now (iid .entry)) (now (owner .entry)) (now (member .entry)) links p) true (now (value .entry))) (tabulate 16 (λ a. flagAt set a || someOf (isOwnedBy (now (iid .entry)) (now (owner .entry)) links a) true (now (value .entry)))) ⌝ }
 {
     let n = value.len() / 8;
     let mut r = set;

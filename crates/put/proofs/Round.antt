@@ -12,13 +12,13 @@ use Rattle.wire.specs.Walk.{stepAt, padded, Walk, Par, walk}
 use Rattle.wire.specs.declared.Step.the-variants.{Param, End}
 use Rattle.wire.proofs.Number.{be-two, be-four}
 use Rattle.wire.proofs.Steps.{step-param, step-end, walk-step}
-use Rattle.put.specs.Bytes.{two, four, room, parBytes, parsBytes}
+use Rattle.put.specs.Bytes.{bytes16, bytes32, parSize, parBytes, parsBytes}
 
 -- a number that was written is read again
 pub be-two-in : (xs : List ℕ) (k n : ℕ) → getD xs k 0 ≡ n / 256 → getD xs (k + 1) 0 ≡ n % 256 → be 2 xs k ≡ n
 be-two-in xs k n e₁ e₂ = be-two xs k ∙ rw (e₁, e₂) (div-add-mod' n 256)
 
-pub length-par : (p : Par) → length (parBytes p) ≡ room (length (p .body))
+pub length-par : (p : Par) → length (parBytes p) ≡ parSize (length (p .body))
 unfolding parBytes
 length-par p = simp (length-append, length-replicate) (omega arith)
 

@@ -3,12 +3,12 @@ ghost use mathlib.Core.Path.{_≡_};
 ghost use mathlib.Core.List.{_++_};
 ghost use Prim.Native.Nat.{_+_, _≤_, _<_};
 ghost use lib.ListN.{length, replicate};
-ghost use Rattle.put.specs.Bytes.{overlay, two, four, room, headBytes, PutAt};
+ghost use Rattle.put.specs.Bytes.{overlay, bytes16, bytes32, parSize, headBytes, PutAt};
 
 // A 16-bit number, written at a position.
 pub fn put16(out: &mut [u8], at: usize, n: u16)
     requires { ⌜ at + 2 ≤ length (now out) ⌝ }
-    ensures { λ _. ⌜ now (out .exit) ≡ overlay (now (out .entry)) at (two n) ⌝ }
+    ensures { λ _. ⌜ now (out .exit) ≡ overlay (now (out .entry)) at (bytes16 n) ⌝ }
 {
     out[at] = (n / 256) as u8;
     out[at + 1] = (n % 256) as u8;
@@ -17,7 +17,7 @@ pub fn put16(out: &mut [u8], at: usize, n: u16)
 // A 32-bit number, written at a position.
 pub fn put32(out: &mut [u8], at: usize, n: u32)
     requires { ⌜ at + 4 ≤ length (now out) ⌝ }
-    ensures { λ _. ⌜ now (out .exit) ≡ overlay (now (out .entry)) at (four n) ⌝ }
+    ensures { λ _. ⌜ now (out .exit) ≡ overlay (now (out .entry)) at (bytes32 n) ⌝ }
 {
     put16(out, at, (n / 65536) as u16);
     put16(out, at + 2, (n % 65536) as u16);
@@ -107,7 +107,7 @@ fn put_zeros(out: &mut [u8], at: usize, n: usize)
 // A parameter's tag and length.
 fn put_head(out: &mut [u8], at: usize, tag: u16, n: u16)
     requires { ⌜ at + 4 ≤ length (now out) ⌝ }
-    ensures { λ _. ⌜ now (out .exit) ≡ overlay (now (out .entry)) at (two tag ++ two n) ⌝ }
+    ensures { λ _. ⌜ now (out .exit) ≡ overlay (now (out .entry)) at (bytes16 tag ++ bytes16 n) ⌝ }
 {
     put16(out, at, tag);
     put16(out, at + 2, n);
@@ -124,7 +124,7 @@ fn put_value(out: &mut [u8], at: usize, v: &[u8], pad: usize)
 
 // A parameter, written at a position; the position after it. Its value may be a part of a received message.
 pub fn put_param(out: &mut [u8], at: usize, tag: u16, v: &[u8]) -> usize
-    requires { ⌜ (length (now v) ≤ 65531) × (at + room (length (now v)) ≤ length (now out)) ⌝ }
+    requires { ⌜ (length (now v) ≤ 65531) × (at + parSize (length (now v)) ≤ length (now out)) ⌝ }
     ensures { λ r. ⌜ PutAt (now (out .entry)) at tag (now (v .entry)) r (now (out .exit)) ⌝ }
 {
     let n = 4 + v.len();
@@ -135,13 +135,13 @@ pub fn put_param(out: &mut [u8], at: usize, tag: u16, v: &[u8]) -> usize
 }
 
 // The header of a message of n bytes, written at the buffer's start.
-pub fn put_header(out: &mut [u8], class: u8, kind: u8, n: u32)
+pub fn put_header(out: &mut [u8], class: u8, msgtype: u8, n: u32)
     requires { ⌜ 8 ≤ length (now out) ⌝ }
-    ensures { λ _. ⌜ now (out .exit) ≡ overlay (now (out .entry)) 0 (headBytes class kind n) ⌝ }
+    ensures { λ _. ⌜ now (out .exit) ≡ overlay (now (out .entry)) 0 (headBytes class msgtype n) ⌝ }
 {
     out[0] = 1;
     out[1] = 0;
     out[2] = class;
-    out[3] = kind;
+    out[3] = msgtype;
     put32(out, 4, n);
 }

@@ -12,15 +12,15 @@ use lib.Dec.{eqb, leb, ltb}
 use lib.ListN.{length}
 use borrow.Author.Tests.{eq-eqb, ne-eqb, lt-ltb, le-ltb, le-leb, ltb-true, leb-true}
 use Rattle.laws.specs.Below.{all-at, all-of, anyBelow, any-at, any-in, firstBelow, first-none, first-more, first-at}
-use Rattle.laws.specs.Tab.{col, on}
+use Rattle.laws.specs.Columns.{numberAt, isSet}
 use Rattle.laws.specs.Every.{and-left, and-right, and-both, same-truth}
 use Rattle.wire.specs.Number.{be}
-use Rattle.gateway.specs.Sound.{pair, ascends, allUnder, consistent}
+use Rattle.gateway.specs.Sound.{pair, ascends, allUnder, isSound}
 use Rattle.gateway.specs.Laws.{ascends-any, parts, links-parts, counts-within}
 use Rattle.gateway.specs.declared.Gateway.{Gateway}
 use Rattle.lookup.specs.Links.{indexOf, known, rank, rank-most, rank-below, rank-from, index-here, index-not, index-own, index-is}
 use Rattle.ranges.specs.declared.Refused.{Refused}
-use Rattle.ranges.specs.Named.{ownerOf, isRefused, isOf, span, nothing, refusing, firstIn, someIn, firstOf, startAt, stopAt, entries, refusedEntry, refusedIn}
+use Rattle.ranges.specs.Named.{ownerOf, isRefused, isOwnedBy, span, nothing, refusing, firstIn, someIn, firstOf, startAt, stopAt, entries, refusedEntry, refusedIn}
 
 -- what the walk needs of the links: few, ascending, their owners within the table of pairs
 pub record Table (iid owner : List ℕ) (links : ℕ) : Type 0 where
@@ -28,8 +28,8 @@ pub record Table (iid owner : List ℕ) (links : ℕ) : Type 0 where
   pub order : ascends iid links ≡ true
   pub owned : allUnder owner 16 links ≡ true
 
--- a consistent state has it
-pub table : (g : Gateway) → consistent g ≡ true → Table (g .iid) (g .owner) (g .links)
+-- a sound state has it
+pub table : (g : Gateway) → isSound g ≡ true → Table (g .iid) (g .owner) (g .links)
 unfolding allUnder
 table g h =
     let c = counts-within g h in
@@ -37,37 +37,37 @@ table g h =
     record {
       few = c .links;
       order = p .order;
-      owned = all-of _ (g .links) (λ l b. lt-ltb (col (g .owner) l) 16 (omega (arith, c .ases, ltb-true (col (g .owner) l) (g .ases) (all-at (λ l. ltb (col (g .owner) l) (g .ases)) (g .links) (p .owned) l b))));
+      owned = all-of _ (g .links) (λ l b. lt-ltb (numberAt (g .owner) l) 16 (omega (arith, c .ases, ltb-true (numberAt (g .owner) l) (g .ases) (all-at (λ l. ltb (numberAt (g .owner) l) (g .ases)) (g .links) (p .owned) l b))));
     }
 
-pub owner-small : (iid owner : List ℕ) (links : ℕ) → Table iid owner links → (l : ℕ) → l < links → col owner l < 16
+pub owner-small : (iid owner : List ℕ) (links : ℕ) → Table iid owner links → (l : ℕ) → l < links → numberAt owner l < 16
 unfolding allUnder
-owner-small iid owner links t l b = ltb-true (col owner l) 16 (all-at (λ l. ltb (col owner l) 16) links (t .owned) l b)
+owner-small iid owner links t l b = ltb-true (numberAt owner l) 16 (all-at (λ l. ltb (numberAt owner l) 16) links (t .owned) l b)
 
 -- ---- one step of the walk: l is the rank of x
 
 module _ (iid owner : List ℕ) (links : ℕ) (t : Table iid owner links) (l x : ℕ) (e : l ≡ rank iid links x) where
   -- the link at l decides whether x is refused
-  pub refused-here : (member : List ℕ) (p : ℕ) → l < links → (not (eqb (col iid l) x) || not (on member (pair (col owner l) p))) ≡ isRefused iid owner member links p x
+  pub refused-here : (member : List ℕ) (p : ℕ) → l < links → (not (eqb (numberAt iid l) x) || not (isSet member (pair (numberAt owner l) p))) ≡ isRefused iid owner member links p x
   unfolding isRefused ownerOf known
-  refused-here member p b = go (ℕ-discrete (col iid l) x)
+  refused-here member p b = go (ℕ-discrete (numberAt iid l) x)
     where
-      go : Dec (col iid l ≡ x) → (not (eqb (col iid l) x) || not (on member (pair (col owner l) p))) ≡ not (ltb (indexOf iid links x) links && on member (pair (col owner (indexOf iid links x)) p))
+      go : Dec (numberAt iid l ≡ x) → (not (eqb (numberAt iid l) x) || not (isSet member (pair (numberAt owner l) p))) ≡ not (ltb (indexOf iid links x) links && isSet member (pair (numberAt owner (indexOf iid links x)) p))
       go (yes z) =
           let i : indexOf iid links x ≡ l = index-here iid links (t .order) x (rw e at b) (rw e at z) ∙ sym e in
-          rw (eq-eqb (col iid l) x z, i, lt-ltb l links b)
+          rw (eq-eqb (numberAt iid l) x z, i, lt-ltb l links b)
       go (no z) =
           let i : indexOf iid links x ≡ links = index-not iid links (t .order) x (λ c w. z (rw (sym e) at w)) in
-          rw (ne-eqb (col iid l) x z, i, le-ltb links links (omega arith))
+          rw (ne-eqb (numberAt iid l) x z, i, le-ltb links links (omega arith))
 
   -- one that is not refused stands at l
-  pub stands : (member : List ℕ) (p : ℕ) → l < links → isRefused iid owner member links p x ≡ false → col iid l ≡ x
-  stands member p b f = go (ℕ-discrete (col iid l) x)
+  pub stands : (member : List ℕ) (p : ℕ) → l < links → isRefused iid owner member links p x ≡ false → numberAt iid l ≡ x
+  stands member p b f = go (ℕ-discrete (numberAt iid l) x)
     where
-      go : Dec (col iid l ≡ x) → col iid l ≡ x
+      go : Dec (numberAt iid l ≡ x) → numberAt iid l ≡ x
       go (yes z) = z
       go (no z) =
-          let w : true ≡ isRefused iid owner member links p x = rw (ne-eqb (col iid l) x z) at (refused-here member p b) in
+          let w : true ≡ isRefused iid owner member links p x = rw (ne-eqb (numberAt iid l) x z) at (refused-here member p b) in
           absurd (false≢true (sym f ∙ sym w))
 
   -- past the last link nothing is known
@@ -78,7 +78,7 @@ module _ (iid owner : List ℕ) (links : ℕ) (t : Table iid owner links) (l x :
       rw (i, le-ltb links links (omega arith))
 
   -- where x stands at l, the next identifier has the next rank
-  pub rank-next : l < links → col iid l ≡ x → l + 1 ≡ rank iid links (x + 1)
+  pub rank-next : l < links → numberAt iid l ≡ x → l + 1 ≡ rank iid links (x + 1)
   rank-next b z = go (decLt l (rank iid links (x + 1))) (decLt (l + 1) (rank iid links (x + 1)))
     where
       go : Dec (l < rank iid links (x + 1)) → Dec (l + 1 < rank iid links (x + 1)) → l + 1 ≡ rank iid links (x + 1)
@@ -128,35 +128,35 @@ empty-range bad start stop h = let z : stop + 1 - start ≡ 0 = omega arith in r
 
 -- the link l of AS a is named
 unfoldable pub named : List ℕ → List ℕ → ℕ → ℕ → ℕ → ℕ → Bool
-named iid owner start stop a l = (leb start (col iid l) && leb (col iid l) stop) && eqb (col owner l) a
+named iid owner start stop a l = (leb start (numberAt iid l) && leb (numberAt iid l) stop) && eqb (numberAt owner l) a
 
 -- some known identifier of the range is owned by a just where some link of a is named
-pub some-owned : (iid owner : List ℕ) (links : ℕ) → Table iid owner links → (start stop a : ℕ) → someIn (isOf iid owner links a) start stop ≡ anyBelow (named iid owner start stop a) links
-unfolding someIn isOf known ownerOf named
+pub some-owned : (iid owner : List ℕ) (links : ℕ) → Table iid owner links → (start stop a : ℕ) → someIn (isOwnedBy iid owner links a) start stop ≡ anyBelow (named iid owner start stop a) links
+unfolding someIn isOwnedBy known ownerOf named
 some-owned iid owner links t start stop a =
-    same-truth (anyBelow (λ i. isOf iid owner links a (start + i)) (span start stop)) (anyBelow (named iid owner start stop a) links)
-    (λ e. let y = any-at (λ i. isOf iid owner links a (start + i)) (span start stop) e in to (y .0) (y .1) (y .2))
+    same-truth (anyBelow (λ i. isOwnedBy iid owner links a (start + i)) (span start stop)) (anyBelow (named iid owner start stop a) links)
+    (λ e. let y = any-at (λ i. isOwnedBy iid owner links a (start + i)) (span start stop) e in to (y .0) (y .1) (y .2))
     (λ e. let y = any-at (named iid owner start stop a) links e in from (y .0) (y .1) (y .2))
   where
-    to : (i : ℕ) → i < span start stop → (ltb (indexOf iid links (start + i)) links && eqb (col owner (indexOf iid links (start + i))) a) ≡ true → anyBelow (named iid owner start stop a) links ≡ true
+    to : (i : ℕ) → i < span start stop → (ltb (indexOf iid links (start + i)) links && eqb (numberAt owner (indexOf iid links (start + i))) a) ≡ true → anyBelow (named iid owner start stop a) links ≡ true
     to i b h =
         let l = indexOf iid links (start + i) in
-        let p : l < links = ltb-true l links (and-left (ltb l links) (eqb (col owner l) a) h) in
-        let z : col iid l ≡ start + i = index-is iid links (start + i) p in
+        let p : l < links = ltb-true l links (and-left (ltb l links) (eqb (numberAt owner l) a) h) in
+        let z : numberAt iid l ≡ start + i = index-is iid links (start + i) p in
         any-in (named iid owner start stop a) links l p
-        (and-both (leb start (col iid l) && leb (col iid l) stop) (eqb (col owner l) a)
-        (and-both (leb start (col iid l)) (leb (col iid l) stop) (le-leb start (col iid l) (omega arith)) (le-leb (col iid l) stop (omega arith)))
-        (and-right (ltb l links) (eqb (col owner l) a) h))
+        (and-both (leb start (numberAt iid l) && leb (numberAt iid l) stop) (eqb (numberAt owner l) a)
+        (and-both (leb start (numberAt iid l)) (leb (numberAt iid l) stop) (le-leb start (numberAt iid l) (omega arith)) (le-leb (numberAt iid l) stop (omega arith)))
+        (and-right (ltb l links) (eqb (numberAt owner l) a) h))
 
-    from : (l : ℕ) → l < links → ((leb start (col iid l) && leb (col iid l) stop) && eqb (col owner l) a) ≡ true → anyBelow (λ i. isOf iid owner links a (start + i)) (span start stop) ≡ true
+    from : (l : ℕ) → l < links → ((leb start (numberAt iid l) && leb (numberAt iid l) stop) && eqb (numberAt owner l) a) ≡ true → anyBelow (λ i. isOwnedBy iid owner links a (start + i)) (span start stop) ≡ true
     from l b h =
-        let r = and-left (leb start (col iid l) && leb (col iid l) stop) (eqb (col owner l) a) h in
-        let p : start ≤ col iid l = leb-true start (col iid l) (and-left (leb start (col iid l)) (leb (col iid l) stop) r) in
-        let q : col iid l ≤ stop = leb-true (col iid l) stop (and-right (leb start (col iid l)) (leb (col iid l) stop) r) in
-        let z : start + (col iid l - start) ≡ col iid l = omega arith in
-        let i : indexOf iid links (col iid l) ≡ l = index-own iid links (t .order) l b in
-        any-in (λ i. isOf iid owner links a (start + i)) (span start stop) (col iid l - start) (omega arith)
-        (rw (z, i, lt-ltb l links b) (and-right (leb start (col iid l) && leb (col iid l) stop) (eqb (col owner l) a) h))
+        let r = and-left (leb start (numberAt iid l) && leb (numberAt iid l) stop) (eqb (numberAt owner l) a) h in
+        let p : start ≤ numberAt iid l = leb-true start (numberAt iid l) (and-left (leb start (numberAt iid l)) (leb (numberAt iid l) stop) r) in
+        let q : numberAt iid l ≤ stop = leb-true (numberAt iid l) stop (and-right (leb start (numberAt iid l)) (leb (numberAt iid l) stop) r) in
+        let z : start + (numberAt iid l - start) ≡ numberAt iid l = omega arith in
+        let i : indexOf iid links (numberAt iid l) ≡ l = index-own iid links (t .order) l b in
+        any-in (λ i. isOwnedBy iid owner links a (start + i)) (span start stop) (numberAt iid l - start) (omega arith)
+        (rw (z, i, lt-ltb l links b) (and-right (leb start (numberAt iid l) && leb (numberAt iid l) stop) (eqb (numberAt owner l) a) h))
 
 -- ---- entries in order
 

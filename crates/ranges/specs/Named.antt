@@ -6,7 +6,7 @@ use mathlib.Core.List.{List}
 use lib.Dec.{eqb, ltb}
 use lib.ListN.{length}
 use Rattle.laws.specs.Below.{anyBelow, firstBelow}
-use Rattle.laws.specs.Tab.{col, on}
+use Rattle.laws.specs.Columns.{numberAt, isSet}
 use Rattle.wire.specs.Number.{be}
 use Rattle.gateway.specs.Sound.{pair}
 use Rattle.lookup.specs.Links.{indexOf, known}
@@ -15,15 +15,15 @@ use Rattle.ranges.specs.declared.Refused.{Refused}
 -- ---- one identifier
 
 unfoldable pub ownerOf : List ℕ → List ℕ → ℕ → ℕ → ℕ
-ownerOf iid owner links x = col owner (indexOf iid links x)
+ownerOf iid owner links x = numberAt owner (indexOf iid links x)
 
 -- it is unknown, or p is no member of its AS
 unfoldable pub isRefused : List ℕ → List ℕ → List ℕ → ℕ → ℕ → ℕ → Bool
-isRefused iid owner member links p x = not (known iid links x && on member (pair (ownerOf iid owner links x) p))
+isRefused iid owner member links p x = not (known iid links x && isSet member (pair (ownerOf iid owner links x) p))
 
 -- it is known, and AS a owns it
-unfoldable pub isOf : List ℕ → List ℕ → ℕ → ℕ → ℕ → Bool
-isOf iid owner links a x = known iid links x && eqb (ownerOf iid owner links x) a
+unfoldable pub isOwnedBy : List ℕ → List ℕ → ℕ → ℕ → ℕ → Bool
+isOwnedBy iid owner links a x = known iid links x && eqb (ownerOf iid owner links x) a
 
 -- ---- a range: from start to stop, both included
 

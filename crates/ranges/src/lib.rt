@@ -2,8 +2,8 @@
 ghost use mathlib.Core.Path.{_≡_};
 ghost use mathlib.Core.Bool.{_||_};
 ghost use Prim.Native.Nat.{_<_};
-ghost use Rattle.laws.specs.Tab.{at, tab};
-ghost use Rattle.ranges.specs.Named.{isOf, someIn, startAt, stopAt, entries, someOf};
+ghost use Rattle.laws.specs.Columns.{flagAt, tabulate};
+ghost use Rattle.ranges.specs.Named.{isOwnedBy, someIn, startAt, stopAt, entries, someOf};
 ghost use Rattle.ranges.specs.Laws.{Table};
 
 // The first refused identifier, if one is found; else 0.
@@ -22,7 +22,7 @@ pub fn add_owners<'a>(
     stop: u32,
 ) -> [bool; 16]
     requires { ⌜ Table (now iid) (now owner) links ⌝ }
-    ensures { λ r. ⌜ r ≡ tab 16 (λ a. at set a || someIn (isOf (now (iid .entry)) (now (owner .entry)) links a) start stop) ⌝ }
+    ensures { λ r. ⌜ r ≡ tabulate 16 (λ a. flagAt set a || someIn (isOwnedBy (now (iid .entry)) (now (owner .entry)) links a) start stop) ⌝ }
 {
     let mut r = set;
     let mut l = lookup::rank_of(iid, links, start);
@@ -78,7 +78,7 @@ pub fn owners_of<'a>(
     links: usize,
 ) -> [bool; 16]
     requires { ⌜ Table (now iid) (now owner) links ⌝ }
-    ensures { λ r. ⌜ r ≡ tab 16 (λ a. at set a || someOf (isOf (now (iid .entry)) (now (owner .entry)) links a) pairs (now (value .entry))) ⌝ }
+    ensures { λ r. ⌜ r ≡ tabulate 16 (λ a. flagAt set a || someOf (isOwnedBy (now (iid .entry)) (now (owner .entry)) links a) pairs (now (value .entry))) ⌝ }
 {
     let n = entries_of(value, pairs);
     let mut r = set;

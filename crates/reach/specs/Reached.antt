@@ -2,11 +2,11 @@
 -- Assumes nothing.
 use mathlib.Core.Bool.{Bool}
 use mathlib.Core.List.{List}
-use Rattle.laws.specs.Tab.{tab}
+use Rattle.laws.specs.Columns.{tabulate}
 use Rattle.gateway.specs.declared.Gateway.{Gateway}
 use Rattle.rules.specs.Event.{Event}
 use Rattle.rules.specs.Reach.{reach}
 
 -- a flag for each AS: whether the event may look into it and change it
 unfoldable pub reached : Gateway → Event → List Bool
-reached g e = tab 16 (reach g e)
+reached g e = tabulate 16 (reach g e)

@@ -8,13 +8,13 @@ use native.Mathlib.Decide.{ℕ-discrete}
 use lib.Dec.{eqb, ltb}
 use lib.ListN.{replicate, getD-replicate}
 use borrow.Author.Tests.{lt-ltb, le-ltb, eq-eqb, ne-eqb}
-use Rattle.laws.specs.Tab.{at, col, tab, tab-ext, getD-tab, is-tab}
+use Rattle.laws.specs.Columns.{flagAt, numberAt, tabulate, tabulate-ext, getD-tabulate, is-tabulate}
 use Rattle.wire.specs.Walk.{walk}
 use Rattle.message.specs.declared.Reading.{Reading}
 use Rattle.gateway.specs.declared.Gateway.{Gateway}
 use Rattle.lookup.specs.Links.{indexOf, known}
-use Rattle.servers.specs.Moved.{columnOf}
-use Rattle.ranges.specs.Named.{isOf, ownerOf}
+use Rattle.servers.specs.Changed.{columnOf}
+use Rattle.ranges.specs.Named.{isOwnedBy, ownerOf}
 use Rattle.traffic.specs.Named.{ownersPars, owners-is}
 use Rattle.rules.specs.Event.{Event}
 use Rattle.rules.specs.Identifiers.{isKnown, linkOf, isMember, ownsNamed, ownersNamed}
@@ -30,11 +30,11 @@ use Rattle.reach.specs.Reached.{reached}
 
 -- the owner of an identifier, if it is known
 unfoldable pub ownerRow : ℕ → List ℕ → List ℕ → ℕ → List Bool
-ownerRow links iid owner x = tab 16 (λ a. isOf iid owner links a x)
+ownerRow links iid owner x = tabulate 16 (λ a. isOwnedBy iid owner links a x)
 
 -- Active and Inactive: with identifiers the owners of the known ones, without any the ASes of p
 unfoldable pub namedRow : ℕ → List ℕ → List ℕ → List ℕ → ℕ → List ℕ → ℕ → List Bool
-namedRow links member iid owner p s ids = cond (eqb ids 1) (ownersPars (isOf iid owner links) (walk s 8 .pars)) (columnOf member p)
+namedRow links member iid owner p s ids = cond (eqb ids 1) (ownersPars (isOwnedBy iid owner links) (walk s 8 .pars)) (columnOf member p)
 
 -- any other message of an ASP; wrong says that it is an Error
 unfoldable pub otherRow : ℕ → List ℕ → List ℕ → Bool → Reading → List Bool
@@ -49,16 +49,16 @@ askRow links member iid owner s (Down p) = columnOf member p
 askRow links member iid owner s (Traffic on p r) = namedRow links member iid owner p s (r .ids)
 askRow links member iid owner s (Other p wrong r) = otherRow links iid owner wrong r
 askRow links member iid owner s (Lost p) = columnOf member p
-askRow links member iid owner s (Recovery a) = tab 16 (λ c. eqb c a)
-askRow links member iid owner s (LinkUp l) = tab 16 (eqb (col owner l))
-askRow links member iid owner s (LinkDown l) = tab 16 (eqb (col owner l))
+askRow links member iid owner s (Recovery a) = tabulate 16 (λ c. eqb c a)
+askRow links member iid owner s (LinkUp l) = tabulate 16 (eqb (numberAt owner l))
+askRow links member iid owner s (LinkDown l) = tabulate 16 (eqb (numberAt owner l))
 askRow links member iid owner s (LinkMessage r) = ownerRow links iid owner (r .id)
 
 -- ---- laws
 
 -- a row that is not set
-none-row : (f : ℕ → Bool) → ((a : ℕ) → f a ≡ false) → replicate 16 false ≡ tab 16 f
-none-row f h = is-tab false (replicate 16 false) 16 f refl (λ a b. getD-replicate 16 a false false b ∙ sym (h a))
+none-row : (f : ℕ → Bool) → ((a : ℕ) → f a ≡ false) → replicate 16 false ≡ tabulate 16 f
+none-row f h = is-tabulate false (replicate 16 false) 16 f refl (λ a b. getD-replicate 16 a false false b ∙ sym (h a))
 
 eqb-turned : (a b : ℕ) → eqb a b ≡ eqb b a
 eqb-turned a b = go (ℕ-discrete a b)
@@ -68,46 +68,46 @@ eqb-turned a b = go (ℕ-discrete a b)
     go (no n) = ne-eqb a b n ∙ sym (ne-eqb b a (λ e. n (sym e)))
 
 -- one AS alone
-pub only-row : (a : ℕ) → tab 16 (λ c. eqb c a) ≡ tab 16 (eqb a)
-only-row a = tab-ext false 16 (λ c. eqb c a) (eqb a) (λ c b. eqb-turned c a)
+pub only-row : (a : ℕ) → tabulate 16 (λ c. eqb c a) ≡ tabulate 16 (eqb a)
+only-row a = tabulate-ext false 16 (λ c. eqb c a) (eqb a) (λ c b. eqb-turned c a)
 
 -- the owner of an identifier, which stands at l or nowhere
 module _ (links : ℕ) (iid owner : List ℕ) (x l : ℕ) (e : l ≡ indexOf iid links x) where
-  pub id-known : l < links → tab 16 (eqb (col owner l)) ≡ ownerRow links iid owner x
-  unfolding ownerRow isOf ownerOf known
-  id-known h = tab-ext false 16 (eqb (col owner l)) (λ a. isOf iid owner links a x) (λ a b. rw (← e, lt-ltb l links h))
+  pub id-known : l < links → tabulate 16 (eqb (numberAt owner l)) ≡ ownerRow links iid owner x
+  unfolding ownerRow isOwnedBy ownerOf known
+  id-known h = tabulate-ext false 16 (eqb (numberAt owner l)) (λ a. isOwnedBy iid owner links a x) (λ a b. rw (← e, lt-ltb l links h))
 
   pub id-unknown : links ≤ l → replicate 16 false ≡ ownerRow links iid owner x
-  unfolding ownerRow isOf ownerOf known
-  id-unknown h = none-row (λ a. isOf iid owner links a x) (λ a. rw (← e, le-ltb l links h))
+  unfolding ownerRow isOwnedBy ownerOf known
+  id-unknown h = none-row (λ a. isOwnedBy iid owner links a x) (λ a. rw (← e, le-ltb l links h))
 
 -- the rows are the rule's
 module _ (g : Gateway) where
-  owner-row : (x : ℕ) → ownerRow (g .links) (g .iid) (g .owner) x ≡ tab 16 (ownsId g x)
-  unfolding ownerRow isOf ownerOf ownsId isKnown linkOf
+  owner-row : (x : ℕ) → ownerRow (g .links) (g .iid) (g .owner) x ≡ tabulate 16 (ownsId g x)
+  unfolding ownerRow isOwnedBy ownerOf ownsId isKnown linkOf
   owner-row x = refl
 
-  named-row : (p : ℕ) (s : List ℕ) (ids : ℕ) → namedRow (g .links) (g .member) (g .iid) (g .owner) p s ids ≡ tab 16 (namedReach g p s ids)
+  named-row : (p : ℕ) (s : List ℕ) (ids : ℕ) → namedRow (g .links) (g .member) (g .iid) (g .owner) p s ids ≡ tabulate 16 (namedReach g p s ids)
   unfolding namedRow namedReach ownersNamed columnOf
   named-row p s ids = go (eqb ids 1)
     where
-      go : (u : Bool) → cond u (ownersPars (isOf (g .iid) (g .owner) (g .links)) (walk s 8 .pars)) (columnOf (g .member) p) ≡ tab 16 (λ a. cond u (ownsNamed g (walk s 8 .pars) a) (isMember g a p))
+      go : (u : Bool) → cond u (ownersPars (isOwnedBy (g .iid) (g .owner) (g .links)) (walk s 8 .pars)) (columnOf (g .member) p) ≡ tabulate 16 (λ a. cond u (ownsNamed g (walk s 8 .pars) a) (isMember g a p))
       go true = sym (owners-is g (walk s 8 .pars))
       go false = refl
 
-  other-row : (wrong : Bool) (r : Reading) → otherRow (g .links) (g .iid) (g .owner) wrong r ≡ tab 16 (otherReach g wrong r)
+  other-row : (wrong : Bool) (r : Reading) → otherRow (g .links) (g .iid) (g .owner) wrong r ≡ tabulate 16 (otherReach g wrong r)
   unfolding otherRow otherReach
   other-row wrong r = go wrong (eqb (r .code) 0) (eqb (r .class) 6)
     where
       go : (u v w : Bool)
           → cond u (replicate 16 false) (cond v (cond w (ownerRow (g .links) (g .iid) (g .owner) (r .id)) (replicate 16 false)) (replicate 16 false))
-          ≡ tab 16 (λ a. cond u false (cond v (cond w (ownsId g (r .id) a) false) false))
+          ≡ tabulate 16 (λ a. cond u false (cond v (cond w (ownsId g (r .id) a) false) false))
       go true v w = none-row (λ a. false) (λ a. refl)
       go false true true = owner-row (r .id)
       go false true false = none-row (λ a. false) (λ a. refl)
       go false false w = none-row (λ a. false) (λ a. refl)
 
-  ask-row : (s : List ℕ) (ask : Ask) → askRow (g .links) (g .member) (g .iid) (g .owner) s ask ≡ tab 16 (askReach g s ask)
+  ask-row : (s : List ℕ) (ask : Ask) → askRow (g .links) (g .member) (g .iid) (g .owner) s ask ≡ tabulate 16 (askReach g s ask)
   unfolding columnOf
   ask-row s (Up p r) = refl
   ask-row s (Down p) = refl
@@ -121,8 +121,8 @@ module _ (g : Gateway) where
 
   -- the same, with the number of links as the code has it, of the event e that is asked
   pub row-is : (s : List ℕ) (ask : Ask) (e : Event) {n : ℕ} {row : List Bool} → n ≡ g .links → row ≡ askRow n (g .member) (g .iid) (g .owner) s ask
-      → ((a : ℕ) → askReach g s ask a ≡ kindReach g (e .kind) a) → row ≡ tab 16 (kindReach g (e .kind))
-  row-is s ask e q r h = (rw q at r) ∙ ask-row s ask ∙ tab-ext false 16 (askReach g s ask) (kindReach g (e .kind)) (λ a b. h a)
+      → ((a : ℕ) → askReach g s ask a ≡ kindReach g (e .kind) a) → row ≡ tabulate 16 (kindReach g (e .kind))
+  row-is s ask e q r h = (rw q at r) ∙ ask-row s ask ∙ tabulate-ext false 16 (askReach g s ask) (kindReach g (e .kind)) (λ a b. h a)
 
 -- ---- what every entry promises
 
@@ -131,8 +131,8 @@ pub reached-no : (g : Gateway) (e : Event) {no : ℕ} → no ≡ refusal g e →
 unfolding reached reach
 reached-no g e {no} q h = none-row (reach g e) (λ a. rw (← q, ne-eqb no 0 h))
 
-pub reached-yes : (g : Gateway) (e : Event) {no : ℕ} {row r : List Bool} → no ≡ refusal g e → no ≡ 0 → row ≡ tab 16 (kindReach g (e .kind))
-    → r ≡ tab 16 (λ a. ltb a (g .ases) && at row a) → r ≡ reached g e
+pub reached-yes : (g : Gateway) (e : Event) {no : ℕ} {row r : List Bool} → no ≡ refusal g e → no ≡ 0 → row ≡ tabulate 16 (kindReach g (e .kind))
+    → r ≡ tabulate 16 (λ a. ltb a (g .ases) && flagAt row a) → r ≡ reached g e
 unfolding reached reach
 reached-yes g e {no} {row} {r} q h k f =
-    f ∙ tab-ext false 16 (λ a. ltb a (g .ases) && at row a) (reach g e) (λ a b. rw (← q, eq-eqb no 0 h, k, getD-tab 16 (kindReach g (e .kind)) a false b))
+    f ∙ tabulate-ext false 16 (λ a. ltb a (g .ases) && flagAt row a) (reach g e) (λ a b. rw (← q, eq-eqb no 0 h, k, getD-tabulate 16 (kindReach g (e .kind)) a false b))

@@ -7,10 +7,10 @@ ghost use mathlib.Core.Path.{_≡_};
 ghost use mathlib.Core.Bool.{_&&_};
 ghost use Prim.Native.Nat.{_<_};
 ghost use lib.Dec.{eqb, ltb};
-ghost use Rattle.laws.specs.Tab.{at, col, tab};
+ghost use Rattle.laws.specs.Columns.{flagAt, numberAt, tabulate};
 ghost use Rattle.wire.specs.Walk.{walk};
 ghost use Rattle.ranges.specs.Laws.{Table};
-ghost use Rattle.ranges.specs.Named.{isOf};
+ghost use Rattle.ranges.specs.Named.{isOwnedBy};
 ghost use Rattle.traffic.specs.Named.{withPar, ownersPars};
 ghost use Rattle.rules.specs.Event.{message, lost, recovery, linkUp, linkDown, linkMessage};
 ghost use Rattle.ask.specs.Happened.{happened, eventOf};
@@ -30,7 +30,7 @@ fn owners_par<'a>(
     owner: &'a [u8; 128],
 ) -> [bool; 16]
     requires { ⌜ Table (now iid) (now owner) links ⌝ }
-    ensures { λ r. ⌜ r ≡ withPar set (isOf (now (iid .entry)) (now (owner .entry)) links) t (now (v .entry)) ⌝ }
+    ensures { λ r. ⌜ r ≡ withPar set (isOwnedBy (now (iid .entry)) (now (owner .entry)) links) t (now (v .entry)) ⌝ }
 {
     if t == 1 {
         return ranges::owners_of(set, v, false, iid, owner, links);
@@ -44,7 +44,7 @@ fn owners_par<'a>(
 // The ASes that own a known identifier of the message.
 fn owners_named<'a>(s: &[u8], links: usize, iid: &'a [u32; 128], owner: &'a [u8; 128]) -> [bool; 16]
     requires { ⌜ Table (now iid) (now owner) links ⌝ }
-    ensures { λ r. ⌜ r ≡ ownersPars (isOf (now (iid .entry)) (now (owner .entry)) links) (walk (now (s .entry)) 8 .pars) ⌝ }
+    ensures { λ r. ⌜ r ≡ ownersPars (isOwnedBy (now (iid .entry)) (now (owner .entry)) links) (walk (now (s .entry)) 8 .pars) ⌝ }
 {
     let mut set = [false; 16];
     let mut at: usize = 8;
@@ -64,7 +64,7 @@ fn owners_named<'a>(s: &[u8], links: usize, iid: &'a [u32; 128], owner: &'a [u8;
 // The owner of the link at l.
 fn owner_at(owner: &[u8; 128], l: usize) -> [bool; 16]
     requires { ⌜ l < 128 ⌝ }
-    ensures { λ r. ⌜ r ≡ tab 16 (eqb (col (now (owner .entry)) l)) ⌝ }
+    ensures { λ r. ⌜ r ≡ tabulate 16 (eqb (numberAt (now (owner .entry)) l)) ⌝ }
 {
     asps::only(gateway::wide(owner[l]))
 }
@@ -152,7 +152,7 @@ fn row_of<'a>(
 
 // The row without the places at and beyond the number of ASes.
 fn within(ases: usize, row: [bool; 16]) -> [bool; 16]
-    ensures { λ r. ⌜ r ≡ tab 16 (λ a. ltb a ases && at row a) ⌝ }
+    ensures { λ r. ⌜ r ≡ tabulate 16 (λ a. ltb a ases && flagAt row a) ⌝ }
 {
     let mut r = [false; 16];
     for a in 0..16usize {

@@ -138,7 +138,7 @@ module _ {a b : List ℕ} {at m : ℕ} (s : List ℕ) (r : Reading) (e : r ≡ r
   unfolding readText
   read-none z h = rw (← e, ne-eqb (r .code) 0 z) (put-then h (put-none b m))
 
-  pub shown-some : (style : Style) → r .code ≡ 0 → Put a b at (acceptedText style (r .class) (r .kind) s) m → Put a b at (shownText style s) m
+  pub shown-some : (style : Style) → r .code ≡ 0 → Put a b at (acceptedText style (r .class) (r .msgtype) s) m → Put a b at (shownText style s) m
   unfolding shownText
   shown-some style z h = rw (← e, eq-eqb (r .code) 0 z) h
 

@@ -69,15 +69,15 @@ verdictLine code = verdictWord ++ decimal code
 
 -- class, type and number of bytes, as message 4 1 28
 unfoldable pub headLine : ℕ → ℕ → ℕ → List ℕ
-headLine class kind size = messageWord ++ (two class blank kind ++ ((blank ∷ []) ++ decimal size))
+headLine class msgtype size = messageWord ++ (two class blank msgtype ++ ((blank ∷ []) ++ decimal size))
 
 unfoldable pub acceptedText : Style → ℕ → ℕ → List ℕ → List ℕ
-acceptedText style class kind s = headLine class kind (length s) ++ (parsText style (walk s 8 .pars) ++ (joint style ++ verdictLine 0))
+acceptedText style class msgtype s = headLine class msgtype (length s) ++ (parsText style (walk s 8 .pars) ++ (joint style ++ verdictLine 0))
 
 -- what `show` says of any bytes (Rule 12.1)
 unfoldable pub shownText : Style → List ℕ → List ℕ
 shownText style s =
-    cond (eqb (readingOf s .code) 0) (acceptedText style (readingOf s .class) (readingOf s .kind) s) (verdictLine (readingOf s .code))
+    cond (eqb (readingOf s .code) 0) (acceptedText style (readingOf s .class) (readingOf s .msgtype) s) (verdictLine (readingOf s .code))
 
 -- what `read` says of any bytes: the verdict, and the parameters of an accepted message
 unfoldable pub readText : List ℕ → List ℕ

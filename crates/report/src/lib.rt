@@ -150,13 +150,13 @@ fn put_verdict(code: u32, out: &mut [u8; 65536], at: usize) -> usize
 }
 
 // The first line of a message that reads: class, type and bytes.
-fn put_head(class: u32, kind: u32, size: u32, out: &mut [u8; 65536], at: usize) -> usize
+fn put_head(class: u32, msgtype: u32, size: u32, out: &mut [u8; 65536], at: usize) -> usize
     requires { ⌜ at + 40 ≤ 65536 ⌝ }
-    ensures { λ r. ⌜ Put (now (out .entry)) (now (out .exit)) at (headLine class kind size) r ⌝ }
+    ensures { λ r. ⌜ Put (now (out .entry)) (now (out .exit)) at (headLine class msgtype size) r ⌝ }
     ensures { λ r. ⌜ r ≤ at + 40 ⌝ }
 {
     let word = put_bytes(out, at, b"message ");
-    let mid = put_two(out, word, class, b' ', kind);
+    let mid = put_two(out, word, class, b' ', msgtype);
     let next = put_byte(out, mid, b' ');
     put_number(out, next, size)
 }
@@ -164,10 +164,10 @@ fn put_head(class: u32, kind: u32, size: u32, out: &mut [u8; 65536], at: usize) 
 // The lines of a message that reads.
 fn put_accepted(style: Style, r: Reading, s: &[u8], out: &mut [u8; 65536], at: usize) -> usize
     requires { ⌜ (at + 17000 ≤ 65536) × (length (now s) ≤ 2048) ⌝ }
-    ensures { λ q. ⌜ Put (now (out .entry)) (now (out .exit)) at (acceptedText style (r .class) (r .kind) (now (s .entry))) q ⌝ }
+    ensures { λ q. ⌜ Put (now (out .entry)) (now (out .exit)) at (acceptedText style (r .class) (r .msgtype) (now (s .entry))) q ⌝ }
     ensures { λ q. ⌜ q ≤ at + 17000 ⌝ }
 {
-    let first = put_head(r.class, r.kind, s.len() as u32, out, at);
+    let first = put_head(r.class, r.msgtype, s.len() as u32, out, at);
     let last = put_pars(style, s, out, first);
     let end = put_joint(style, out, last);
     put_verdict(0, out, end)

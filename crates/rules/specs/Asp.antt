@@ -5,16 +5,16 @@ use mathlib.Core.Bool.{Bool, true, false, cond, not, _&&_, _||_}
 use mathlib.Core.List.{List, [], _∷_, _++_}
 use lib.Dec.{eqb}
 use Rattle.laws.specs.Below.{anyBelow, when}
-use Rattle.laws.specs.Tab.{at, col, on, tab}
+use Rattle.laws.specs.Columns.{flagAt, numberAt, isSet, tabulate}
 use Rattle.wire.specs.Walk.{Par}
 use Rattle.message.specs.declared.Reading.{Reading}
 use Rattle.ranges.specs.declared.Refused.{Refused}
 use Rattle.gateway.specs.declared.Gateway.{Gateway}
-use Rattle.server.specs.declared.Change.the-variants.{Rise, Fall, Off, On, Recover}
+use Rattle.server.specs.declared.Change.the-variants.{AspUp, AspDown, Deactivate, Activate, Recover}
 use Rattle.server.specs.Record.{some}
-use Rattle.servers.specs.Moved.{columnOf}
+use Rattle.servers.specs.Changed.{columnOf}
 use Rattle.rules.specs.Identifiers.{firstRefused, ownersNamed}
-use Rattle.rules.specs.Deed.{Deed, say, change, sent, error, error2}
+use Rattle.rules.specs.Effect.{Effect, send, changeIn, oneAction, error, error2}
 
 -- the ASes of p, and those in which it is active
 abbrev pub asesOf : Gateway → ℕ → List Bool
@@ -24,33 +24,33 @@ abbrev pub activeIn : Gateway → ℕ → List Bool
 activeIn g p = columnOf (g .active) p
 
 -- Rule 7.4: an identifier of its own that is not the plan's is refused; an ASP that was active somewhere is told so by a second reply
-unfoldable pub upDeed : Gateway → ℕ → Reading → Deed
-upDeed g p r =
-    cond (eqb (r .identified) 1 && not (eqb (r .aspid) (col (g .aspid) p))) (say (error p 15))
-    (change (sent p 772 0 0 ++ cond (some (activeIn g p)) (error p 6) []) (Rise p) (asesOf g p))
+unfoldable pub upEffect : Gateway → ℕ → Reading → Effect
+upEffect g p r =
+    cond (eqb (r .identified) 1 && not (eqb (r .aspid) (numberAt (g .aspid) p))) (send (error p 15))
+    (changeIn (oneAction p 772 0 0 ++ cond (some (activeIn g p)) (error p 6) []) (AspUp p) (asesOf g p))
 
 -- Rules 7.5 and 7.6: the loss of the association is a Down without an Ack
-unfoldable pub downDeed : Gateway → ℕ → Deed
-downDeed g p = change (sent p 773 0 0) (Fall p) (asesOf g p)
+unfoldable pub downEffect : Gateway → ℕ → Effect
+downEffect g p = changeIn (oneAction p 773 0 0) (AspDown p) (asesOf g p)
 
-unfoldable pub lostDeed : Gateway → ℕ → Deed
-lostDeed g p = change [] (Fall p) (asesOf g p)
+unfoldable pub lostEffect : Gateway → ℕ → Effect
+lostEffect g p = changeIn [] (AspDown p) (asesOf g p)
 
 -- whether a named AS has another traffic mode than the one given; mode 0 stands for none given (Rule 7.9)
 unfoldable pub otherMode : Gateway → ℕ → List Bool → Bool
-otherMode g mode named = not (eqb mode 0) && anyBelow (λ a. at named a && not (eqb (col (g .mode) a) mode)) 16
+otherMode g mode named = not (eqb mode 0) && anyBelow (λ a. flagAt named a && not (eqb (numberAt (g .mode) a) mode)) 16
 
 -- Rules 7.9 and 7.10: an Ack, and p is active, or no longer active, in the ASes named
-unfoldable pub activeDeed : Gateway → ℕ → ℕ → List Bool → Deed
-activeDeed g p mode named = cond (otherMode g mode named) (say (error p 5)) (change (sent p 1027 0 0) (On p) named)
+unfoldable pub activeEffect : Gateway → ℕ → ℕ → List Bool → Effect
+activeEffect g p mode named = cond (otherMode g mode named) (send (error p 5)) (changeIn (oneAction p 1027 0 0) (Activate p) named)
 
-unfoldable pub inactiveDeed : ℕ → List Bool → Deed
-inactiveDeed p named = change (sent p 1028 0 0) (Off p) named
+unfoldable pub inactiveEffect : ℕ → List Bool → Effect
+inactiveEffect p named = changeIn (oneAction p 1028 0 0) (Deactivate p) named
 
 -- Rule 7.8: the ASes that the message names, by identifiers or, without any, all of p's; what is done with them is given.
-unfoldable pub trafficDeed : Gateway → ℕ → Reading → List Par → (List Bool → Deed) → Deed
-trafficDeed g p r ps act =
-    cond (not (on (g .up) p)) (say (error p 6))
+unfoldable pub trafficEffect : Gateway → ℕ → Reading → List Par → (List Bool → Effect) → Effect
+trafficEffect g p r ps act =
+    cond (not (isSet (g .up) p)) (send (error p 6))
     (cond (eqb (r .ids) 1)
-    (cond (firstRefused g p ps .found) (say (error2 p (firstRefused g p ps .id))) (act (ownersNamed g ps)))
-    (cond (some (asesOf g p)) (act (asesOf g p)) (say (error p 6))))
+    (cond (firstRefused g p ps .found) (send (error2 p (firstRefused g p ps .id))) (act (ownersNamed g ps)))
+    (cond (some (asesOf g p)) (act (asesOf g p)) (send (error p 6))))

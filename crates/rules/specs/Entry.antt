@@ -11,19 +11,19 @@ use Rattle.action.specs.Words.{wordsOf}
 use Rattle.gateway.specs.declared.Gateway.{Gateway}
 use Rattle.rules.specs.declared.Outcome.{Outcome}
 use Rattle.rules.specs.Event.{Event}
-use Rattle.rules.specs.Deed.{actionsOf, stateAfter}
-use Rattle.rules.specs.Rules.{deedOf, refusal}
+use Rattle.rules.specs.Effect.{actionsOf, stateAfter}
+use Rattle.rules.specs.Rules.{effectOf, refusal}
 
 -- a refused event has no actions and leaves the state (Rule 6.3)
 unfoldable pub actions : Gateway → Event → List Action
-actions g e = cond (eqb (refusal g e) 0) (actionsOf g (deedOf g (e .kind))) []
+actions g e = cond (eqb (refusal g e) 0) (actionsOf g (effectOf g (e .kind))) []
 
 unfoldable pub next : Gateway → Event → Gateway
-next g e = cond (eqb (refusal g e) 0) (stateAfter g (deedOf g (e .kind))) g
+next g e = cond (eqb (refusal g e) 0) (stateAfter g (effectOf g (e .kind))) g
 
 -- What every entry promises of the event e on the state g: `lent` is the list of words as it comes, `left` as it is handed back.
 -- Words behind the actions' words stay as they came (Rule 8.6).
-pub record Handed (g : Gateway) (e : Event) (lent left : List ℕ) (r : Outcome) : Type 0 where
+pub record MeetsRules (g : Gateway) (e : Event) (lent left : List ℕ) (r : Outcome) : Type 0 where
   pub room : length lent ≡ e .room
   pub refused : r .refusal ≡ refusal g e
   pub count : r .count ≡ length (actions g e)

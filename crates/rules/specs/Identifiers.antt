@@ -4,12 +4,12 @@ use Prim.Native.Nat.{ℕ}
 use mathlib.Core.Bool.{Bool, true, false, cond, not, _&&_, _||_}
 use mathlib.Core.List.{List, [], _∷_}
 use lib.Dec.{eqb}
-use Rattle.laws.specs.Tab.{col, on, tab}
+use Rattle.laws.specs.Columns.{numberAt, isSet, tabulate}
 use Rattle.wire.specs.Walk.{Par}
 use Rattle.gateway.specs.Sound.{pair}
 use Rattle.gateway.specs.declared.Gateway.{Gateway}
 use Rattle.lookup.specs.Links.{indexOf, known}
-use Rattle.ranges.specs.Named.{isRefused, isOf, nothing, refusedIn, someOf}
+use Rattle.ranges.specs.Named.{isRefused, isOwnedBy, nothing, refusedIn, someOf}
 use Rattle.ranges.specs.declared.Refused.{Refused}
 
 -- the tags of identifiers and of ranges (Rule 2.11)
@@ -27,11 +27,11 @@ firstRefused g p (x ∷ ps) =
 unfoldable pub ownsNamed : Gateway → List Par → ℕ → Bool
 ownsNamed g [] a = false
 ownsNamed g (x ∷ ps) a =
-    (isIds (x .tag) && someOf (isOf (g .iid) (g .owner) (g .links) a) (eqb (x .tag) 0x8) (x .body)) || ownsNamed g ps a
+    (isIds (x .tag) && someOf (isOwnedBy (g .iid) (g .owner) (g .links) a) (eqb (x .tag) 0x8) (x .body)) || ownsNamed g ps a
 
 -- the owners of the known ones
 unfoldable pub ownersNamed : Gateway → List Par → List Bool
-ownersNamed g ps = tab 16 (ownsNamed g ps)
+ownersNamed g ps = tabulate 16 (ownsNamed g ps)
 
 -- ---- one identifier, as in class 6 (Rule 5.16)
 
@@ -44,11 +44,11 @@ linkOf g x = indexOf (g .iid) (g .links) x
 
 -- the AS that owns the link at an index
 abbrev pub ownerAt : Gateway → ℕ → ℕ
-ownerAt g l = col (g .owner) l
+ownerAt g l = numberAt (g .owner) l
 
 -- p has part in AS a, and is active there
 abbrev pub isMember : Gateway → ℕ → ℕ → Bool
-isMember g a p = on (g .member) (pair a p)
+isMember g a p = isSet (g .member) (pair a p)
 
 abbrev pub isActive : Gateway → ℕ → ℕ → Bool
-isActive g a p = on (g .active) (pair a p)
+isActive g a p = isSet (g .active) (pair a p)

@@ -1,7 +1,7 @@
 pub mod Event
 pub mod Identifiers
-pub mod Deed
-pub mod Work
+pub mod Effect
+pub mod Decision
 pub mod Asp
 pub mod Link
 pub mod Rules

@@ -9,9 +9,9 @@ use Rattle.message.specs.Verdict.{verdict}
 use Rattle.message.specs.Meaning.{readingOf}
 use Rattle.message.specs.declared.Reading.{Reading}
 use Rattle.gateway.specs.declared.Gateway.{Gateway}
-use Rattle.rules.specs.Event.{Kind, message, lost, recovery, linkUp, linkDown, linkMessage, Event}
+use Rattle.rules.specs.Event.{EventKind, message, lost, recovery, linkUp, linkDown, linkMessage, Event}
 use Rattle.rules.specs.Identifiers.{ownsNamed, isKnown, linkOf, ownerAt, isMember}
-use Rattle.rules.specs.Rules.{isError, typeOf, refusal}
+use Rattle.rules.specs.Rules.{isError, classTypeOf, refusal}
 
 -- the owner of a known identifier
 unfoldable pub ownsId : Gateway → ℕ → ℕ → Bool
@@ -20,8 +20,8 @@ ownsId g x a = isKnown g x && eqb (ownerAt g (linkOf g x)) a
 -- Rule 9.2, of a message that reads: all ASes of p, the owners of the identifiers named, the owner of the one identifier, or none
 unfoldable pub readReach : Gateway → ℕ → List ℕ → Reading → ℕ → Bool
 readReach g p s r a =
-    cond (eqb (typeOf r) 769 || eqb (typeOf r) 770) (isMember g a p)
-    (cond (eqb (typeOf r) 1025 || eqb (typeOf r) 1026) (cond (eqb (r .ids) 1) (ownsNamed g (walk s 8 .pars) a) (isMember g a p))
+    cond (eqb (classTypeOf r) 769 || eqb (classTypeOf r) 770) (isMember g a p)
+    (cond (eqb (classTypeOf r) 1025 || eqb (classTypeOf r) 1026) (cond (eqb (r .ids) 1) (ownsNamed g (walk s 8 .pars) a) (isMember g a p))
     (cond (eqb (r .class) 6) (ownsId g (r .id) a) false))
 
 -- a message that does not read, or an Error, reaches none
@@ -29,7 +29,7 @@ unfoldable pub messageReach : Gateway → ℕ → List ℕ → ℕ → Bool
 messageReach g p s a = cond (isError s || not (eqb (verdict s) 0)) false (readReach g p s (readingOf s) a)
 
 -- the other kinds (Rule 9.3)
-abbrev pub kindReach : Gateway → Kind → ℕ → Bool
+abbrev pub kindReach : Gateway → EventKind → ℕ → Bool
 kindReach g (message p s) a = messageReach g p s a
 kindReach g (lost p) a = isMember g a p
 kindReach g (recovery c) a = eqb c a
@@ -42,7 +42,7 @@ unfoldable pub reach : Gateway → Event → ℕ → Bool
 reach g e a = eqb (refusal g e) 0 && (ltb a (g .ases) && kindReach g (e .kind) a)
 
 -- the ASP whose event it is: a message and the loss of its association; the other kinds are nobody's (Rule 10.1)
-abbrev pub fromController : Kind → ℕ → Bool
+abbrev pub fromController : EventKind → ℕ → Bool
 fromController (message p s) q = eqb p q
 fromController (lost p) q = eqb p q
 fromController (recovery a) q = false

@@ -9,7 +9,7 @@ use Rattle.gateway.specs.declared.Gateway.{Gateway}
 use Rattle.action.specs.declared.Action.{Action}
 use Rattle.action.specs.Words.{action}
 use Rattle.message.specs.Samples.{active, ReaderSamples}
-use Rattle.rules.specs.Event.{Kind, message, recovery, Event}
+use Rattle.rules.specs.Event.{EventKind, message, recovery, Event}
 use Rattle.rules.specs.Reach.{reach}
 use Rattle.rules.specs.Entry.{actions, next}
 
@@ -22,7 +22,7 @@ unfoldable pub fresh : Gateway
 fresh = loadOf planS .gateway
 
 -- an event with the least list of words
-abbrev pub event : Kind → Event
+abbrev pub event : EventKind → Event
 event k = record { kind = k; room = 1032 }
 
 -- a message of a header alone
@@ -72,10 +72,10 @@ unfoldable pub takes : Event
 takes = event (message 0 m)
 
 -- ASP 2 comes up
-unfoldable pub rises : Event
-rises = event (message 2 (bare 3 1))
+unfoldable pub comesUp : Event
+comesUp = event (message 2 (bare 3 1))
 
 pub record ReachApart : Type 0 where
   pub ases : g₁ .ases ≡ 2
   pub first : (reach g₁ takes 0 ≡ true) × (reach g₁ takes 1 ≡ false)
-  pub second : (reach g₁ rises 0 ≡ false) × (reach g₁ rises 1 ≡ true)
+  pub second : (reach g₁ comesUp 0 ≡ false) × (reach g₁ comesUp 1 ≡ true)

@@ -11,9 +11,9 @@ pub struct Outcome {
     pub gateway: Gateway,
 }
 
-// What an accepted event does, as the code decides it before it does it (the definitions' Deed, by `deedIn`). The large fields come first: so the
+// What an accepted event does, as the code decides it before it does it (the definitions' Effect, by `effectIn`). The large fields come first: so the
 // compiler moves them whole.
-pub struct Work {
+pub struct Decision {
     // the ASes of the change, or the ASPs that get `first`
     pub who: [bool; 16],
     // the actions that come first; `count` says how many

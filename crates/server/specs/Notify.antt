@@ -9,27 +9,27 @@ use lib.Dec.{eqb}
 use lib.ListN.{length}
 use borrow.Author.Tests.{eq-eqb, ne-eqb, ltb-true}
 use Rattle.laws.specs.Below.{any-not, concatBelow, concat-ext, concat-empty, when, when-nil}
-use Rattle.laws.specs.Tab.{at}
+use Rattle.laws.specs.Columns.{flagAt}
 use Rattle.action.specs.Types.{mgmtNotify, asState, otherActive}
 use Rattle.action.specs.Words.{action, toEach, toAll, toAll-short}
 use Rattle.action.specs.declared.Action.{Action}
 use Rattle.server.specs.Record.{some, stateIn}
-use Rattle.server.specs.Change.{after, overtaken, overtakenIn, settle, nobody, fits, nobody-none, some-at, some-some, overtaken-was, some-turned}
+use Rattle.server.specs.Change.{after, overtaken, overtakenIn, recordWith, nobody, fits, nobody-none, some-at, some-some, overtaken-was, some-turned}
 use Rattle.server.specs.declared.AsRecord.{AsRecord}
 use Rattle.server.specs.declared.Change.{Change}
-use Rattle.server.specs.declared.Change.the-variants.{Rise, Fall, Off, On, Recover}
+use Rattle.server.specs.declared.Change.the-variants.{AspUp, AspDown, Deactivate, Activate, Recover}
 
 -- a Notify of AS a to ASP q (Rule 8.5)
 abbrev pub notify : ℕ → ℕ → ℕ → Action
 notify a value q = action q mgmtNotify a value
 
 -- a state is told where it is another than before, and not down, which is 0 (Rule 8.5)
-unfoldable pub isTold : AsRecord → AsRecord → Bool
-isTold s t = not (eqb (stateIn t) 0) && not (eqb (stateIn s) (stateIn t))
+unfoldable pub isNotified : AsRecord → AsRecord → Bool
+isNotified s t = not (eqb (stateIn t) 0) && not (eqb (stateIn s) (stateIn t))
 
 -- what ASP q gets: where it is overtaken, that another is active (Rule 7.11); and where a state is told and it is up after the event, that state
 unfoldable pub notifiesTo : List Bool → AsRecord → AsRecord → ℕ → ℕ → List Action
-notifiesTo lost s t a q = when (at lost q) (notify a otherActive q) ++ when (isTold s t && at (t .ups) q) (notify a (asState (stateIn t)) q)
+notifiesTo lost s t a q = when (flagAt lost q) (notify a otherActive q) ++ when (isNotified s t && flagAt (t .ups) q) (notify a (asState (stateIn t)) q)
 
 -- by ascending number of the ASP (Rule 8.3)
 unfoldable pub notifies : List Bool → AsRecord → AsRecord → ℕ → List Action
@@ -48,8 +48,8 @@ announced s t a =
 unfoldable pub spoken : List Bool → AsRecord → AsRecord → ℕ → List Action
 spoken lost s t a = cond (some lost) (toAll lost mgmtNotify a otherActive) (announced s t a)
 
-announced-told : (s t : AsRecord) (a : ℕ) → announced s t a ≡ cond (isTold s t) (toAll (t .ups) mgmtNotify a (asState (stateIn t))) []
-unfolding announced isTold
+announced-told : (s t : AsRecord) (a : ℕ) → announced s t a ≡ cond (isNotified s t) (toAll (t .ups) mgmtNotify a (asState (stateIn t))) []
+unfolding announced isNotified
 announced-told s t a = go (eqb (stateIn t) 0) (eqb (stateIn s) (stateIn t))
   where
     go : (u v : Bool) → cond u [] (cond v [] (toAll (t .ups) mgmtNotify a (asState (stateIn t)))) ≡ cond (not u && not v) (toAll (t .ups) mgmtNotify a (asState (stateIn t))) []
@@ -60,44 +60,44 @@ announced-told s t a = go (eqb (stateIn t) 0) (eqb (stateIn s) (stateIn t))
 -- where nobody is overtaken the new state is told, if any
 notifies-new : (lost : List Bool) (s t : AsRecord) (a : ℕ) → some lost ≡ false → notifies lost s t a ≡ announced s t a
 unfolding notifies some notifiesTo toAll toEach
-notifies-new lost s t a h = go (isTold s t) refl ∙ sym (announced-told s t a)
+notifies-new lost s t a h = go (isNotified s t) refl ∙ sym (announced-told s t a)
   where
-    none : (q : ℕ) → q < 16 → at lost q ≡ false
-    none = any-not (at lost) 16 h
+    none : (q : ℕ) → q < 16 → flagAt lost q ≡ false
+    none = any-not (flagAt lost) 16 h
 
-    go : (u : Bool) → isTold s t ≡ u → concatBelow (notifiesTo lost s t a) 16 ≡ cond u (toAll (t .ups) mgmtNotify a (asState (stateIn t))) []
+    go : (u : Bool) → isNotified s t ≡ u → concatBelow (notifiesTo lost s t a) 16 ≡ cond u (toAll (t .ups) mgmtNotify a (asState (stateIn t))) []
     go true e = concat-ext _ _ 16 (λ q b. rw (none q b, e))
     go false e = concat-ext _ (λ (q : ℕ). []) 16 (λ q b. rw (none q b, e)) ∙ concat-empty 16
 
 -- where the state is not told those overtaken are
-notifies-lost : (lost : List Bool) (s t : AsRecord) (a : ℕ) → isTold s t ≡ false → notifies lost s t a ≡ toAll lost mgmtNotify a otherActive
+notifies-lost : (lost : List Bool) (s t : AsRecord) (a : ℕ) → isNotified s t ≡ false → notifies lost s t a ≡ toAll lost mgmtNotify a otherActive
 unfolding notifies notifiesTo toAll toEach
-notifies-lost lost s t a e = concat-ext _ _ 16 (λ q b. rw e (when-nil (at lost q) (notify a otherActive q)))
+notifies-lost lost s t a e = concat-ext _ _ 16 (λ q b. rw e (when-nil (flagAt lost q) (notify a otherActive q)))
 
 state-active : (s : AsRecord) → some (s .acts) ≡ true → stateIn s ≡ 3
 unfolding stateIn
 state-active s h = rw h
 
 -- overtaking, the AS was active, and stays so
-told-on : (p : ℕ) (s : AsRecord) → p < 16 → some (overtaken (s .acts) (s .mode) p) ≡ true → isTold s (after (On p) s) ≡ false
-unfolding isTold settle
+told-on : (p : ℕ) (s : AsRecord) → p < 16 → some (overtaken (s .acts) (s .mode) p) ≡ true → isNotified s (after (Activate p) s) ≡ false
+unfolding isNotified recordWith
 told-on p s b h =
     let x = some-some (overtaken (s .acts) (s .mode) p) h in
     let old : stateIn s ≡ 3 = state-active s (some-at (s .acts) (x .0) (x .1) (overtaken-was (s .acts) (s .mode) p (x .0) (x .1) (x .2))) in
-    let new : stateIn (after (On p) s) ≡ 3 = state-active (after (On p) s) (some-turned (s .acts) (s .mode) p b) in
+    let new : stateIn (after (Activate p) s) ≡ 3 = state-active (after (Activate p) s) (some-turned (s .acts) (s .mode) p b) in
     rw (old, new)
 
 pub spoken-is : (k : Change) (s : AsRecord) (a : ℕ) → fits k ≡ true → spoken (overtakenIn k s) s (after k s) a ≡ notifies (overtakenIn k s) s (after k s) a
 unfolding spoken
-spoken-is (Rise p) s a h = rw nobody-none (sym (notifies-new nobody s (after (Rise p) s) a nobody-none))
-spoken-is (Fall p) s a h = rw nobody-none (sym (notifies-new nobody s (after (Fall p) s) a nobody-none))
-spoken-is (Off p) s a h = rw nobody-none (sym (notifies-new nobody s (after (Off p) s) a nobody-none))
-spoken-is (On p) s a h = go (some (overtaken (s .acts) (s .mode) p)) refl
+spoken-is (AspUp p) s a h = rw nobody-none (sym (notifies-new nobody s (after (AspUp p) s) a nobody-none))
+spoken-is (AspDown p) s a h = rw nobody-none (sym (notifies-new nobody s (after (AspDown p) s) a nobody-none))
+spoken-is (Deactivate p) s a h = rw nobody-none (sym (notifies-new nobody s (after (Deactivate p) s) a nobody-none))
+spoken-is (Activate p) s a h = go (some (overtaken (s .acts) (s .mode) p)) refl
   where
     go : (u : Bool) → some (overtaken (s .acts) (s .mode) p) ≡ u
-        → cond u (toAll (overtaken (s .acts) (s .mode) p) mgmtNotify a otherActive) (announced s (after (On p) s) a) ≡ notifies (overtaken (s .acts) (s .mode) p) s (after (On p) s) a
-    go true e = sym (notifies-lost (overtaken (s .acts) (s .mode) p) s (after (On p) s) a (told-on p s (ltb-true p 16 h) e))
-    go false e = sym (notifies-new (overtaken (s .acts) (s .mode) p) s (after (On p) s) a e)
+        → cond u (toAll (overtaken (s .acts) (s .mode) p) mgmtNotify a otherActive) (announced s (after (Activate p) s) a) ≡ notifies (overtaken (s .acts) (s .mode) p) s (after (Activate p) s) a
+    go true e = sym (notifies-lost (overtaken (s .acts) (s .mode) p) s (after (Activate p) s) a (told-on p s (ltb-true p 16 h) e))
+    go false e = sym (notifies-new (overtaken (s .acts) (s .mode) p) s (after (Activate p) s) a e)
 spoken-is Recover s a h = rw nobody-none (sym (notifies-new nobody s (after Recover s) a nobody-none))
 
 -- ---- at most 16 actions in an AS

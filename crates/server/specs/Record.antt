@@ -10,7 +10,7 @@ use lib.Dec.{eqb}
 use lib.ListN.{length}
 use borrow.Author.Tests.{eq-eqb, ne-eqb}
 use Rattle.laws.specs.Below.{one, anyBelow, any-ext}
-use Rattle.laws.specs.Tab.{at, on, col, tab, is-tab, getD-tab, HalfCol}
+use Rattle.laws.specs.Columns.{flagAt, isSet, numberAt, tabulate, is-tabulate, getD-tabulate, HalfCol}
 use Rattle.gateway.specs.Sound.{pair}
 use Rattle.gateway.specs.declared.Gateway.{Gateway}
 use Rattle.lookup.specs.Servers.{stateOf}
@@ -18,46 +18,46 @@ use Rattle.server.specs.declared.AsRecord.{AsRecord}
 
 -- the row of AS a: a flag for each ASP
 unfoldable pub row : List ℕ → ℕ → List Bool
-row c a = tab 16 (λ q. on c (pair a q))
+row c a = tabulate 16 (λ q. isSet c (pair a q))
 
 -- the members of AS a that are up
 unfoldable pub membersUp : List ℕ → List ℕ → ℕ → List Bool
-membersUp up member a = tab 16 (λ q. on member (pair a q) && on up q)
+membersUp up member a = tabulate 16 (λ q. isSet member (pair a q) && isSet up q)
 
 -- cut out of the columns
 unfoldable pub recordFrom : List ℕ → List ℕ → List ℕ → List ℕ → List ℕ → ℕ → AsRecord
 recordFrom up member active waiting mode a =
-    record { ups = membersUp up member a; acts = row active a; waiting = on waiting a; mode = col mode a }
+    record { ups = membersUp up member a; acts = row active a; waiting = isSet waiting a; mode = numberAt mode a }
 
 abbrev pub recordOf : Gateway → ℕ → AsRecord
 recordOf g a = recordFrom (g .up) (g .member) (g .active) (g .waiting) (g .mode) a
 
 -- whether some flag is set
 unfoldable pub some : List Bool → Bool
-some x = anyBelow (at x) 16
+some x = anyBelow (flagAt x) 16
 
 -- its state (Rule 5.2): 3 active, 4 pending, 2 inactive, 0 down
 unfoldable pub stateIn : AsRecord → ℕ
 stateIn s = cond (some (s .acts)) 3 (cond (s .waiting) 4 (cond (some (s .ups)) 2 0))
 
 -- the column with the row x for AS a
-abbrev pub laidAt : List ℕ → ℕ → List Bool → ℕ → ℕ
-laidAt c a x i = cond (eqb (i / 16) a) (one (at x (i % 16))) (col c i)
+abbrev pub withRowAt : List ℕ → ℕ → List Bool → ℕ → ℕ
+withRowAt c a x i = cond (eqb (i / 16) a) (one (flagAt x (i % 16))) (numberAt c i)
 
-unfoldable pub laid : List ℕ → ℕ → List Bool → List ℕ
-laid c a x = tab 256 (laidAt c a x)
+unfoldable pub withRow : List ℕ → ℕ → List Bool → List ℕ
+withRow c a x = tabulate 256 (withRowAt c a x)
 
 -- ---- laws
 
-some-tab : (f : ℕ → Bool) → some (tab 16 f) ≡ anyBelow f 16
+some-tabulate : (f : ℕ → Bool) → some (tabulate 16 f) ≡ anyBelow f 16
 unfolding some
-some-tab f = any-ext (at (tab 16 f)) f 16 (λ i b. getD-tab 16 f i false b)
+some-tabulate f = any-ext (flagAt (tabulate 16 f)) f 16 (λ i b. getD-tabulate 16 f i false b)
 
 -- the state of the record is the state of the AS
 pub state-of : (up member active waiting mode : List ℕ) (a : ℕ) → stateIn (recordFrom up member active waiting mode a) ≡ stateOf up member active waiting a
 unfolding stateIn stateOf recordFrom row membersUp
 state-of up member active waiting mode a =
-    rw (some-tab (λ q. on active (pair a q)), some-tab (λ q. on member (pair a q) && on up q))
+    rw (some-tabulate (λ q. isSet active (pair a q)), some-tabulate (λ q. isSet member (pair a q) && isSet up q))
 
 from-small : (x y z : Bool) → cond x 3 (cond y 4 (cond z 2 0)) ≤ 4
 from-small true y z = omega arith
@@ -70,24 +70,24 @@ unfolding stateIn
 state-small s = from-small (some (s .acts)) (s .waiting) (some (s .ups))
 
 -- a row put back: inside it, and outside
-pub laid-in : (c : List ℕ) (a : ℕ) (x : List Bool) (q : ℕ) → q < 16 → one (at x q) ≡ laidAt c a x (pair a q)
+pub laid-in : (c : List ℕ) (a : ℕ) (x : List Bool) (q : ℕ) → q < 16 → one (flagAt x q) ≡ withRowAt c a x (pair a q)
 laid-in c a x q h =
     let d : (a * 16 + q) / 16 ≡ a = omega arith in
     let m : (a * 16 + q) % 16 ≡ q = omega arith in
     rw (eq-eqb ((a * 16 + q) / 16) a d, m)
 
-pub laid-out : (c : List ℕ) (a : ℕ) (x : List Bool) (i : ℕ) → (i / 16 ≡ a → ⊥) → col c i ≡ laidAt c a x i
+pub laid-out : (c : List ℕ) (a : ℕ) (x : List Bool) (i : ℕ) → (i / 16 ≡ a → ⊥) → numberAt c i ≡ withRowAt c a x i
 laid-out c a x i h = rw (ne-eqb (i / 16) a h)
 
 -- the loop that puts it back
-pub laid-none : (c : List ℕ) (a : ℕ) (x : List Bool) → length c ≡ 256 → HalfCol (laidAt c a x) (col c) 256 (pair a 0) c
+pub laid-none : (c : List ℕ) (a : ℕ) (x : List Bool) → length c ≡ 256 → HalfCol (withRowAt c a x) (numberAt c) 256 (pair a 0) c
 laid-none c a x e = record { long = e; new = λ i q. laid-out c a x i (λ z. omega arith); old = λ i q c. refl }
 
-pub laid-end : (c d : List ℕ) (x : List Bool) (a k : ℕ) → HalfCol (laidAt c a x) (col c) 256 (pair a k) d → 16 ≤ k → k ≤ 16 → d ≡ laid c a x
-unfolding laid
+pub laid-end : (c d : List ℕ) (x : List Bool) (a k : ℕ) → HalfCol (withRowAt c a x) (numberAt c) 256 (pair a k) d → 16 ≤ k → k ≤ 16 → d ≡ withRow c a x
+unfolding withRow
 laid-end c d x a k h u v =
-    is-tab 0 d 256 (laidAt c a x) (h .long) (λ i q. pick i q (decLt i (a * 16 + k)))
+    is-tabulate 0 d 256 (withRowAt c a x) (h .long) (λ i q. pick i q (decLt i (a * 16 + k)))
   where
-    pick : (i : ℕ) → i < 256 → Dec (i < a * 16 + k) → col d i ≡ laidAt c a x i
+    pick : (i : ℕ) → i < 256 → Dec (i < a * 16 + k) → numberAt d i ≡ withRowAt c a x i
     pick i q (yes z) = h .new i z
     pick i q (no z) = h .old i (omega arith) q ∙ laid-out c a x i (λ w. omega arith)

@@ -4,9 +4,9 @@ ghost use Prim.Native.Nat.{_+_, _*_, _<_, _≤_};
 ghost use lib.ListN.{length};
 ghost use Rattle.laws.specs.Below.{one};
 ghost use Rattle.action.specs.Words.{Written};
-ghost use Rattle.server.specs.Record.{row, membersUp, recordFrom, some, stateIn, laid};
-ghost use Rattle.server.specs.Change.{settle, after, overtakenIn};
-ghost use Rattle.server.specs.Flag.{flagged, flagOf, less, more, turnedBy, overtakenBy};
+ghost use Rattle.server.specs.Record.{row, membersUp, recordFrom, some, stateIn, withRow};
+ghost use Rattle.server.specs.Change.{recordWith, after, overtakenIn};
+ghost use Rattle.server.specs.Flag.{flagged, flagOf, less, more, activatedBy, overtakenBy};
 ghost use Rattle.server.specs.Notify.{announced, spoken};
 
 // Its members that are up, those active in it, whether it waits, its traffic mode.
@@ -17,13 +17,13 @@ pub struct AsRecord {
     pub mode: u8,
 }
 
-// What an event does in the ASes that it names. Rise(p): ASP p is up, and active nowhere. Fall(p): it is down. Off(p): it becomes inactive.
-// On(p): it becomes active, in override alone. Recover: the recovery time is over.
+// What an event does in the ASes that it names. AspUp(p): ASP p is up, and active nowhere. AspDown(p): it is down. Deactivate(p): it becomes inactive.
+// Activate(p): it becomes active, in override alone. Recover: the recovery time is over.
 pub enum Change {
-    Rise(usize),
-    Fall(usize),
-    Off(usize),
-    On(usize),
+    AspUp(usize),
+    AspDown(usize),
+    Deactivate(usize),
+    Activate(usize),
     Recover,
 }
 
@@ -95,7 +95,7 @@ pub fn record_of(
 
 pub fn put_row(column: &mut [u8; 256], a: usize, x: [bool; 16])
     requires { ⌜ (a < 16) × (length (now column) ≡ 256) ⌝ }
-    ensures { λ r. ⌜ now (column .exit) ≡ laid (now (column .entry)) a x ⌝ }
+    ensures { λ r. ⌜ now (column .exit) ≡ withRow (now (column .entry)) a x ⌝ }
 {
     for q in 0..16usize {
         column[a * 16 + q] = bit(x[q]);
@@ -120,10 +120,10 @@ pub fn flag_of(k: Change) -> [bool; 16]
     ensures { λ r. ⌜ r ≡ flagOf k ⌝ }
 {
     match k {
-        Change::Rise(p) => alone(p),
-        Change::Fall(p) => alone(p),
-        Change::Off(p) => alone(p),
-        Change::On(p) => alone(p),
+        Change::AspUp(p) => alone(p),
+        Change::AspDown(p) => alone(p),
+        Change::Deactivate(p) => alone(p),
+        Change::Activate(p) => alone(p),
         Change::Recover => [false; 16],
     }
 }
@@ -152,7 +152,7 @@ fn plus(x: [bool; 16], y: [bool; 16]) -> [bool; 16]
 
 // The active members once those of y are, in override they alone.
 fn turn_on(x: [bool; 16], mode: u8, y: [bool; 16]) -> [bool; 16]
-    ensures { λ r. ⌜ r ≡ turnedBy x mode y ⌝ }
+    ensures { λ r. ⌜ r ≡ activatedBy x mode y ⌝ }
 {
     if mode == 1 {
         return y;
@@ -172,7 +172,7 @@ fn overtake(x: [bool; 16], mode: u8, y: [bool; 16]) -> [bool; 16]
 
 // The record with other members up and active: it waits if it lost its last active member.
 fn settled(s: AsRecord, ups: [bool; 16], acts: [bool; 16]) -> AsRecord
-    ensures { λ r. ⌜ r ≡ settle s ups acts ⌝ }
+    ensures { λ r. ⌜ r ≡ recordWith s ups acts ⌝ }
 {
     let before = s.acts;
     let was = has_some(before);
@@ -192,10 +192,10 @@ pub fn changed(s: AsRecord, k: Change, me: [bool; 16]) -> AsRecord
     let ups = s.ups;
     let acts = s.acts;
     match k {
-        Change::Rise(_) => settled(s, plus(ups, me), minus(acts, me)),
-        Change::Fall(_) => settled(s, minus(ups, me), minus(acts, me)),
-        Change::Off(_) => settled(s, ups, minus(acts, me)),
-        Change::On(_) => settled(s, ups, turn_on(acts, s.mode, me)),
+        Change::AspUp(_) => settled(s, plus(ups, me), minus(acts, me)),
+        Change::AspDown(_) => settled(s, minus(ups, me), minus(acts, me)),
+        Change::Deactivate(_) => settled(s, ups, minus(acts, me)),
+        Change::Activate(_) => settled(s, ups, turn_on(acts, s.mode, me)),
         Change::Recover => AsRecord {
             ups: ups,
             acts: acts,
@@ -212,10 +212,10 @@ pub fn overtaken_in(s: AsRecord, k: Change, me: [bool; 16]) -> [bool; 16]
 {
     let acts = s.acts;
     match k {
-        Change::On(_) => overtake(acts, s.mode, me),
-        Change::Rise(_) => [false; 16],
-        Change::Fall(_) => [false; 16],
-        Change::Off(_) => [false; 16],
+        Change::Activate(_) => overtake(acts, s.mode, me),
+        Change::AspUp(_) => [false; 16],
+        Change::AspDown(_) => [false; 16],
+        Change::Deactivate(_) => [false; 16],
         Change::Recover => [false; 16],
     }
 }

@@ -9,14 +9,14 @@ use native.Mathlib.Decide.{decLt}
 use lib.Dec.{eqb}
 use lib.ListN.{length, set}
 use Rattle.laws.specs.Below.{one}
-use Rattle.laws.specs.Tab.{at, on, col, tab, tab-ext, getD-tab, length-tab, HalfCol, half-none, half-more, half-keep, half-end}
+use Rattle.laws.specs.Columns.{flagAt, isSet, numberAt, tabulate, tabulate-ext, getD-tabulate, length-tabulate, HalfCol, half-none, half-more, half-keep, half-end}
 use Rattle.action.specs.Words.{Written, written-none, emit-none, emit-more, emit-end}
 use Rattle.server.specs.declared.AsRecord.{AsRecord}
 use Rattle.server.specs.declared.Change.{Change}
-use Rattle.server.specs.Record.{row, membersUp, recordFrom, laid, laidAt, laid-in, laid-out}
+use Rattle.server.specs.Record.{row, membersUp, recordFrom, withRow, withRowAt, laid-in, laid-out}
 use Rattle.server.specs.Change.{after, overtakenIn, fits}
 use Rattle.server.specs.Notify.{actionsIn, spoken, spoken-is}
-use Rattle.servers.specs.Moved.{newActive, newWaiting, actionsAt}
+use Rattle.servers.specs.Changed.{newActive, newWaiting, actionsAt}
 use Rattle.servers.specs.Run.{Stepped, Ran, Running}
 
 pub stepped-not : (k : Change) (named : Bool) (a : ℕ) (s : AsRecord) (active waiting : List ℕ) (ws : List ℕ) (n : ℕ) → not named ≡ true → Stepped k named a s active waiting ws n active waiting ws n
@@ -25,7 +25,7 @@ stepped-not k true a s active waiting ws n h = absurd (false≢true h)
 stepped-not k false a s active waiting ws n h = record { wrote = written-none ws n; acts = refl; waits = refl }
 
 pub stepped-on : (k : Change) (named : Bool) (a : ℕ) {s u t : AsRecord} {l : List Bool} {active waiting : List ℕ} {ws : List ℕ} {n : ℕ} {active′ : List ℕ} {y : ℕ} {ws′ : List ℕ} {r : ℕ}
-    → not named ≡ false → u ≡ s → t ≡ after k u → active′ ≡ laid active a (t .acts) → y ≡ one (t .waiting) → l ≡ overtakenIn k u → Written ws n (spoken l u t a) ws′ r → fits k ≡ true
+    → not named ≡ false → u ≡ s → t ≡ after k u → active′ ≡ withRow active a (t .acts) → y ≡ one (t .waiting) → l ≡ overtakenIn k u → Written ws n (spoken l u t a) ws′ r → fits k ≡ true
     → Stepped k named a s active waiting ws n active′ (set waiting a y) ws′ r
 unfolding actionsIn
 stepped-on k false a h e f g v o w j = absurd (false≢true (sym h))
@@ -33,34 +33,34 @@ stepped-on k true a {s} {u} {t} {l} {active} {waiting} {ws} {n} {active′} {y} 
     let z : t ≡ after k s = f ∙ ap (after k) e in
     record {
       wrote = rw (spoken-is k s a j) at (rw (o ∙ ap (overtakenIn k) e, e, z) at w);
-      acts = g ∙ ap (λ (y : AsRecord). laid active a (y .acts)) z;
+      acts = g ∙ ap (λ (y : AsRecord). withRow active a (y .acts)) z;
       waits = ap (set waiting a) (v ∙ ap (λ (y : AsRecord). one (y .waiting)) z);
     }
 
 -- the column after the turn: AS a's row is x where it is reached
-row-turn : {f : ℕ → ℕ} (t : Bool) (a : ℕ) (x : List Bool) (c₀ c c′ : List ℕ) → a < 16 → HalfCol f (col c₀) 256 (a * 16) c → c′ ≡ cond t (laid c a x) c
-    → ((q : ℕ) → q < 16 → cond t (one (at x q)) (col c₀ (a * 16 + q)) ≡ f (a * 16 + q)) → HalfCol f (col c₀) 256 ((a + 1) * 16) c′
-unfolding laid
-row-turn {f} true a x c₀ c c′ b h e g = rw e (record { long = length-tab 256 (laidAt c a x); new = λ i q. fresh i q (decLt i (a * 16)); old = stale })
+row-turn : {f : ℕ → ℕ} (t : Bool) (a : ℕ) (x : List Bool) (c₀ c c′ : List ℕ) → a < 16 → HalfCol f (numberAt c₀) 256 (a * 16) c → c′ ≡ cond t (withRow c a x) c
+    → ((q : ℕ) → q < 16 → cond t (one (flagAt x q)) (numberAt c₀ (a * 16 + q)) ≡ f (a * 16 + q)) → HalfCol f (numberAt c₀) 256 ((a + 1) * 16) c′
+unfolding withRow
+row-turn {f} true a x c₀ c c′ b h e g = rw e (record { long = length-tabulate 256 (withRowAt c a x); new = λ i q. fresh i q (decLt i (a * 16)); old = stale })
   where
-    fresh : (i : ℕ) → i < (a + 1) * 16 → Dec (i < a * 16) → col (tab 256 (laidAt c a x)) i ≡ f i
-    fresh i q (yes z) = getD-tab 256 (laidAt c a x) i 0 (omega arith) ∙ sym (laid-out c a x i (λ w. omega arith)) ∙ h .new i z
+    fresh : (i : ℕ) → i < (a + 1) * 16 → Dec (i < a * 16) → numberAt (tabulate 256 (withRowAt c a x)) i ≡ f i
+    fresh i q (yes z) = getD-tabulate 256 (withRowAt c a x) i 0 (omega arith) ∙ sym (laid-out c a x i (λ w. omega arith)) ∙ h .new i z
     fresh i q (no z) =
         let d : i ≡ a * 16 + i % 16 = omega arith in
-        getD-tab 256 (laidAt c a x) i 0 (omega arith) ∙ ap (laidAt c a x) d ∙ sym (laid-in c a x (i % 16) (omega arith)) ∙ g (i % 16) (omega arith) ∙ ap f (sym d)
+        getD-tabulate 256 (withRowAt c a x) i 0 (omega arith) ∙ ap (withRowAt c a x) d ∙ sym (laid-in c a x (i % 16) (omega arith)) ∙ g (i % 16) (omega arith) ∙ ap f (sym d)
 
-    stale : (i : ℕ) → (a + 1) * 16 ≤ i → i < 256 → col (tab 256 (laidAt c a x)) i ≡ col c₀ i
-    stale i q z = getD-tab 256 (laidAt c a x) i 0 z ∙ sym (laid-out c a x i (λ w. omega arith)) ∙ h .old i (omega arith) z
+    stale : (i : ℕ) → (a + 1) * 16 ≤ i → i < 256 → numberAt (tabulate 256 (withRowAt c a x)) i ≡ numberAt c₀ i
+    stale i q z = getD-tabulate 256 (withRowAt c a x) i 0 z ∙ sym (laid-out c a x i (λ w. omega arith)) ∙ h .old i (omega arith) z
 row-turn {f} false a x c₀ c c′ b h e g = rw e (record { long = h .long; new = λ i q. fresh i q (decLt i (a * 16)); old = λ i q z. h .old i (omega arith) z })
   where
-    fresh : (i : ℕ) → i < (a + 1) * 16 → Dec (i < a * 16) → col c i ≡ f i
+    fresh : (i : ℕ) → i < (a + 1) * 16 → Dec (i < a * 16) → numberAt c i ≡ f i
     fresh i q (yes z) = h .new i z
     fresh i q (no z) =
         let d : i ≡ a * 16 + i % 16 = omega arith in
-        h .old i (omega arith) (omega arith) ∙ ap (col c₀) d ∙ g (i % 16) (omega arith) ∙ ap f (sym d)
+        h .old i (omega arith) (omega arith) ∙ ap (numberAt c₀) d ∙ g (i % 16) (omega arith) ∙ ap f (sym d)
 
-wait-turn : {f : ℕ → ℕ} (t : Bool) (v a : ℕ) (c₀ c c′ : List ℕ) → a < 16 → HalfCol f (col c₀) 16 a c → c′ ≡ cond t (set c a v) c
-    → cond t v (col c₀ a) ≡ f a → HalfCol f (col c₀) 16 (a + 1) c′
+wait-turn : {f : ℕ → ℕ} (t : Bool) (v a : ℕ) (c₀ c c′ : List ℕ) → a < 16 → HalfCol f (numberAt c₀) 16 a c → c′ ≡ cond t (set c a v) c
+    → cond t v (numberAt c₀ a) ≡ f a → HalfCol f (numberAt c₀) 16 (a + 1) c′
 wait-turn true v a c₀ c c′ b h e g = rw e (half-more v h b g)
 wait-turn false v a c₀ c c′ b h e g = rw e (half-keep h b g)
 
@@ -69,25 +69,25 @@ module _ (k : Change) (named : List Bool) (up member : List ℕ) (mode : List �
   records = recordFrom up member active₀ waiting₀ mode
 
   -- the record that the turn finds is the one before the event
-  record-kept : (a : ℕ) (active waiting : List ℕ) {f g : ℕ → ℕ} → a < 16 → HalfCol f (col active₀) 256 (a * 16) active → HalfCol g (col waiting₀) 16 a waiting
+  record-kept : (a : ℕ) (active waiting : List ℕ) {f g : ℕ → ℕ} → a < 16 → HalfCol f (numberAt active₀) 256 (a * 16) active → HalfCol g (numberAt waiting₀) 16 a waiting
       → recordFrom up member active waiting mode a ≡ records a
   unfolding records recordFrom row
   record-kept a active waiting b h w =
       λ i. record {
         ups = membersUp up member a;
-        acts = tab-ext false 16 (λ q. on active (a * 16 + q)) (λ q. on active₀ (a * 16 + q)) (λ q z. ap (λ (x : ℕ). eqb x 1) (h .old (a * 16 + q) (omega arith) (omega arith))) i;
+        acts = tabulate-ext false 16 (λ q. isSet active (a * 16 + q)) (λ q. isSet active₀ (a * 16 + q)) (λ q z. ap (λ (x : ℕ). eqb x 1) (h .old (a * 16 + q) (omega arith) (omega arith))) i;
         waiting = eqb (w .old a (omega arith) b i) 1;
-        mode = col mode a;
+        mode = numberAt mode a;
       }
 
-  new-acts : (a q : ℕ) → q < 16 → cond (at named a) (one (at (after k (records a) .acts) q)) (col active₀ (a * 16 + q)) ≡ newActive k named records active₀ (a * 16 + q)
+  new-acts : (a q : ℕ) → q < 16 → cond (flagAt named a) (one (flagAt (after k (records a) .acts) q)) (numberAt active₀ (a * 16 + q)) ≡ newActive k named records active₀ (a * 16 + q)
   unfolding newActive
   new-acts a q b =
       let d : (a * 16 + q) / 16 ≡ a = omega arith in
       let m : (a * 16 + q) % 16 ≡ q = omega arith in
       rw (d, m)
 
-  new-waits : (a : ℕ) → cond (at named a) (one (after k (records a) .waiting)) (col waiting₀ a) ≡ newWaiting k named records waiting₀ a
+  new-waits : (a : ℕ) → cond (flagAt named a) (one (after k (records a) .waiting)) (numberAt waiting₀ a) ≡ newWaiting k named records waiting₀ a
   unfolding newWaiting
   new-waits a = refl
 
@@ -96,15 +96,15 @@ module _ (k : Change) (named : List Bool) (up member : List ℕ) (mode : List �
 
   pub run-turn : {ws : List ℕ} {n a : ℕ} {active waiting : List ℕ} {ws′ : List ℕ} {r : ℕ} {active′ waiting′ : List ℕ} {ws″ : List ℕ} {m : ℕ}
       → a < 16 → Running k named (recordFrom up member active₀ waiting₀ mode) active₀ waiting₀ ws n a active waiting ws′ r
-      → Stepped k (at named a) a (recordFrom up member active waiting mode a) active waiting ws′ r active′ waiting′ ws″ m
+      → Stepped k (flagAt named a) a (recordFrom up member active waiting mode a) active waiting ws′ r active′ waiting′ ws″ m
       → Running k named (recordFrom up member active₀ waiting₀ mode) active₀ waiting₀ ws n (a + 1) active′ waiting′ ws″ m
   unfolding records actionsAt
   run-turn {ws} {n} {a} {active} {waiting} {ws′} {r} {active′} {waiting′} {ws″} {m} b h s =
       let e = record-kept a active waiting b (h .acts) (h .waits) in
       record {
         wrote = emit-more (h .wrote) (rw e at (s .wrote));
-        acts = row-turn (at named a) a (after k (records a) .acts) active₀ active active′ b (h .acts) (rw e at (s .acts)) (new-acts a);
-        waits = wait-turn (at named a) (one (after k (records a) .waiting)) a waiting₀ waiting waiting′ b (h .waits) (rw e at (s .waits)) (new-waits a);
+        acts = row-turn (flagAt named a) a (after k (records a) .acts) active₀ active active′ b (h .acts) (rw e at (s .acts)) (new-acts a);
+        waits = wait-turn (flagAt named a) (one (after k (records a) .waiting)) a waiting₀ waiting waiting′ b (h .waits) (rw e at (s .waits)) (new-waits a);
       }
 
   pub run-end : {ws : List ℕ} {n a : ℕ} {active waiting : List ℕ} {ws′ : List ℕ} {r : ℕ} → 16 ≤ a → a ≤ 16

@@ -1,3 +1,3 @@
-pub mod Moved
+pub mod Changed
 pub mod Records
 pub mod Run

@@ -6,7 +6,7 @@ ghost use lib.ListN.{length};
 ghost use Rattle.server.specs.Record.{recordFrom};
 ghost use Rattle.server.specs.Change.{fits};
 ghost use Rattle.server.specs.Flag.{flagOf};
-ghost use Rattle.servers.specs.Moved.{flagAt, upAfter, columnOf};
+ghost use Rattle.servers.specs.Changed.{withFlag, upAfter, columnOf};
 ghost use Rattle.servers.specs.Run.{Stepped, Ran};
 
 // The ASes of ASP p, or those in which it is active.
@@ -24,7 +24,7 @@ pub fn column_of(column: &[u8; 256], p: usize) -> [bool; 16]
 // The column gets x at place p.
 fn put_flag(column: &mut [u8; 16], p: usize, x: u8)
     requires { ⌜ length (now column) ≡ 16 ⌝ }
-    ensures { λ _. ⌜ now (column .exit) ≡ flagAt (now (column .entry)) p x ⌝ }
+    ensures { λ _. ⌜ now (column .exit) ≡ withFlag (now (column .entry)) p x ⌝ }
 {
     if p < 16 {
         column[p] = x;
@@ -37,10 +37,10 @@ pub fn mark(up: &mut [u8; 16], k: server::Change)
     ensures { λ _. ⌜ now (up .exit) ≡ upAfter k (now (up .entry)) ⌝ }
 {
     match k {
-        server::Change::Rise(p) => put_flag(up, p, 1),
-        server::Change::Fall(p) => put_flag(up, p, 0),
-        server::Change::Off(_) => {}
-        server::Change::On(_) => {}
+        server::Change::AspUp(p) => put_flag(up, p, 1),
+        server::Change::AspDown(p) => put_flag(up, p, 0),
+        server::Change::Deactivate(_) => {}
+        server::Change::Activate(_) => {}
         server::Change::Recover => {}
     }
 }

@@ -8,10 +8,10 @@ use Prim.Native.Nat.{ℕ, _<_}
 use lib.Dec.{eqb}
 use borrow.Author.Tests.{eqb-true}
 use lib.ListN.{length, replicate, getD-replicate}
-use Rattle.laws.specs.Tab.{at, tab, tab-ext, getD-tab, is-tab, length-tab}
+use Rattle.laws.specs.Columns.{flagAt, tabulate, tabulate-ext, getD-tabulate, is-tabulate, length-tabulate}
 use Rattle.wire.specs.Walk.{Par}
 use Rattle.gateway.specs.declared.Gateway.{Gateway}
-use Rattle.ranges.specs.Named.{isRefused, isOf, nothing, refusedIn, someOf}
+use Rattle.ranges.specs.Named.{isRefused, isOwnedBy, nothing, refusedIn, someOf}
 use Rattle.ranges.specs.declared.Refused.{Refused}
 use Rattle.rules.specs.Identifiers.{isIds, firstRefused, ownsNamed, ownersNamed}
 
@@ -26,8 +26,8 @@ ownsPar good t v = cond (eqb t 0x1) (someOf good false v) (cond (eqb t 0x8) (som
 -- the flags set, with those of a parameter
 unfoldable pub withPar : List Bool → (ℕ → ℕ → Bool) → ℕ → List ℕ → List Bool
 withPar set good t v =
-    cond (eqb t 0x1) (tab 16 (λ a. at set a || someOf (good a) false v))
-    (cond (eqb t 0x8) (tab 16 (λ a. at set a || someOf (good a) true v)) set)
+    cond (eqb t 0x1) (tabulate 16 (λ a. flagAt set a || someOf (good a) false v))
+    (cond (eqb t 0x8) (tabulate 16 (λ a. flagAt set a || someOf (good a) true v)) set)
 
 -- the same of all parameters
 unfoldable pub refusedPars : (ℕ → Bool) → List Par → Refused
@@ -39,7 +39,7 @@ ownsPars good [] = false
 ownsPars good (x ∷ ps) = ownsPar good (x .tag) (x .body) || ownsPars good ps
 
 unfoldable pub ownersPars : (ℕ → ℕ → Bool) → List Par → List Bool
-ownersPars good ps = tab 16 (λ a. ownsPars (good a) ps)
+ownersPars good ps = tabulate 16 (λ a. ownsPars (good a) ps)
 
 -- ---- they are the rules'
 
@@ -78,14 +78,14 @@ module _ (g : Gateway) where
   refused-is p (x ∷ ps) =
       rw (refused-is p ps) (refused-par (isRefused (g .iid) (g .owner) (g .member) (g .links) p) (x .tag) (x .body) (refusedPars (isRefused (g .iid) (g .owner) (g .member) (g .links) p) ps))
 
-  owns-is : (a : ℕ) (ps : List Par) → ownsNamed g ps a ≡ ownsPars (isOf (g .iid) (g .owner) (g .links) a) ps
+  owns-is : (a : ℕ) (ps : List Par) → ownsNamed g ps a ≡ ownsPars (isOwnedBy (g .iid) (g .owner) (g .links) a) ps
   unfolding ownsNamed ownsPars
   owns-is a [] = refl
-  owns-is a (x ∷ ps) = rw (owns-is a ps, owns-par (isOf (g .iid) (g .owner) (g .links) a) (x .tag) (x .body))
+  owns-is a (x ∷ ps) = rw (owns-is a ps, owns-par (isOwnedBy (g .iid) (g .owner) (g .links) a) (x .tag) (x .body))
 
-  pub owners-is : (ps : List Par) → ownersNamed g ps ≡ ownersPars (isOf (g .iid) (g .owner) (g .links)) ps
+  pub owners-is : (ps : List Par) → ownersNamed g ps ≡ ownersPars (isOwnedBy (g .iid) (g .owner) (g .links)) ps
   unfolding ownersNamed ownersPars
-  owners-is ps = tab-ext false 16 (ownsNamed g ps) (λ a. ownsPars (isOf (g .iid) (g .owner) (g .links) a) ps) (λ a b. owns-is a ps)
+  owners-is ps = tabulate-ext false 16 (ownsNamed g ps) (λ a. ownsPars (isOwnedBy (g .iid) (g .owner) (g .links) a) ps) (λ a b. owns-is a ps)
 
 -- ---- the walk: parameters in received order
 
@@ -102,7 +102,7 @@ module _ (bad : ℕ → Bool) (x : Par) (ps : List Par) (r : Refused) (e : r ≡
 -- The owners of the parameters passed are set, and with those of the rest they are those of the whole.
 pub record Owners (good : ℕ → ℕ → Bool) (ps all : List Par) (set : List Bool) : Type 0 where
   pub long : length set ≡ 16
-  pub rest : (a : ℕ) → a < 16 → (at set a || ownsPars (good a) ps) ≡ ownsPars (good a) all
+  pub rest : (a : ℕ) → a < 16 → (flagAt set a || ownsPars (good a) ps) ≡ ownsPars (good a) all
 
 pub owners-none : (good : ℕ → ℕ → Bool) (all : List Par) → Owners good all all (replicate 16 false)
 owners-none good all = record { long = refl; rest = λ a b. rw (getD-replicate 16 a false false b) }
@@ -111,27 +111,27 @@ or-none : (u : Bool) → u ≡ (u || false)
 or-none true = refl
 or-none false = refl
 
-at-with : (set : List Bool) (good : ℕ → ℕ → Bool) (t : ℕ) (v : List ℕ) (a : ℕ) → a < 16 → at (withPar set good t v) a ≡ (at set a || ownsPar (good a) t v)
+at-with : (set : List Bool) (good : ℕ → ℕ → Bool) (t : ℕ) (v : List ℕ) (a : ℕ) → a < 16 → flagAt (withPar set good t v) a ≡ (flagAt set a || ownsPar (good a) t v)
 unfolding withPar ownsPar
 at-with set good t v a b = go (eqb t 0x1) (eqb t 0x8)
   where
-    one : (w : Bool) → at (tab 16 (λ a. at set a || someOf (good a) w v)) a ≡ (at set a || someOf (good a) w v)
-    one w = getD-tab 16 (λ a. at set a || someOf (good a) w v) a false b
+    one : (w : Bool) → flagAt (tabulate 16 (λ a. flagAt set a || someOf (good a) w v)) a ≡ (flagAt set a || someOf (good a) w v)
+    one w = getD-tabulate 16 (λ a. flagAt set a || someOf (good a) w v) a false b
 
     go : (u w : Bool)
-        → at (cond u (tab 16 (λ a. at set a || someOf (good a) false v)) (cond w (tab 16 (λ a. at set a || someOf (good a) true v)) set)) a
-        ≡ (at set a || cond u (someOf (good a) false v) (cond w (someOf (good a) true v) false))
+        → flagAt (cond u (tabulate 16 (λ a. flagAt set a || someOf (good a) false v)) (cond w (tabulate 16 (λ a. flagAt set a || someOf (good a) true v)) set)) a
+        ≡ (flagAt set a || cond u (someOf (good a) false v) (cond w (someOf (good a) true v) false))
     go true w = one false
     go false true = one true
-    go false false = or-none (at set a)
+    go false false = or-none (flagAt set a)
 
 with-long : (set : List Bool) (good : ℕ → ℕ → Bool) (t : ℕ) (v : List ℕ) → length set ≡ 16 → length (withPar set good t v) ≡ 16
 unfolding withPar
 with-long set good t v e = go (eqb t 0x1) (eqb t 0x8)
   where
-    go : (u w : Bool) → length (cond u (tab 16 (λ a. at set a || someOf (good a) false v)) (cond w (tab 16 (λ a. at set a || someOf (good a) true v)) set)) ≡ 16
-    go true w = length-tab 16 _
-    go false true = length-tab 16 _
+    go : (u w : Bool) → length (cond u (tabulate 16 (λ a. flagAt set a || someOf (good a) false v)) (cond w (tabulate 16 (λ a. flagAt set a || someOf (good a) true v)) set)) ≡ 16
+    go true w = length-tabulate 16 _
+    go false true = length-tabulate 16 _
     go false false = e
 
 or-assoc : (u v w : Bool) → ((u || v) || w) ≡ (u || (v || w))
@@ -143,9 +143,9 @@ unfolding ownsPars
 owners-more good x ps all set next h e =
     record {
       long = ap length e ∙ with-long set good (x .tag) (x .body) (h .long);
-      rest = λ a b. rw (e, at-with set good (x .tag) (x .body) a b) (or-assoc (at set a) (ownsPar (good a) (x .tag) (x .body)) (ownsPars (good a) ps) ∙ h .rest a b);
+      rest = λ a b. rw (e, at-with set good (x .tag) (x .body) a b) (or-assoc (flagAt set a) (ownsPar (good a) (x .tag) (x .body)) (ownsPars (good a) ps) ∙ h .rest a b);
     }
 
 pub owners-end : (good : ℕ → ℕ → Bool) (all : List Par) (set : List Bool) → Owners good [] all set → set ≡ ownersPars good all
 unfolding ownersPars ownsPars
-owners-end good all set h = is-tab false set 16 (λ a. ownsPars (good a) all) (h .long) (λ a b. or-none (at set a) ∙ h .rest a b)
+owners-end good all set h = is-tabulate false set 16 (λ a. ownsPars (good a) all) (h .long) (λ a b. or-none (flagAt set a) ∙ h .rest a b)

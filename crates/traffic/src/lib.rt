@@ -1,7 +1,7 @@
 // What Active and Inactive do.
 use message::Reading;
 use naming::Named;
-use rules::Work;
+use rules::Decision;
 use server::Change;
 use wire::Step;
 ghost use mathlib.Core.Path.{_≡_};
@@ -10,16 +10,16 @@ ghost use mathlib.Core.List.{[], _∷_};
 ghost use Prim.Native.Nat.{_<_};
 ghost use lib.Dec.{eqb};
 ghost use Rattle.laws.specs.Below.{anyBelow};
-ghost use Rattle.laws.specs.Tab.{at, col};
+ghost use Rattle.laws.specs.Columns.{flagAt, numberAt};
 ghost use Rattle.wire.specs.Walk.{walk};
 ghost use Rattle.action.specs.Words.{action};
 ghost use Rattle.ranges.specs.Laws.{Table};
-ghost use Rattle.ranges.specs.Named.{isRefused, isOf};
+ghost use Rattle.ranges.specs.Named.{isRefused, isOwnedBy};
 ghost use Rattle.naming.specs.Names.{Names};
-ghost use Rattle.servers.specs.Moved.{columnOf};
-ghost use Rattle.server.specs.declared.Change.the-variants.{On};
-ghost use Rattle.rules.specs.Deed.{say, change};
-ghost use Rattle.rules.specs.Asp.{activeDeed, inactiveDeed, trafficDeed};
+ghost use Rattle.servers.specs.Changed.{columnOf};
+ghost use Rattle.server.specs.declared.Change.the-variants.{Activate};
+ghost use Rattle.rules.specs.Effect.{send, changeIn};
+ghost use Rattle.rules.specs.Asp.{activeEffect, inactiveEffect, trafficEffect};
 ghost use Rattle.work.specs.Decides.{Decides, DecidesOn, act};
 ghost use Rattle.traffic.specs.Aims.{TrafficColumns, otherModeIn, Aims};
 ghost use Rattle.traffic.specs.Named.{refusedPar, withPar, refusedPars, ownersPars};
@@ -38,7 +38,7 @@ fn named_par<'a>(
     p: usize,
 ) -> Named
     requires { ⌜ Table (now iid) (now owner) links × (p < 16) ⌝ }
-    ensures { λ r. ⌜ Names r (refusedPar (isRefused (now (iid .entry)) (now (owner .entry)) (now (member .entry)) links p) t (now (v .entry))) (withPar set (isOf (now (iid .entry)) (now (owner .entry)) links) t (now (v .entry))) ⌝ }
+    ensures { λ r. ⌜ Names r (refusedPar (isRefused (now (iid .entry)) (now (owner .entry)) (now (member .entry)) links p) t (now (v .entry))) (withPar set (isOwnedBy (now (iid .entry)) (now (owner .entry)) links) t (now (v .entry))) ⌝ }
 {
     if t == 1 {
         return naming::of_ids(set, v, iid, owner, member, links, p);
@@ -59,7 +59,7 @@ fn named_of<'a>(
     p: usize,
 ) -> Named
     requires { ⌜ Table (now iid) (now owner) links × (p < 16) ⌝ }
-    ensures { λ r. ⌜ Names r (refusedPars (isRefused (now (iid .entry)) (now (owner .entry)) (now (member .entry)) links p) (walk (now (s .entry)) 8 .pars)) (ownersPars (isOf (now (iid .entry)) (now (owner .entry)) links) (walk (now (s .entry)) 8 .pars)) ⌝ }
+    ensures { λ r. ⌜ Names r (refusedPars (isRefused (now (iid .entry)) (now (owner .entry)) (now (member .entry)) links p) (walk (now (s .entry)) 8 .pars)) (ownersPars (isOwnedBy (now (iid .entry)) (now (owner .entry)) links) (walk (now (s .entry)) 8 .pars)) ⌝ }
 {
     let mut set = [false; 16];
     let mut at: usize = 8;
@@ -85,7 +85,7 @@ fn named_of<'a>(
 
 // Whether the mode of some AS named is not m.
 fn some_other(mode: &[u8; 16], m: usize, named: [bool; 16]) -> bool
-    ensures { λ r. ⌜ r ≡ anyBelow (λ a. at named a && not (eqb (col (now (mode .entry)) a) m)) 16 ⌝ }
+    ensures { λ r. ⌜ r ≡ anyBelow (λ a. flagAt named a && not (eqb (numberAt (now (mode .entry)) a) m)) 16 ⌝ }
 {
     let mut found = false;
     for a in 0..16usize {
@@ -102,32 +102,32 @@ fn other_mode(mode: &[u8; 16], m: u32, named: [bool; 16]) -> bool
 }
 
 // Active (Rule 7.9): whether the mode is another is given.
-fn active_at(p: usize, other: bool, named: [bool; 16]) -> Work
+fn active_at(p: usize, other: bool, named: [bool; 16]) -> Decision
     requires { ⌜ p < 16 ⌝ }
-    ensures { λ w. ⌜ Decides w (cond other (say (action p 0 0 5 ∷ [])) (change (action p 1027 0 0 ∷ []) (On p) named)) ⌝ }
+    ensures { λ w. ⌜ Decides w (cond other (send (action p 0 0 5 ∷ [])) (changeIn (action p 1027 0 0 ∷ []) (Activate p) named)) ⌝ }
 {
     if other {
         return work::error(p, 5);
     }
-    work::change_one(work::to_asp(p, 1027, 0, 0), Change::On(p), named)
+    work::change_one(work::to_asp(p, 1027, 0, 0), Change::Activate(p), named)
 }
 
-fn active_work(mode: &[u8; 16], p: usize, m: u32, named: [bool; 16]) -> Work
+fn active_work(mode: &[u8; 16], p: usize, m: u32, named: [bool; 16]) -> Decision
     requires { ⌜ p < 16 ⌝ }
-    ensures { λ w. ⌜ DecidesOn (λ g. g .mode ≡ now (mode .entry)) (λ g. activeDeed g p m named) w ⌝ }
+    ensures { λ w. ⌜ DecidesOn (λ g. g .mode ≡ now (mode .entry)) (λ g. activeEffect g p m named) w ⌝ }
 {
     active_at(p, other_mode(mode, m, named), named)
 }
 
-fn inactive_work(p: usize, named: [bool; 16]) -> Work
+fn inactive_work(p: usize, named: [bool; 16]) -> Decision
     requires { ⌜ p < 16 ⌝ }
-    ensures { λ w. ⌜ Decides w (inactiveDeed p named) ⌝ }
+    ensures { λ w. ⌜ Decides w (inactiveEffect p named) ⌝ }
 {
-    work::change_one(work::to_asp(p, 1028, 0, 0), Change::Off(p), named)
+    work::change_one(work::to_asp(p, 1028, 0, 0), Change::Deactivate(p), named)
 }
 
 // Active where on holds, else Inactive, in the ASes named.
-fn act_in(on: bool, mode: &[u8; 16], p: usize, m: u32, named: [bool; 16]) -> Work
+fn act_in(on: bool, mode: &[u8; 16], p: usize, m: u32, named: [bool; 16]) -> Decision
     requires { ⌜ p < 16 ⌝ }
     ensures { λ w. ⌜ DecidesOn (λ g. g .mode ≡ now (mode .entry)) (λ g. act g p on m named) w ⌝ }
 {
@@ -148,7 +148,7 @@ fn aim<'a>(
     p: usize,
 ) -> Named
     requires { ⌜ Table (now iid) (now owner) links × (p < 16) ⌝ }
-    ensures { λ r. ⌜ Aims r ids (refusedPars (isRefused (now (iid .entry)) (now (owner .entry)) (now (member .entry)) links p) (walk (now (s .entry)) 8 .pars)) (ownersPars (isOf (now (iid .entry)) (now (owner .entry)) links) (walk (now (s .entry)) 8 .pars)) (columnOf (now (member .entry)) p) ⌝ }
+    ensures { λ r. ⌜ Aims r ids (refusedPars (isRefused (now (iid .entry)) (now (owner .entry)) (now (member .entry)) links p) (walk (now (s .entry)) 8 .pars)) (ownersPars (isOwnedBy (now (iid .entry)) (now (owner .entry)) links) (walk (now (s .entry)) 8 .pars)) (columnOf (now (member .entry)) p) ⌝ }
 {
     if ids {
         return named_of(s, links, member, iid, owner, p);
@@ -168,9 +168,9 @@ pub fn traffic_work<'a>(
     owner: &'a [u8; 128],
     p: usize,
     r: Reading,
-) -> Work
+) -> Decision
     requires { ⌜ Table (now iid) (now owner) links × (p < 16) ⌝ }
-    ensures { λ w. ⌜ DecidesOn (TrafficColumns links (now (up .entry)) (now (member .entry)) (now (mode .entry)) (now (iid .entry)) (now (owner .entry))) (λ g. trafficDeed g p r (walk (now (s .entry)) 8 .pars) (act g p on (r .mode))) w ⌝ }
+    ensures { λ w. ⌜ DecidesOn (TrafficColumns links (now (up .entry)) (now (member .entry)) (now (mode .entry)) (now (iid .entry)) (now (owner .entry))) (λ g. trafficEffect g p r (walk (now (s .entry)) 8 .pars) (act g p on (r .mode))) w ⌝ }
 {
     if up[p] != 1 {
         return work::error(p, 6);

@@ -1,4 +1,4 @@
--- What every decision promises of the struct `Work` that it hands back, and how a choice by a test is followed.
+-- What every decision promises of the struct `Decision` that it hands back, and how a choice by a test is followed.
 -- Assumes nothing.
 use mathlib.Core.Path.{_≡_, refl, sym}
 use mathlib.Core.Bool.{Bool, true, false, cond, not, _&&_, _||_}
@@ -8,50 +8,50 @@ use lib.Dec.{ltb, eqb}
 use borrow.Author.Tests.{eq-eqb, ne-eqb, lt-ltb, le-ltb}
 use Rattle.gateway.specs.declared.Gateway.{Gateway}
 use Rattle.server.specs.declared.Change.{Change}
-use Rattle.server.specs.declared.Change.the-variants.{Rise, Fall, Off, On, Recover}
+use Rattle.server.specs.declared.Change.the-variants.{AspUp, AspDown, Deactivate, Activate, Recover}
 use Rattle.server.specs.Change.{fits}
-use Rattle.rules.specs.declared.Work.{Work}
-use Rattle.rules.specs.Deed.{Deed}
-use Rattle.rules.specs.Asp.{activeDeed, inactiveDeed}
-use Rattle.rules.specs.Work.{deedIn}
+use Rattle.rules.specs.declared.Decision.{Decision}
+use Rattle.rules.specs.Effect.{Effect}
+use Rattle.rules.specs.Asp.{activeEffect, inactiveEffect}
+use Rattle.rules.specs.Decision.{effectIn}
 
 -- the ASP of a change; 0 where it has none
 abbrev pub aspOf : Change → ℕ
-aspOf (Rise p) = p
-aspOf (Fall p) = p
-aspOf (Off p) = p
-aspOf (On p) = p
+aspOf (AspUp p) = p
+aspOf (AspDown p) = p
+aspOf (Deactivate p) = p
+aspOf (Activate p) = p
 aspOf Recover = 0
 
--- the work is the deed d; what is performed stays within the tables
-pub record Decides (w : Work) (d : Deed) : Type 0 where
-  pub is : deedIn w ≡ d
+-- the work is the effect d; what is performed stays within the tables
+pub record Decides (w : Decision) (d : Effect) : Type 0 where
+  pub is : effectIn w ≡ d
   pub few : w .count ≤ 2
   pub asp : aspOf (w .change) < 16
   pub place : w .link < 128
 
--- the work is the deed d of every state for which P holds; P says which columns of it were lent
-pub record DecidesOn (P : Gateway → Type 0) (d : Gateway → Deed) (w : Work) : Type 0 where
+-- the work is the effect d of every state for which P holds; P says which columns of it were lent
+pub record DecidesOn (P : Gateway → Type 0) (d : Gateway → Effect) (w : Decision) : Type 0 where
   pub on : (g : Gateway) → P g → Decides w (d g)
 
 -- Active where on holds, else Inactive, in the ASes named
-unfoldable pub act : Gateway → ℕ → Bool → ℕ → List Bool → Deed
-act g p on mode = λ named. cond on (activeDeed g p mode named) (inactiveDeed p named)
+unfoldable pub act : Gateway → ℕ → Bool → ℕ → List Bool → Effect
+act g p on mode = λ named. cond on (activeEffect g p mode named) (inactiveEffect p named)
 
 pub fits-asp : (k : Change) → aspOf k < 16 → fits k ≡ true
-fits-asp (Rise p) h = refl
-fits-asp (Fall p) h = refl
-fits-asp (Off p) h = refl
-fits-asp (On p) h = lt-ltb p 16 h
+fits-asp (AspUp p) h = refl
+fits-asp (AspDown p) h = refl
+fits-asp (Deactivate p) h = refl
+fits-asp (Activate p) h = lt-ltb p 16 h
 fits-asp Recover h = refl
 
--- the same deed, otherwise written
-pub decided : {w : Work} {d e : Deed} → Decides w d → d ≡ e → Decides w e
+-- the same effect, otherwise written
+pub decided : {w : Decision} {d e : Effect} → Decides w d → d ≡ e → Decides w e
 decided h e = rw e at h
 
 -- ---- a work decides a choice by deciding the arm taken
 
-module _ {w : Work} (x y : Deed) where
+module _ {w : Decision} (x y : Effect) where
   pub by-yes : (b : Bool) → b ≡ true → Decides w x → Decides w (cond b x y)
   by-yes b e q = rw e q
 

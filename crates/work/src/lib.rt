@@ -1,45 +1,45 @@
-// Makes the struct `Work`, one function for each shape of deed.
+// Makes the struct `Decision`, one function for each shape of effect.
 use action::Action;
-use rules::Work;
+use rules::Decision;
 use server::Change;
 ghost use mathlib.Core.Path.{_≡_};
 ghost use mathlib.Core.List.{[], _∷_};
 ghost use Prim.Native.Nat.{_<_};
 ghost use Rattle.action.specs.Words.{action, linkSide, toAll};
-ghost use Rattle.rules.specs.Deed.{say, turn, change};
+ghost use Rattle.rules.specs.Effect.{send, setLink, changeIn};
 ghost use Rattle.work.specs.Decides.{Decides, aspOf};
 
 // An action to ASP p.
-pub fn to_asp(p: usize, kind: u32, subject: u32, value: u32) -> Action
+pub fn to_asp(p: usize, classtype: u32, subject: u32, value: u32) -> Action
     requires { ⌜ p < 16 ⌝ }
-    ensures { λ r. ⌜ r ≡ action p kind subject value ⌝ }
+    ensures { λ r. ⌜ r ≡ action p classtype subject value ⌝ }
 {
     Action {
         to: p as u32,
-        kind,
+        classtype,
         subject,
         value,
     }
 }
 
 // An action to the link side.
-pub fn to_link(kind: u32, subject: u32, value: u32) -> Action
-    ensures { λ r. ⌜ r ≡ action linkSide kind subject value ⌝ }
+pub fn to_link(classtype: u32, subject: u32, value: u32) -> Action
+    ensures { λ r. ⌜ r ≡ action linkSide classtype subject value ⌝ }
 {
     Action {
         to: 255,
-        kind,
+        classtype,
         subject,
         value,
     }
 }
 
 // No action and no change.
-pub fn nothing() -> Work
-    ensures { λ r. ⌜ Decides r (say []) ⌝ }
+pub fn nothing() -> Decision
+    ensures { λ r. ⌜ Decides r (send []) ⌝ }
 {
     let none = to_link(0, 0, 0);
-    Work {
+    Decision {
         what: 0,
         count: 0,
         first: none,
@@ -52,10 +52,10 @@ pub fn nothing() -> Work
 }
 
 // One action.
-pub fn say_one(a: Action) -> Work
-    ensures { λ r. ⌜ Decides r (say (a ∷ [])) ⌝ }
+pub fn say_one(a: Action) -> Decision
+    ensures { λ r. ⌜ Decides r (send (a ∷ [])) ⌝ }
 {
-    Work {
+    Decision {
         what: 0,
         count: 1,
         first: a,
@@ -68,10 +68,10 @@ pub fn say_one(a: Action) -> Work
 }
 
 // Two actions.
-pub fn say_two(a: Action, b: Action) -> Work
-    ensures { λ r. ⌜ Decides r (say (a ∷ b ∷ [])) ⌝ }
+pub fn say_two(a: Action, b: Action) -> Decision
+    ensures { λ r. ⌜ Decides r (send (a ∷ b ∷ [])) ⌝ }
 {
-    Work {
+    Decision {
         what: 0,
         count: 2,
         first: a,
@@ -84,41 +84,41 @@ pub fn say_two(a: Action, b: Action) -> Work
 }
 
 // An action to ASP p.
-pub fn reply(p: usize, kind: u32, subject: u32, value: u32) -> Work
+pub fn reply(p: usize, classtype: u32, subject: u32, value: u32) -> Decision
     requires { ⌜ p < 16 ⌝ }
-    ensures { λ r. ⌜ Decides r (say (action p kind subject value ∷ [])) ⌝ }
+    ensures { λ r. ⌜ Decides r (send (action p classtype subject value ∷ [])) ⌝ }
 {
-    say_one(to_asp(p, kind, subject, value))
+    say_one(to_asp(p, classtype, subject, value))
 }
 
 // An Error: its value is the code; only one of code 2 has a subject (Rule 8.4).
-pub fn error(p: usize, code: u32) -> Work
+pub fn error(p: usize, code: u32) -> Decision
     requires { ⌜ p < 16 ⌝ }
-    ensures { λ r. ⌜ Decides r (say (action p 0 0 code ∷ [])) ⌝ }
+    ensures { λ r. ⌜ Decides r (send (action p 0 0 code ∷ [])) ⌝ }
 {
     reply(p, 0, 0, code)
 }
 
-pub fn error_two(p: usize, id: u32) -> Work
+pub fn error_two(p: usize, id: u32) -> Decision
     requires { ⌜ p < 16 ⌝ }
-    ensures { λ r. ⌜ Decides r (say (action p 0 id 2 ∷ [])) ⌝ }
+    ensures { λ r. ⌜ Decides r (send (action p 0 id 2 ∷ [])) ⌝ }
 {
     reply(p, 0, id, 2)
 }
 
 // An order to the link side.
-pub fn order(kind: u32, subject: u32, value: u32) -> Work
-    ensures { λ r. ⌜ Decides r (say (action linkSide kind subject value ∷ [])) ⌝ }
+pub fn order(classtype: u32, subject: u32, value: u32) -> Decision
+    ensures { λ r. ⌜ Decides r (send (action linkSide classtype subject value ∷ [])) ⌝ }
 {
-    say_one(to_link(kind, subject, value))
+    say_one(to_link(classtype, subject, value))
 }
 
 // The link at an index comes to a state, with an action.
-fn turn_one(l: usize, v: u8, a: Action) -> Work
+fn turn_one(l: usize, v: u8, a: Action) -> Decision
     requires { ⌜ l < 128 ⌝ }
-    ensures { λ r. ⌜ Decides r (turn l v (a ∷ [])) ⌝ }
+    ensures { λ r. ⌜ Decides r (setLink l v (a ∷ [])) ⌝ }
 {
-    Work {
+    Decision {
         what: 1,
         count: 1,
         first: a,
@@ -131,19 +131,19 @@ fn turn_one(l: usize, v: u8, a: Action) -> Work
 }
 
 // The link at an index comes to a state, with an order to the link side.
-pub fn turn_order(l: usize, v: u8, kind: u32, subject: u32) -> Work
+pub fn turn_and_send(l: usize, v: u8, classtype: u32, subject: u32) -> Decision
     requires { ⌜ l < 128 ⌝ }
-    ensures { λ r. ⌜ Decides r (turn l v (action linkSide kind subject 0 ∷ [])) ⌝ }
+    ensures { λ r. ⌜ Decides r (setLink l v (action linkSide classtype subject 0 ∷ [])) ⌝ }
 {
-    turn_one(l, v, to_link(kind, subject, 0))
+    turn_one(l, v, to_link(classtype, subject, 0))
 }
 
 // An action to each ASP of `who`.
-pub fn spread(who: [bool; 16], kind: u32, subject: u32) -> Work
-    ensures { λ r. ⌜ Decides r (say (toAll who kind subject 0)) ⌝ }
+pub fn spread(who: [bool; 16], classtype: u32, subject: u32) -> Decision
+    ensures { λ r. ⌜ Decides r (send (toAll who classtype subject 0)) ⌝ }
 {
-    let a = to_link(kind, subject, 0);
-    Work {
+    let a = to_link(classtype, subject, 0);
+    Decision {
         what: 3,
         count: 0,
         first: a,
@@ -156,12 +156,12 @@ pub fn spread(who: [bool; 16], kind: u32, subject: u32) -> Work
 }
 
 // The link at an index comes to a state, with an action to each ASP of `who`.
-pub fn turn_spread(l: usize, v: u8, who: [bool; 16], kind: u32, subject: u32) -> Work
+pub fn turn_spread(l: usize, v: u8, who: [bool; 16], classtype: u32, subject: u32) -> Decision
     requires { ⌜ l < 128 ⌝ }
-    ensures { λ r. ⌜ Decides r (turn l v (toAll who kind subject 0)) ⌝ }
+    ensures { λ r. ⌜ Decides r (setLink l v (toAll who classtype subject 0)) ⌝ }
 {
-    let a = to_link(kind, subject, 0);
-    Work {
+    let a = to_link(classtype, subject, 0);
+    Decision {
         what: 4,
         count: 0,
         first: a,
@@ -174,12 +174,12 @@ pub fn turn_spread(l: usize, v: u8, who: [bool; 16], kind: u32, subject: u32) ->
 }
 
 // A change in the ASes of `who`, without a reply.
-pub fn change_only(k: Change, who: [bool; 16]) -> Work
+pub fn change_only(k: Change, who: [bool; 16]) -> Decision
     requires { ⌜ aspOf k < 16 ⌝ }
-    ensures { λ r. ⌜ Decides r (change [] k who) ⌝ }
+    ensures { λ r. ⌜ Decides r (changeIn [] k who) ⌝ }
 {
     let none = to_link(0, 0, 0);
-    Work {
+    Decision {
         what: 2,
         count: 0,
         first: none,
@@ -192,11 +192,11 @@ pub fn change_only(k: Change, who: [bool; 16]) -> Work
 }
 
 // A change after one reply.
-pub fn change_one(a: Action, k: Change, who: [bool; 16]) -> Work
+pub fn change_one(a: Action, k: Change, who: [bool; 16]) -> Decision
     requires { ⌜ aspOf k < 16 ⌝ }
-    ensures { λ r. ⌜ Decides r (change (a ∷ []) k who) ⌝ }
+    ensures { λ r. ⌜ Decides r (changeIn (a ∷ []) k who) ⌝ }
 {
-    Work {
+    Decision {
         what: 2,
         count: 1,
         first: a,
@@ -209,11 +209,11 @@ pub fn change_one(a: Action, k: Change, who: [bool; 16]) -> Work
 }
 
 // A change after two replies.
-pub fn change_two(a: Action, b: Action, k: Change, who: [bool; 16]) -> Work
+pub fn change_two(a: Action, b: Action, k: Change, who: [bool; 16]) -> Decision
     requires { ⌜ aspOf k < 16 ⌝ }
-    ensures { λ r. ⌜ Decides r (change (a ∷ b ∷ []) k who) ⌝ }
+    ensures { λ r. ⌜ Decides r (changeIn (a ∷ b ∷ []) k who) ⌝ }
 {
-    Work {
+    Decision {
         what: 2,
         count: 2,
         first: a,

@@ -187,7 +187,7 @@ fn first_lens(s: &[u32], n: usize) -> &[u32] {
 // The message of a list, written into as many bytes of a buffer as are lent.
 fn write_in(
     class: u8,
-    kind: u8,
+    msgtype: u8,
     tags: &[u16],
     lens: &[u32],
     values: &[u8],
@@ -195,9 +195,9 @@ fn write_in(
     room: usize,
 ) -> Written {
     if room < message.len() {
-        return encode::write(class, kind, tags, lens, values, &mut message[..room]);
+        return encode::write(class, msgtype, tags, lens, values, &mut message[..room]);
     }
-    encode::write(class, kind, tags, lens, values, message)
+    encode::write(class, msgtype, tags, lens, values, message)
 }
 
 // No more bytes than are lent.
@@ -223,7 +223,7 @@ pub fn put_written(w: Written, message: &[u8], out: &mut [u8; 65536], at: usize)
 // The answer to a list that is read.
 fn put_answer(
     class: u8,
-    kind: u8,
+    msgtype: u8,
     tags: &[u16],
     lens: &[u32],
     values: &[u8],
@@ -235,13 +235,23 @@ fn put_answer(
     ensures { λ r. ⌜ r ≤ at + 17000 ⌝ }
 {
     let mut message = [0u8; 8192];
-    put_lent(class, kind, tags, lens, values, &mut message, room, out, at)
+    put_lent(
+        class,
+        msgtype,
+        tags,
+        lens,
+        values,
+        &mut message,
+        room,
+        out,
+        at,
+    )
 }
 
 // The same with the buffer lent.
 fn put_lent(
     class: u8,
-    kind: u8,
+    msgtype: u8,
     tags: &[u16],
     lens: &[u32],
     values: &[u8],
@@ -253,7 +263,7 @@ fn put_lent(
     requires { ⌜ at + 17000 ≤ 65536 ⌝ }
     ensures { λ r. ⌜ r ≤ at + 17000 ⌝ }
 {
-    let w = write_in(class, kind, tags, lens, values, message, room);
+    let w = write_in(class, msgtype, tags, lens, values, message, room);
     put_written(w, message, out, at)
 }
 
@@ -268,7 +278,7 @@ fn bad(out: &mut [u8; 65536], at: usize) -> usize
 // The answer to a list of items in lent arrays.
 fn write_items(
     class: u8,
-    kind: u8,
+    msgtype: u8,
     room: usize,
     l: Items,
     tags: &[u16; 512],
@@ -282,7 +292,7 @@ fn write_items(
 {
     put_answer(
         class,
-        kind,
+        msgtype,
         first_tags(tags, l.count),
         first_lens(lens, l.count),
         first(values, l.filled),
@@ -294,7 +304,7 @@ fn write_items(
 
 fn write_list(
     class: u8,
-    kind: u8,
+    msgtype: u8,
     room: usize,
     list: &[u8],
     values: &mut [u8; 32768],
@@ -310,13 +320,13 @@ fn write_list(
     let Taken::List(l) = taken else {
         return bad(out, at);
     };
-    write_items(class, kind, room, l, &tags, &lens, values, out, at)
+    write_items(class, msgtype, room, l, &tags, &lens, values, out, at)
 }
 
 // The buffer's length and the list.
 fn write_into(
     class: u8,
-    kind: u8,
+    msgtype: u8,
     rest: &[u8],
     values: &mut [u8; 32768],
     out: &mut [u8; 65536],
@@ -329,7 +339,7 @@ fn write_into(
     let Number::Value(n) = room else {
         return bad(out, at);
     };
-    write_list(class, kind, n as usize, rest_of(rest), values, out, at)
+    write_list(class, msgtype, n as usize, rest_of(rest), values, out, at)
 }
 
 // The type and what follows it.
@@ -343,8 +353,8 @@ fn write_kind(
     requires { ⌜ at + 17000 ≤ 65536 ⌝ }
     ensures { λ r. ⌜ r ≤ at + 17000 ⌝ }
 {
-    let kind = number_of(word_of(rest));
-    let Number::Value(n) = kind else {
+    let msgtype = number_of(word_of(rest));
+    let Number::Value(n) = msgtype else {
         return bad(out, at);
     };
     write_into(class, clamped(n), rest_of(rest), values, out, at)

@@ -7,10 +7,10 @@ use Rattle.action.proofs.to_all.Statement.{statement}
 use Rattle.action.proofs.to_all.Tie as tie
 
 abbrev Inv-loop : tie.InvT-loop
-Inv-loop kind subject value words₀ n who m₀ q₀ words m q = Emitted (toEach who kind subject value) words₀ n q words m × (q ≤ 16)
+Inv-loop classtype subject value words₀ n who m₀ q₀ words m q = Emitted (toEach who classtype subject value) words₀ n q words m × (q ≤ 16)
 
 abbrev μ-loop : tie.MeasureT-loop
-μ-loop kind subject value words₀ n who m₀ q₀ words m q = 16 - q
+μ-loop classtype subject value words₀ n who m₀ q₀ words m q = 16 - q
 
 loop-holds : tie.Need-loop-holds Inv-loop μ-loop
 loop-holds c = (emit-none _ _ _, omega arith)

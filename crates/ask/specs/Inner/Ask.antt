@@ -1,4 +1,4 @@
--- What an event asks of the gateway, as the code passes it: the rules' deed of it, and whether it is in the plan.
+-- What an event asks of the gateway, as the code passes it: the rules' effect of it, and whether it is in the plan.
 -- Assumes nothing.
 use Prim.Native.Nat.{ℕ, _<_}
 use mathlib.Core.Path.{_≡_, refl, sym, ap, _∙_}
@@ -7,39 +7,39 @@ use mathlib.Core.List.{List, []}
 use native.Mathlib.Omega.{arith}
 use lib.Dec.{eqb, ltb}
 use borrow.Author.Tests.{ltb-true, eqb-true, eqb-false, ne-eqb}
-use Rattle.laws.specs.Tab.{tab}
+use Rattle.laws.specs.Columns.{tabulate}
 use Rattle.message.specs.Meaning.{readingOf}
 use Rattle.message.specs.declared.Reading.{Reading}
 use Rattle.gateway.specs.Laws.{Limits}
 use Rattle.gateway.specs.declared.Gateway.{Gateway}
 use Rattle.server.specs.declared.Change.the-variants.{Recover}
-use Rattle.rules.specs.Event.{Kind, message, lost, recovery, linkUp, linkDown, linkMessage}
-use Rattle.rules.specs.Deed.{Deed, change}
+use Rattle.rules.specs.Event.{EventKind, message, lost, recovery, linkUp, linkDown, linkMessage}
+use Rattle.rules.specs.Effect.{Effect, changeIn}
 use Rattle.wire.specs.Walk.{walk}
-use Rattle.rules.specs.Asp.{upDeed, downDeed, lostDeed, trafficDeed}
-use Rattle.rules.specs.Link.{linkUpDeed, linkDownDeed, linkMessageDeed}
-use Rattle.rules.specs.Rules.{isError, deedOf, inPlan}
+use Rattle.rules.specs.Asp.{upEffect, downEffect, lostEffect, trafficEffect}
+use Rattle.rules.specs.Link.{linkUpEffect, linkDownEffect, linkMessageEffect}
+use Rattle.rules.specs.Rules.{isError, effectOf, inPlan}
 use Rattle.rules.specs.Identifiers.{ownerAt, isMember}
 use Rattle.rules.specs.Reach.{ownsId, kindReach}
 use Rattle.work.specs.Decides.{act}
-use Rattle.decide.specs.Other.{otherDeed, typeIn, message-up, message-down, message-active, message-inactive, message-other}
+use Rattle.decide.specs.Other.{otherEffect, typeIn, message-up, message-down, message-active, message-inactive, message-other}
 use Rattle.links.specs.Side.{passes, Side, side, in-plan}
 use Rattle.ask.specs.Happened.{happened}
 use Rattle.ask.specs.Inner.Reach.{namedReach, otherReach, reach-up, reach-down, reach-active, reach-inactive, reach-other}
 use Rattle.ask.specs.declared.Ask.{Ask}
 use Rattle.ask.specs.declared.Ask.the-variants.{Up, Down, Traffic, Other, Lost, Recovery, LinkUp, LinkDown, LinkMessage}
 
--- the rules' deed, where s is the message
-abbrev pub askDeed : Gateway → List ℕ → Ask → Deed
-askDeed g s (Up p r) = upDeed g p r
-askDeed g s (Down p) = downDeed g p
-askDeed g s (Traffic on p r) = trafficDeed g p r (walk s 8 .pars) (act g p on (r .mode))
-askDeed g s (Other p wrong r) = otherDeed g p wrong r
-askDeed g s (Lost p) = lostDeed g p
-askDeed g s (Recovery a) = change [] Recover (tab 16 (λ c. eqb c a))
-askDeed g s (LinkUp l) = linkUpDeed g l
-askDeed g s (LinkDown l) = linkDownDeed g l
-askDeed g s (LinkMessage r) = linkMessageDeed g r
+-- the rules' effect, where s is the message
+abbrev pub askEffect : Gateway → List ℕ → Ask → Effect
+askEffect g s (Up p r) = upEffect g p r
+askEffect g s (Down p) = downEffect g p
+askEffect g s (Traffic on p r) = trafficEffect g p r (walk s 8 .pars) (act g p on (r .mode))
+askEffect g s (Other p wrong r) = otherEffect g p wrong r
+askEffect g s (Lost p) = lostEffect g p
+askEffect g s (Recovery a) = changeIn [] Recover (tabulate 16 (λ c. eqb c a))
+askEffect g s (LinkUp l) = linkUpEffect g l
+askEffect g s (LinkDown l) = linkDownEffect g l
+askEffect g s (LinkMessage r) = linkMessageEffect g r
 
 -- the ASes that it reaches
 abbrev pub askReach : Gateway → List ℕ → Ask → ℕ → Bool
@@ -70,7 +70,7 @@ abbrev pub AskSmall : Ask → Type 0
 AskSmall (Up p r) = _≡_ {A = ℕ} 0 0
 AskSmall (Down p) = _≡_ {A = ℕ} 0 0
 AskSmall (Traffic on p r) = _≡_ {A = ℕ} 0 0
-AskSmall (Other p wrong r) = (r .class < 256) × (r .kind < 256)
+AskSmall (Other p wrong r) = (r .class < 256) × (r .msgtype < 256)
 AskSmall (Lost p) = _≡_ {A = ℕ} 0 0
 AskSmall (Recovery a) = _≡_ {A = ℕ} 0 0
 AskSmall (LinkUp l) = _≡_ {A = ℕ} 0 0
@@ -90,7 +90,7 @@ abbrev pub AskFits : ℕ → List ℕ → Ask → Type 0
 AskFits links iid (Up p r) = p < 16
 AskFits links iid (Down p) = p < 16
 AskFits links iid (Traffic on p r) = p < 16
-AskFits links iid (Other p wrong r) = (p < 16) × (r .class < 256) × (r .kind < 256)
+AskFits links iid (Other p wrong r) = (p < 16) × (r .class < 256) × (r .msgtype < 256)
 AskFits links iid (Lost p) = p < 16
 AskFits links iid (Recovery a) = _≡_ {A = ℕ} 0 0
 AskFits links iid (LinkUp l) = l < links
@@ -98,8 +98,8 @@ AskFits links iid (LinkDown l) = l < links
 AskFits links iid (LinkMessage r) = Side iid links r
 
 -- what is asked is that event
-pub record AsksKind (e : Kind) (s : List ℕ) (ask : Ask) : Type 0 where
-  pub deed : (g : Gateway) → askDeed g s ask ≡ deedOf g e
+pub record AsksKind (e : EventKind) (s : List ℕ) (ask : Ask) : Type 0 where
+  pub effect : (g : Gateway) → askEffect g s ask ≡ effectOf g e
   pub reach : (g : Gateway) (a : ℕ) → askReach g s ask a ≡ kindReach g e a
   pub known : (g : Gateway) → askKnown (g .asps) (g .ases) (g .links) (g .iid) ask ≡ inPlan g e
   pub small : AskSmall ask
@@ -127,7 +127,7 @@ ask-fits-at g ask e c h q = rw e (ask-fits (g .asps) (g .ases) (g .links) (g .ii
 
 -- ---- what is asked is the event
 
-pub asks-message : (p : ℕ) (s : List ℕ) → readingOf s .class < 256 → readingOf s .kind < 256 → AsksKind (message p s) s (askOf p (typeIn (isError s) (readingOf s)) (isError s) (readingOf s))
+pub asks-message : (p : ℕ) (s : List ℕ) → readingOf s .class < 256 → readingOf s .msgtype < 256 → AsksKind (message p s) s (askOf p (typeIn (isError s) (readingOf s)) (isError s) (readingOf s))
 unfolding askOf act
 asks-message p s c k =
     let t = typeIn (isError s) (readingOf s) in
@@ -135,37 +135,37 @@ asks-message p s c k =
   where
     go : (t : ℕ) → typeIn (isError s) (readingOf s) ≡ t → (u v x y : Bool) → eqb t 769 ≡ u → eqb t 770 ≡ v → eqb t 1025 ≡ x → eqb t 1026 ≡ y
         → AsksKind (message p s) s (cond u (Up p (readingOf s)) (cond v (Down p) (cond (x || y) (Traffic x p (readingOf s)) (Other p (isError s) (readingOf s)))))
-    go t e true v x y a b c₁ d = record { deed = λ g. sym (message-up g p s (e ∙ eqb-true t 769 a)); reach = λ g b. sym (reach-up g p s b (e ∙ eqb-true t 769 a)); known = λ g. refl; small = refl }
-    go t e false true x y a b c₁ d = record { deed = λ g. sym (message-down g p s (e ∙ eqb-true t 770 b)); reach = λ g a. sym (reach-down g p s a (e ∙ eqb-true t 770 b)); known = λ g. refl; small = refl }
-    go t e false false true y a b c₁ d = record { deed = λ g. sym (message-active g p s (e ∙ eqb-true t 1025 c₁)); reach = λ g a. sym (reach-active g p s a (e ∙ eqb-true t 1025 c₁)); known = λ g. refl; small = refl }
-    go t e false false false true a b c₁ d = record { deed = λ g. sym (message-inactive g p s (e ∙ eqb-true t 1026 d)); reach = λ g a. sym (reach-inactive g p s a (e ∙ eqb-true t 1026 d)); known = λ g. refl; small = refl }
+    go t e true v x y a b c₁ d = record { effect = λ g. sym (message-up g p s (e ∙ eqb-true t 769 a)); reach = λ g b. sym (reach-up g p s b (e ∙ eqb-true t 769 a)); known = λ g. refl; small = refl }
+    go t e false true x y a b c₁ d = record { effect = λ g. sym (message-down g p s (e ∙ eqb-true t 770 b)); reach = λ g a. sym (reach-down g p s a (e ∙ eqb-true t 770 b)); known = λ g. refl; small = refl }
+    go t e false false true y a b c₁ d = record { effect = λ g. sym (message-active g p s (e ∙ eqb-true t 1025 c₁)); reach = λ g a. sym (reach-active g p s a (e ∙ eqb-true t 1025 c₁)); known = λ g. refl; small = refl }
+    go t e false false false true a b c₁ d = record { effect = λ g. sym (message-inactive g p s (e ∙ eqb-true t 1026 d)); reach = λ g a. sym (reach-inactive g p s a (e ∙ eqb-true t 1026 d)); known = λ g. refl; small = refl }
     go t e false false false false a b c₁ d =
         record {
-          deed = λ g. sym (message-other g p s (λ z. eqb-false t 769 a (sym e ∙ z)) (λ z. eqb-false t 770 b (sym e ∙ z)) (λ z. eqb-false t 1025 c₁ (sym e ∙ z)) (λ z. eqb-false t 1026 d (sym e ∙ z)));
+          effect = λ g. sym (message-other g p s (λ z. eqb-false t 769 a (sym e ∙ z)) (λ z. eqb-false t 770 b (sym e ∙ z)) (λ z. eqb-false t 1025 c₁ (sym e ∙ z)) (λ z. eqb-false t 1026 d (sym e ∙ z)));
           reach = λ g x. sym (reach-other g p s x (λ z. eqb-false t 769 a (sym e ∙ z)) (λ z. eqb-false t 770 b (sym e ∙ z)) (λ z. eqb-false t 1025 c₁ (sym e ∙ z)) (λ z. eqb-false t 1026 d (sym e ∙ z)));
           known = λ g. refl;
           small = (c, k);
         }
 
 module _ (k i : ℕ) (s : List ℕ) where
-  pub asks-0 : k ≡ 0 → (p : ℕ) → p ≡ i → readingOf s .class < 256 → readingOf s .kind < 256 → Asks k i s (askOf p (typeIn (isError s) (readingOf s)) (isError s) (readingOf s))
+  pub asks-0 : k ≡ 0 → (p : ℕ) → p ≡ i → readingOf s .class < 256 → readingOf s .msgtype < 256 → Asks k i s (askOf p (typeIn (isError s) (readingOf s)) (isError s) (readingOf s))
   asks-0 e p q a b = rw (e, ← q) (asks-message p s a b)
 
   pub asks-1 : k ≡ 1 → Asks k i s (Lost i)
-  asks-1 e = rw e (record { deed = λ g. refl; reach = λ g a. refl; known = λ g. refl; small = refl })
+  asks-1 e = rw e (record { effect = λ g. refl; reach = λ g a. refl; known = λ g. refl; small = refl })
 
   pub asks-2 : k ≡ 2 → Asks k i s (Recovery i)
-  asks-2 e = rw e (record { deed = λ g. refl; reach = λ g a. refl; known = λ g. refl; small = refl })
+  asks-2 e = rw e (record { effect = λ g. refl; reach = λ g a. refl; known = λ g. refl; small = refl })
 
   pub asks-3 : k ≡ 3 → Asks k i s (LinkUp i)
-  asks-3 e = rw e (record { deed = λ g. refl; reach = λ g a. refl; known = λ g. refl; small = refl })
+  asks-3 e = rw e (record { effect = λ g. refl; reach = λ g a. refl; known = λ g. refl; small = refl })
 
   pub asks-4 : k ≡ 4 → Asks k i s (LinkDown i)
-  asks-4 e = rw e (record { deed = λ g. refl; reach = λ g a. refl; known = λ g. refl; small = refl })
+  asks-4 e = rw e (record { effect = λ g. refl; reach = λ g a. refl; known = λ g. refl; small = refl })
 
   pub asks-5 : k ≡ 5 → Asks k i s (LinkMessage (readingOf s))
-  asks-5 e = rw e (record { deed = λ g. refl; reach = λ g a. refl; known = λ g. in-plan g s; small = refl })
+  asks-5 e = rw e (record { effect = λ g. refl; reach = λ g a. refl; known = λ g. in-plan g s; small = refl })
 
   pub asks-none : (k ≡ 0 → ⊥) → (k ≡ 1 → ⊥) → (k ≡ 2 → ⊥) → (k ≡ 3 → ⊥) → (k ≡ 4 → ⊥) → (k ≡ 5 → ⊥) → Asks k i s (Lost 65536)
   asks-none a b c d e f =
-      rw (ne-eqb k 0 a, ne-eqb k 1 b, ne-eqb k 2 c, ne-eqb k 3 d, ne-eqb k 4 e, ne-eqb k 5 f) (record { deed = λ g. refl; reach = λ g a. refl; known = λ g. refl; small = refl })
+      rw (ne-eqb k 0 a, ne-eqb k 1 b, ne-eqb k 2 c, ne-eqb k 3 d, ne-eqb k 4 e, ne-eqb k 5 f) (record { effect = λ g. refl; reach = λ g a. refl; known = λ g. refl; small = refl })

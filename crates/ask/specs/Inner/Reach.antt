@@ -12,7 +12,7 @@ use Rattle.message.specs.Meaning.{readingOf}
 use Rattle.message.specs.declared.Reading.{Reading}
 use Rattle.gateway.specs.declared.Gateway.{Gateway}
 use Rattle.rules.specs.Identifiers.{ownsNamed, isMember}
-use Rattle.rules.specs.Rules.{isError, typeOf}
+use Rattle.rules.specs.Rules.{isError, classTypeOf}
 use Rattle.rules.specs.Reach.{ownsId, readReach, messageReach}
 use Rattle.decide.specs.Other.{typeIn, typed}
 use Rattle.links.specs.Side.{code-is}
@@ -52,9 +52,9 @@ module _ (g : Gateway) (p : ℕ) (s : List ℕ) (a : ℕ) where
   unfolding messageReach readReach otherReach typeIn
   reach-other = rw (← code-is s) (go (isError s) (eqb (readingOf s .code) 0))
     where
-      go : (u v : Bool) → (cond u 0 (cond v (typeOf (readingOf s)) 0) ≡ 769 → ⊥) → (cond u 0 (cond v (typeOf (readingOf s)) 0) ≡ 770 → ⊥) → (cond u 0 (cond v (typeOf (readingOf s)) 0) ≡ 1025 → ⊥) → (cond u 0 (cond v (typeOf (readingOf s)) 0) ≡ 1026 → ⊥)
+      go : (u v : Bool) → (cond u 0 (cond v (classTypeOf (readingOf s)) 0) ≡ 769 → ⊥) → (cond u 0 (cond v (classTypeOf (readingOf s)) 0) ≡ 770 → ⊥) → (cond u 0 (cond v (classTypeOf (readingOf s)) 0) ≡ 1025 → ⊥) → (cond u 0 (cond v (classTypeOf (readingOf s)) 0) ≡ 1026 → ⊥)
           → cond (u || not v) false (readReach g p s (readingOf s) a)
           ≡ cond u false (cond v (cond (eqb (readingOf s .class) 6) (ownsId g (readingOf s .id) a) false) false)
       go true v x y z w = refl
-      go false true x y z w = rw (ne-eqb (typeOf (readingOf s)) 769 x, ne-eqb (typeOf (readingOf s)) 770 y, ne-eqb (typeOf (readingOf s)) 1025 z, ne-eqb (typeOf (readingOf s)) 1026 w)
+      go false true x y z w = rw (ne-eqb (classTypeOf (readingOf s)) 769 x, ne-eqb (classTypeOf (readingOf s)) 770 y, ne-eqb (classTypeOf (readingOf s)) 1025 z, ne-eqb (classTypeOf (readingOf s)) 1026 w)
       go false false x y z w = refl

@@ -1,10 +1,10 @@
-use Rattle.rules.specs.Asp.{downDeed}
+use Rattle.rules.specs.Asp.{downEffect}
 use borrow.Author.Needs.{needs}
 use Rattle.asps.proofs.down_work.Statement.{statement}
 use Rattle.asps.proofs.down_work.Tie as tie
 
 returns : tie.Need-returns
-unfolding downDeed
+unfolding downEffect
 returns c = record { on = λ g e. rw e (rw (c .before .column-of .ensures, c .before .before .to-asp .ensures) at (c .change-one .ensures)) }
 
 pub down-work-spec : {M : Type 1} → statement M

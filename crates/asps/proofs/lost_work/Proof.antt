@@ -1,10 +1,10 @@
-use Rattle.rules.specs.Asp.{lostDeed}
+use Rattle.rules.specs.Asp.{lostEffect}
 use borrow.Author.Needs.{needs}
 use Rattle.asps.proofs.lost_work.Statement.{statement}
 use Rattle.asps.proofs.lost_work.Tie as tie
 
 returns : tie.Need-returns
-unfolding lostDeed
+unfolding lostEffect
 returns c = record { on = λ g e. rw e (rw (c .before .column-of .ensures) at (c .change-only .ensures)) }
 
 pub lost-work-spec : {M : Type 1} → statement M

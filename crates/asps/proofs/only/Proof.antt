@@ -4,12 +4,12 @@ use mathlib.Core.Path.{refl}
 use native.Mathlib.Omega.{arith}
 use lib.Dec.{eqb}
 use borrow.Author.Needs.{needs}
-use Rattle.laws.specs.Tab.{Half, at, half-end, half-more, half-none}
+use Rattle.laws.specs.Columns.{Half, flagAt, half-end, half-more, half-none}
 use Rattle.asps.proofs.only.Statement.{statement}
 use Rattle.asps.proofs.only.Tie as tie
 
 abbrev Inv-loop : tie.InvT-loop
-Inv-loop a r₀ c₀ r c = Half (λ i. eqb i a) (at r₀) 16 c r × (c ≤ 16)
+Inv-loop a r₀ c₀ r c = Half (λ i. eqb i a) (flagAt r₀) 16 c r × (c ≤ 16)
 
 abbrev μ-loop : tie.MeasureT-loop
 μ-loop a r₀ c₀ r c = 16 - c

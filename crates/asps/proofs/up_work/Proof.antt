@@ -1,4 +1,4 @@
-use Rattle.rules.specs.Asp.{upDeed}
+use Rattle.rules.specs.Asp.{upEffect}
 use Rattle.work.specs.Decides.{by-yes, by-no}
 use mathlib.Core.Path.{sym, _∙_}
 use borrow.Author.Needs.{needs}
@@ -6,11 +6,11 @@ use Rattle.asps.proofs.up_work.Statement.{statement}
 use Rattle.asps.proofs.up_work.Tie as tie
 
 returns : tie.Need-returns
-unfolding upDeed
+unfolding upEffect
 returns c = record { on = λ g h. rw (h .0, h .1, h .2) (by-yes _ _ _ (sym (c .before .before .is-other .ensures) ∙ c .before .if1 .taken) (c .error .ensures)) }
 
 returns-2 : tie.Need-returns-2
-unfolding upDeed
+unfolding upEffect
 returns-2 c = record { on = λ g h. rw (h .0, h .1, h .2) (by-no _ _ _ (sym (c .before .before .before .before .before .is-other .ensures) ∙ c .before .before .before .before .if1 .left) (rw (c .before .column-of2 .ensures, c .before .before .has-some .ensures, c .before .before .before .column-of .ensures) at (c .rise .ensures))) }
 
 pub up-work-spec : {M : Type 1} → statement M

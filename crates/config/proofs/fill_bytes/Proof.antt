@@ -4,13 +4,13 @@ use mathlib.Core.Path.{refl}
 use native.Mathlib.Omega.{arith}
 use borrow.Author.Needs.{needs}
 use lib.ListN.{length}
-use Rattle.laws.specs.Tab.{col, HalfCol, half-none, half-more, half-at}
+use Rattle.laws.specs.Columns.{numberAt, HalfCol, half-none, half-more, half-at}
 use Rattle.config.specs.Inner.Tables.{wordOf, RowsIn, AllIn}
 use Rattle.config.proofs.fill_bytes.Statement.{statement}
 use Rattle.config.proofs.fill_bytes.Tie as tie
 
 abbrev Inv-loop : tie.InvT-loop
-Inv-loop s at row n out₀ i₀ out i = HalfCol (wordOf s at row) (col out₀) (length out₀) i out × (i ≤ n) × (n ≤ length out₀) × RowsIn (length s) at row n × AllIn (wordOf s at row) n 256
+Inv-loop s at row n out₀ i₀ out i = HalfCol (wordOf s at row) (numberAt out₀) (length out₀) i out × (i ≤ n) × (n ≤ length out₀) × RowsIn (length s) at row n × AllIn (wordOf s at row) n 256
 
 abbrev μ-loop : tie.MeasureT-loop
 μ-loop s at row n out₀ i₀ out i = n - i

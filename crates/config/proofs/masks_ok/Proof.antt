@@ -6,12 +6,12 @@ use borrow.Author.Needs.{needs}
 use lib.Dec.{eqb}
 use Rattle.config.specs.Plan.{bitsFrom, high, low}
 use Rattle.laws.specs.Below.{allBelow, all-none, all-more, at-end}
-use Rattle.laws.specs.Tab.{col}
+use Rattle.laws.specs.Columns.{numberAt}
 use Rattle.config.proofs.masks_ok.Statement.{statement}
 use Rattle.config.proofs.masks_ok.Tie as tie
 
 abbrev Inv-loop : tie.InvT-loop
-Inv-loop second asps ases ok₀ p₀ ok p = (ok ≡ allBelow (λ i. eqb (bitsFrom (high (col second i)) ases) 0 && eqb (low (col second i)) 0) p) × (p ≤ asps) × (asps ≤ 16) × (ases ≤ 16)
+Inv-loop second asps ases ok₀ p₀ ok p = (ok ≡ allBelow (λ i. eqb (bitsFrom (high (numberAt second i)) ases) 0 && eqb (low (numberAt second i)) 0) p) × (p ≤ asps) × (asps ≤ 16) × (ases ≤ 16)
 
 abbrev μ-loop : tie.MeasureT-loop
 μ-loop second asps ases ok₀ p₀ ok p = asps - p

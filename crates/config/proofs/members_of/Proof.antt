@@ -6,19 +6,19 @@ use borrow.Author.Needs.{needs}
 use denote.Ref.{now}
 use Rattle.config.specs.Plan.{bit, members}
 use Rattle.config.specs.Inner.Tables.{highs}
-use Rattle.laws.specs.Tab.{at, col, HalfCol, half-more, half-end, half-at}
+use Rattle.laws.specs.Columns.{flagAt, numberAt, HalfCol, half-more, half-end, half-at}
 use Rattle.config.proofs.Tables.{column-none, bit-at}
 use Rattle.config.proofs.members_of.Statement.{statement}
 use Rattle.config.proofs.members_of.Tie as tie
 
 abbrev Inv-loop2 : tie.InvT-loop2
-Inv-loop2 second r₀ a q₀ r q = HalfCol (λ i. bit (col (highs second) (i % 16)) (i / 16)) (λ i. 0) 256 (a * 16 + q) r × (q ≤ 16) × (a < 16)
+Inv-loop2 second r₀ a q₀ r q = HalfCol (λ i. bit (numberAt (highs second) (i % 16)) (i / 16)) (λ i. 0) 256 (a * 16 + q) r × (q ≤ 16) × (a < 16)
 
 abbrev μ-loop2 : tie.MeasureT-loop2
 μ-loop2 second r₀ a q₀ r q = 16 - q
 
 abbrev Inv-loop : tie.InvT-loop
-Inv-loop second r₀ a₀ r a = HalfCol (λ i. bit (col (highs second) (i % 16)) (i / 16)) (λ i. 0) 256 (a * 16) r × (a ≤ 16)
+Inv-loop second r₀ a₀ r a = HalfCol (λ i. bit (numberAt (highs second) (i % 16)) (i / 16)) (λ i. 0) 256 (a * 16) r × (a ≤ 16)
 
 abbrev μ-loop : tie.MeasureT-loop
 μ-loop second r₀ a₀ r a = 16 - a

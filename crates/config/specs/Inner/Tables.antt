@@ -11,7 +11,7 @@ use lib.ListN.{length, getD, replicate, length-replicate, getD-replicate}
 use borrow.Author.Tests.{ltb-true, leb-true, lt-ltb, le-ltb, le-leb}
 use Rattle.laws.specs.Below.{allBelow}
 use Rattle.laws.specs.Every.{all-ext, all-two, same-truth}
-use Rattle.laws.specs.Tab.{col, tab, tab-ext, getD-tab, is-tab, HalfCol}
+use Rattle.laws.specs.Columns.{numberAt, tabulate, tabulate-ext, getD-tabulate, is-tabulate, HalfCol}
 use Rattle.wire.specs.Number.{be}
 use Rattle.gateway.specs.Sound.{allUnder}
 use Rattle.config.specs.Plan.{high, low, column, bitsFrom, modesOk, masksOk, sparesOk}
@@ -31,17 +31,17 @@ AllIn f n end = (i : ℕ) → i < n → f i < end
 
 -- the masks and the spares of the second words
 unfoldable pub highs : List ℕ → List ℕ
-highs c = tab 16 (λ p. high (col c p))
+highs c = tabulate 16 (λ p. high (numberAt c p))
 
 unfoldable pub lows : List ℕ → List ℕ
-lows c = tab 16 (λ p. low (col c p))
+lows c = tabulate 16 (λ p. low (numberAt c p))
 
 -- ---- laws
 
 -- what was filled from the front, over zeros
-pub filled : (places n : ℕ) (f : ℕ → ℕ) (l : List ℕ) → HalfCol f (col (replicate places 0)) (length (replicate {A = ℕ} places 0)) n l → l ≡ column places n f
+pub filled : (places n : ℕ) (f : ℕ → ℕ) (l : List ℕ) → HalfCol f (numberAt (replicate places 0)) (length (replicate {A = ℕ} places 0)) n l → l ≡ column places n f
 unfolding column
-filled places n f l h = is-tab 0 l places (λ i. cond (ltb i n) (f i) 0) (h .long ∙ length-replicate places 0) (λ i b. pick i b (decLt i n))
+filled places n f l h = is-tabulate 0 l places (λ i. cond (ltb i n) (f i) 0) (h .long ∙ length-replicate places 0) (λ i b. pick i b (decLt i n))
   where
     pick : (i : ℕ) → i < places → Dec (i < n) → getD l i 0 ≡ cond (ltb i n) (f i) 0
     pick i b (yes z) = h .new i z ∙ rw (lt-ltb i n z)
@@ -49,9 +49,9 @@ filled places n f l h = is-tab 0 l places (λ i. cond (ltb i n) (f i) 0) (h .lon
         h .old i (omega arith) (rw (length-replicate {A = ℕ} places 0) b) ∙ getD-replicate places i 0 0 b ∙ rw (le-ltb i n (omega arith))
 
 -- a part of each word
-pub column-part : (h : ℕ → ℕ) → h 0 ≡ 0 → (n : ℕ) (f : ℕ → ℕ) → tab 16 (λ p. h (col (column 16 n f) p)) ≡ column 16 n (λ p. h (f p))
+pub column-part : (h : ℕ → ℕ) → h 0 ≡ 0 → (n : ℕ) (f : ℕ → ℕ) → tabulate 16 (λ p. h (numberAt (column 16 n f) p)) ≡ column 16 n (λ p. h (f p))
 unfolding column
-column-part h e n f = tab-ext 0 16 _ _ (λ p b. ap h (getD-tab 16 (λ i. cond (ltb i n) (f i) 0) p 0 b) ∙ go (ltb p n) p)
+column-part h e n f = tabulate-ext 0 16 _ _ (λ p b. ap h (getD-tabulate 16 (λ i. cond (ltb i n) (f i) 0) p 0 b) ∙ go (ltb p n) p)
   where
     go : (u : Bool) (p : ℕ) → h (cond u (f p) 0) ≡ cond u (h (f p)) 0
     go true p = refl
@@ -69,11 +69,11 @@ pub owners-read : (n m : ℕ) (f : ℕ → ℕ) → n ≤ 128 → allBelow (λ i
 unfolding allUnder
 owners-read n m f b = all-ext _ _ n (λ i l. rw (column-at 128 n f i l b, le-leb 0 (f i) (omega arith)))
 
-pub masks-read : (c : List ℕ) (n m : ℕ) → n ≤ 16 → allBelow (λ p. eqb (bitsFrom (high (col c p)) m) 0 && eqb (low (col c p)) 0) n ≡ (masksOk (highs c) n m && sparesOk (lows c) n)
+pub masks-read : (c : List ℕ) (n m : ℕ) → n ≤ 16 → allBelow (λ p. eqb (bitsFrom (high (numberAt c p)) m) 0 && eqb (low (numberAt c p)) 0) n ≡ (masksOk (highs c) n m && sparesOk (lows c) n)
 unfolding masksOk sparesOk highs lows
 masks-read c n m b =
-    all-two (λ p. eqb (bitsFrom (high (col c p)) m) 0) (λ p. eqb (low (col c p)) 0) n
-    ∙ rw (all-ext (λ p. eqb (bitsFrom (high (col c p)) m) 0) (λ p. eqb (bitsFrom (col (tab 16 (λ p. high (col c p))) p) m) 0) n (λ p l. rw (getD-tab 16 (λ p. high (col c p)) p 0 (omega arith))), all-ext (λ p. eqb (low (col c p)) 0) (λ p. eqb (col (tab 16 (λ p. low (col c p))) p) 0) n (λ p l. rw (getD-tab 16 (λ p. low (col c p)) p 0 (omega arith))))
+    all-two (λ p. eqb (bitsFrom (high (numberAt c p)) m) 0) (λ p. eqb (low (numberAt c p)) 0) n
+    ∙ rw (all-ext (λ p. eqb (bitsFrom (high (numberAt c p)) m) 0) (λ p. eqb (bitsFrom (numberAt (tabulate 16 (λ p. high (numberAt c p))) p) m) 0) n (λ p l. rw (getD-tabulate 16 (λ p. high (numberAt c p)) p 0 (omega arith))), all-ext (λ p. eqb (low (numberAt c p)) 0) (λ p. eqb (numberAt (tabulate 16 (λ p. low (numberAt c p))) p) 0) n (λ p l. rw (getD-tabulate 16 (λ p. low (numberAt c p)) p 0 (omega arith))))
 
 -- the modes and owners of good rows are bytes
 pub mode-bytes : (n : ℕ) (f : ℕ → ℕ) → n ≤ 16 → modesOk (column 16 n f) n ≡ true → AllIn f n 256

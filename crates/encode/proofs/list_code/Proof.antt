@@ -14,10 +14,10 @@ use Rattle.encode.proofs.list_code.Statement.{statement}
 use Rattle.encode.proofs.list_code.Tie as tie
 
 abbrev Inv-loop : tie.InvT-loop
-Inv-loop info class kind tags lens values met₀ words₀ first₀ i₀ at₀ met words first i at = (i ≤ length tags) × (at + total (drop i lens) ≡ length values) × Head (rowIn table class kind) (parsIn tags lens values) met words first (left tags lens values i at) × ((length met ≡ 32) × (length words ≡ 32))
+Inv-loop info class msgtype tags lens values met₀ words₀ first₀ i₀ at₀ met words first i at = (i ≤ length tags) × (at + total (drop i lens) ≡ length values) × Head (rowIn table class msgtype) (parsIn tags lens values) met words first (left tags lens values i at) × ((length met ≡ 32) × (length words ≡ 32))
 
 abbrev μ-loop : tie.MeasureT-loop
-μ-loop info class kind tags lens values met₀ words₀ first₀ i₀ at₀ met words first i at = length tags - i
+μ-loop info class msgtype tags lens values met₀ words₀ first₀ i₀ at₀ met words first i at = length tags - i
 
 abbrev tags : (c : tie.In-loop Inv-loop μ-loop) → List ℕ
 tags c = c .before .before .before .before .before .args .tags .now

@@ -1,7 +1,7 @@
 use native.Mathlib.Nat.{zero-add}
 use Rattle.encode.proofs.Lists.{size-over, size-other, size-whole, total-next, sizes-next, total-none, sizes-none}
 use Rattle.laws.specs.Choice.{choices}
-use Rattle.put.specs.Bytes.{room}
+use Rattle.put.specs.Bytes.{parSize}
 use lib.ListN.{length, drop, getD}
 use Prim.Native.Nat.{_+_, _-_, _≤_}
 use mathlib.Core.Path.{_≡_, refl}
@@ -21,7 +21,7 @@ abbrev μ-loop : tie.MeasureT-loop
 -- the length at the index, and those after it
 next : (c : tie.In-loop Inv-loop μ-loop)
     → sizes (drop (c .before .loop .i) (c .before .before .before .args .lens .now))
-    ≡ room (getD (c .before .before .before .args .lens .now) (c .before .loop .i) 0) + sizes (drop (c .before .loop .i + 1) (c .before .before .before .args .lens .now))
+    ≡ parSize (getD (c .before .before .before .args .lens .now) (c .before .loop .i) 0) + sizes (drop (c .before .loop .i + 1) (c .before .before .before .args .lens .now))
 next c = sizes-next (c .before .before .before .args .lens .now) (c .before .loop .i) (omega arith)
 
 next-total : (c : tie.In-loop Inv-loop μ-loop)

@@ -16,7 +16,7 @@ list-code-requires : tie.Need-list-code-requires
 list-code-requires c κs =
     let st = c .before .before .before .before .before .before .before in
     let ne = c .before .if3 .left in
-    let h : rowIn table (st .args .class) (st .args .kind) < 17 = omega (arith, ne, st .pre .0, st .pre .1) in
+    let h : rowIn table (st .args .class) (st .args .msgtype) < 17 = omega (arith, ne, st .pre .0, st .pre .1) in
     (h, c .row-info .ensures ∙ ap infoOf (st .pre .1), size-some _ _ _ _ (st .pre .2) (c .before .before .before .if1 .left) .lent)
 
 returns-4 : tie.Need-returns-4
@@ -24,8 +24,8 @@ unfolding listVerdict
 returns-4 c =
     let st = c .before .before .before .before .before .before .before .before in
     let ps = parsIn (st .args .tags .now) (st .args .lens .now) (st .args .values .now) in
-    let e : c .list-code .result ≡ rowCode (st .args .row) (st .args .class) (st .args .kind) ps =
-    c .list-code .ensures ∙ ap (λ (i : ℕ). rowCode i (st .args .class) (st .args .kind) ps) (sym (st .pre .1)) in
+    let e : c .list-code .result ≡ rowCode (st .args .row) (st .args .class) (st .args .msgtype) ps =
+    c .list-code .ensures ∙ ap (λ (i : ℕ). rowCode i (st .args .class) (st .args .msgtype) ps) (sym (st .pre .1)) in
     search choices depth 9
 
 pub verdict-of-spec : {M : Type 1} → statement M

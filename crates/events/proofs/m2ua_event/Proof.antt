@@ -4,18 +4,18 @@ use mathlib.Core.Bool.{Bool}
 use mathlib.Core.List.{List}
 use Prim.Native.Nat.{ℕ}
 use lib.ListN.{length}
-use Rattle.gateway.specs.Sound.{consistent}
+use Rattle.gateway.specs.Sound.{isSound}
 use Rattle.gateway.specs.Laws.{counts-within}
 use Rattle.gateway.specs.declared.Gateway.{Gateway}
 use Rattle.ranges.specs.Laws.{table}
-use Rattle.rules.specs.Event.{Kind}
-use Rattle.rules.specs.Rules.{refusalOf, inPlan, deedOf}
+use Rattle.rules.specs.Event.{EventKind}
+use Rattle.rules.specs.Rules.{refusalOf, inPlan, effectOf}
 use Rattle.work.specs.Decides.{Decides, decided}
 use Rattle.ask.specs.Happened.{happened}
 use Rattle.ask.specs.Inner.Ask.{ask-fits-at}
-use Rattle.events.specs.Work.{performed}
+use Rattle.events.specs.Decision.{performed}
 use Rattle.ask.specs.Inner.Refused.{Accepted, accepted}
-use Rattle.events.specs.Perform.{handed-no, handed-yes}
+use Rattle.events.specs.Perform.{meets-no, meets-yes}
 use borrow.Author.Needs.{needs}
 use Rattle.events.proofs.m2ua_event.Statement.{statement}
 use Rattle.events.proofs.m2ua_event.Tie as tie
@@ -34,7 +34,7 @@ abbrev to-decided : tie.After-enact → tie.After-decided
 to-decided c = c .before .before .before .before .before .before .before .before .before .before .before
 
 -- the event
-abbrev happens : tie.After-asked → Kind
+abbrev happens : tie.After-asked → EventKind
 happens c = happened (start c .args .kind) (start c .args .i) (start c .args .msg .now)
 
 -- the lengths of the columns that change
@@ -50,21 +50,21 @@ waiting-long c = search needs
 state-long : (c : tie.Start) → length (c .args .g .state) ≡ 128
 state-long c = search needs
 
-refusal-is : (c : tie.After-refused) → c .refused .result ≡ refusalOf (consistent (start (to-asked c) .args .g)) (inPlan (start (to-asked c) .args .g) (happens (to-asked c))) (length (start (to-asked c) .args .words .now))
+refusal-is : (c : tie.After-refused) → c .refused .result ≡ refusalOf (isSound (start (to-asked c) .args .g)) (inPlan (start (to-asked c) .args .g) (happens (to-asked c))) (length (start (to-asked c) .args .words .now))
 refusal-is c =
     c .refused .ensures
-    ∙ ap (λ (k : Bool). refusalOf (consistent (start (to-asked c) .args .g)) k (length (start (to-asked c) .args .words .now))) (to-asked c .asked .ensures .known (start (to-asked c) .args .g))
+    ∙ ap (λ (k : Bool). refusalOf (isSound (start (to-asked c) .args .g)) k (length (start (to-asked c) .args .words .now))) (to-asked c .asked .ensures .known (start (to-asked c) .args .g))
 
-taken : (c : tie.After-refused) → c .refused .result ≡ 0 → Accepted (consistent (start (to-asked c) .args .g)) (inPlan (start (to-asked c) .args .g) (happens (to-asked c))) (length (start (to-asked c) .args .words .now))
+taken : (c : tie.After-refused) → c .refused .result ≡ 0 → Accepted (isSound (start (to-asked c) .args .g)) (inPlan (start (to-asked c) .args .g) (happens (to-asked c))) (length (start (to-asked c) .args .words .now))
 taken c h = accepted _ _ _ (sym (refusal-is c) ∙ h)
 
--- what is decided is the rules' deed
-decides : (c : tie.After-decided) → Decides (c .decided .result) (deedOf (start (to-asked (to-refused c)) .args .g) (happens (to-asked (to-refused c))))
+-- what is decided is the rules' effect
+decides : (c : tie.After-decided) → Decides (c .decided .result) (effectOf (start (to-asked (to-refused c)) .args .g) (happens (to-asked (to-refused c))))
 decides c =
     let a = to-asked (to-refused c) in
     let g = start a .args .g in
     let w = c .before .before .before .before .before .before .before .before .before .before .wide .ensures in
-    decided (c .decided .ensures .on g (record { links-is = sym w; aspid-is = refl; up-is = refl; member-is = refl; active-is = refl; mode-is = refl; iid-is = refl; owner-is = refl; state-is = refl })) (a .asked .ensures .deed g)
+    decided (c .decided .ensures .on g (record { links-is = sym w; aspid-is = refl; up-is = refl; member-is = refl; active-is = refl; mode-is = refl; iid-is = refl; owner-is = refl; state-is = refl })) (a .asked .ensures .effect g)
 
 decided-requires : tie.Need-decided-requires
 decided-requires c κs =
@@ -84,7 +84,7 @@ returns-2 : tie.Need-returns-2
 returns-2 c =
     let d = to-decided (c .before .before .before .before) in
     let r = to-refused d in
-    handed-yes _ (happens (to-asked r)) (refusal-is r) (d .before .before .before .before .before .before .before .before .before .before .before .if1 .left) (decides d .is) (performed (start (to-asked r) .args .g) _ (c .before .before .before .before .enact .ensures .on _ (record { up-is = refl; member-is = refl; active-is = refl; mode-is = refl; waiting-is = refl })) (c .settle .ensures))
+    meets-yes _ (happens (to-asked r)) (refusal-is r) (d .before .before .before .before .before .before .before .before .before .before .before .if1 .left) (decides d .is) (performed (start (to-asked r) .args .g) _ (c .before .before .before .before .enact .ensures .on _ (record { up-is = refl; member-is = refl; active-is = refl; mode-is = refl; waiting-is = refl })) (c .settle .ensures))
 
 pub m2ua-event-spec : {M : Type 1} → statement M
 m2ua-event-spec =
@@ -92,7 +92,7 @@ m2ua-event-spec =
     (tie.spec
     (λ c κs. search needs)
     (λ c κs. search needs)
-    (λ c. handed-no _ (happens (to-asked (c .before))) (refusal-is (c .before)) (c .if1 .taken))
+    (λ c. meets-no _ (happens (to-asked (c .before))) (refusal-is (c .before)) (c .if1 .taken))
     (λ c κs. search needs)
     decided-requires
     enact-requires

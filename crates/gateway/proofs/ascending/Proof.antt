@@ -6,12 +6,12 @@ use borrow.Author.Needs.{needs}
 use lib.Dec.{ltb}
 use Rattle.gateway.specs.Sound.{ascends}
 use Rattle.laws.specs.Below.{allBelow, all-none, all-more, at-end}
-use Rattle.laws.specs.Tab.{col}
+use Rattle.laws.specs.Columns.{numberAt}
 use Rattle.gateway.proofs.ascending.Statement.{statement}
 use Rattle.gateway.proofs.ascending.Tie as tie
 
 abbrev Inv-loop : tie.InvT-loop
-Inv-loop iid n ok₀ l₀ ok l = (ok ≡ allBelow (λ i. ltb (col iid i) (col iid (i + 1))) l) × (l ≤ n - 1) × (n ≤ 128)
+Inv-loop iid n ok₀ l₀ ok l = (ok ≡ allBelow (λ i. ltb (numberAt iid i) (numberAt iid (i + 1))) l) × (l ≤ n - 1) × (n ≤ 128)
 
 abbrev μ-loop : tie.MeasureT-loop
 μ-loop iid n ok₀ l₀ ok l = n - 1 - l

@@ -6,12 +6,12 @@ use borrow.Author.Needs.{needs}
 use denote.Ref.{now}
 use Rattle.gateway.specs.Sound.{activeIn}
 use Rattle.laws.specs.Below.{at-end, countBelow, count-none, count-more, count-small}
-use Rattle.laws.specs.Tab.{on}
+use Rattle.laws.specs.Columns.{isSet}
 use Rattle.gateway.proofs.count_active.Statement.{statement}
 use Rattle.gateway.proofs.count_active.Tie as tie
 
 abbrev Inv-loop : tie.InvT-loop
-Inv-loop active a n₀ q₀ n q = (n ≡ countBelow (λ i. on active (a * 16 + i)) q) × (q ≤ 16) × (a < 16)
+Inv-loop active a n₀ q₀ n q = (n ≡ countBelow (λ i. isSet active (a * 16 + i)) q) × (q ≤ 16) × (a < 16)
 
 abbrev μ-loop : tie.MeasureT-loop
 μ-loop active a n₀ q₀ n q = 16 - q
@@ -20,7 +20,7 @@ loop-holds : tie.Need-loop-holds Inv-loop μ-loop
 loop-holds c = (sym (count-none _), search needs, search needs)
 
 add-n : tie.Need-add-n Inv-loop μ-loop
-add-n c = omega (arith, c .before .before .before .loop .inv .0, count-small (λ i. on (now (c .before .before .before .before .args .active)) (c .before .before .before .before .args .a * 16 + i)) (c .before .before .before .loop .q))
+add-n c = omega (arith, c .before .before .before .loop .inv .0, count-small (λ i. isSet (now (c .before .before .before .before .args .active)) (c .before .before .before .before .args .a * 16 + i)) (c .before .before .before .loop .q))
 
 loop-again : tie.Need-loop-again Inv-loop μ-loop
 loop-again c = (rw (count-more, c .before .before .before .loop .inv .0, c .unit .ensures .0), search needs, search needs)

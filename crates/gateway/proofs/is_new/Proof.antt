@@ -6,12 +6,12 @@ use borrow.Author.Needs.{needs}
 use lib.Dec.{eqb}
 use Rattle.gateway.specs.Sound.{differs}
 use Rattle.laws.specs.Below.{allBelow, all-none, all-more, at-end}
-use Rattle.laws.specs.Tab.{col}
+use Rattle.laws.specs.Columns.{numberAt}
 use Rattle.gateway.proofs.is_new.Statement.{statement}
 use Rattle.gateway.proofs.is_new.Tie as tie
 
 abbrev Inv-loop : tie.InvT-loop
-Inv-loop aspid p ok₀ q₀ ok q = (ok ≡ allBelow (λ i. not (eqb (col aspid i) (col aspid p))) q) × (q ≤ p) × (p < 16)
+Inv-loop aspid p ok₀ q₀ ok q = (ok ≡ allBelow (λ i. not (eqb (numberAt aspid i) (numberAt aspid p))) q) × (q ≤ p) × (p < 16)
 
 abbrev μ-loop : tie.MeasureT-loop
 μ-loop aspid p ok₀ q₀ ok q = p - q

@@ -4,7 +4,7 @@ use mathlib.Core.Path.{_≡_, sym}
 use mathlib.Core.Bool.{_&&_}
 use borrow.Author.Needs.{needs}
 use lib.Dec.{ltb}
-use Rattle.laws.specs.Tab.{col}
+use Rattle.laws.specs.Columns.{numberAt}
 use Rattle.gateway.specs.Sound.{pair, flagIf, activeAt}
 use Rattle.gateway.specs.Rows.{rowIf}
 use Rattle.laws.specs.Below.{allBelow, all-none, all-more, at-end}
@@ -12,7 +12,7 @@ use Rattle.gateway.proofs.row_ok.Statement.{statement}
 use Rattle.gateway.proofs.row_ok.Tie as tie
 
 abbrev Inv-loop : tie.InvT-loop
-Inv-loop up member active asps inside a ok₀ q₀ ok q = (ok ≡ allBelow (λ i. flagIf (col member (pair a i)) (ltb i asps && inside) && activeAt up member active a i) q) × (q ≤ 16) × (a < 16)
+Inv-loop up member active asps inside a ok₀ q₀ ok q = (ok ≡ allBelow (λ i. flagIf (numberAt member (pair a i)) (ltb i asps && inside) && activeAt up member active a i) q) × (q ≤ 16) × (a < 16)
 
 abbrev μ-loop : tie.MeasureT-loop
 μ-loop up member active asps inside a ok₀ q₀ ok q = 16 - q

@@ -1,12 +1,12 @@
 -- `links::link_down`: by the link's state. Assumes nothing.
 use borrow.Author.Needs.{needs}
-use Rattle.rules.specs.Link.{linkDownDeed, toRecipients, recipientsOf}
+use Rattle.rules.specs.Link.{linkDownEffect, toRecipients, recipientsOf}
 use Rattle.links.specs.Recipients.{recipientsAt}
 use Rattle.links.proofs.link_down.Statement.{statement}
 use Rattle.links.proofs.link_down.Tie as tie
 
 returns : tie.Need-returns
-unfolding linkDownDeed toRecipients recipientsOf recipientsAt
+unfolding linkDownEffect toRecipients recipientsOf recipientsAt
 returns c =
     let d = rw (c .before .before .before .before .before .recipients-at .ensures, c .before .before .down-type .ensures) at (c .down-at .ensures) in
     record { on = λ g h. rw (h .active-is, h .mode-is, h .iid-is, h .owner-is, h .state-is) d }

@@ -5,7 +5,7 @@ use borrow.Author.Tests.{ltb-true}
 use borrow.Author.Needs.{needs}
 use Rattle.lookup.specs.Links.{known}
 use Rattle.rules.specs.Identifiers.{linkOf}
-use Rattle.rules.specs.Link.{linkMessageDeed, toRecipients, recipientsOf}
+use Rattle.rules.specs.Link.{linkMessageEffect, toRecipients, recipientsOf}
 use Rattle.links.specs.Recipients.{recipientsAt}
 use Rattle.links.proofs.link_message.Statement.{statement}
 use Rattle.links.proofs.link_message.Tie as tie
@@ -15,7 +15,7 @@ unfolding known
 there c = rw (c .index-of .ensures) (ltb-true _ _ (c .before .pre .1 .there))
 
 returns : tie.Need-returns
-unfolding linkMessageDeed linkOf toRecipients recipientsOf recipientsAt
+unfolding linkMessageEffect linkOf toRecipients recipientsOf recipientsAt
 returns c =
     let d = rw (c .before .before .before .before .before .index-of .ensures) at (rw (c .before .before .before .before .recipients-at .ensures) at (c .spread .ensures)) in
     record { on = λ g h. rw (h .links-is, h .active-is, h .mode-is, h .iid-is, h .owner-is) d }

@@ -1,12 +1,12 @@
 -- `links::link_up`: by the link's state. Assumes nothing.
 use borrow.Author.Needs.{needs}
-use Rattle.rules.specs.Link.{linkUpDeed, toRecipients, recipientsOf}
+use Rattle.rules.specs.Link.{linkUpEffect, toRecipients, recipientsOf}
 use Rattle.links.specs.Recipients.{recipientsAt}
 use Rattle.links.proofs.link_up.Statement.{statement}
 use Rattle.links.proofs.link_up.Tie as tie
 
 returns : tie.Need-returns
-unfolding linkUpDeed toRecipients recipientsOf recipientsAt
+unfolding linkUpEffect toRecipients recipientsOf recipientsAt
 returns c =
     let d = rw (c .before .before .before .recipients-at .ensures) at (c .up-at .ensures) in
     record { on = λ g h. rw (h .active-is, h .mode-is, h .iid-is, h .owner-is, h .state-is) d }

@@ -1,31 +1,31 @@
-use Rattle.rules.specs.Link.{linkWork}
+use Rattle.rules.specs.Link.{linkEffect}
 use Rattle.work.specs.Decides.{decisions}
 use borrow.Author.Needs.{needs}
 use Rattle.links.proofs.link_work.Statement.{statement}
 use Rattle.links.proofs.link_work.Tie as tie
 
 returns : tie.Need-returns
-unfolding linkWork
+unfolding linkEffect
 returns c = search decisions depth 9
 
 returns-2 : tie.Need-returns-2
-unfolding linkWork
+unfolding linkEffect
 returns-2 c = search decisions depth 9
 
 returns-3 : tie.Need-returns-3
-unfolding linkWork
+unfolding linkEffect
 returns-3 c = search decisions depth 9
 
 returns-4 : tie.Need-returns-4
-unfolding linkWork
+unfolding linkEffect
 returns-4 c = search decisions depth 9
 
 returns-5 : tie.Need-returns-5
-unfolding linkWork
+unfolding linkEffect
 returns-5 c = search decisions depth 9
 
 returns-6 : tie.Need-returns-6
-unfolding linkWork
+unfolding linkEffect
 returns-6 c = search decisions depth 9
 
 pub link-work-spec : {M : Type 1} → statement M

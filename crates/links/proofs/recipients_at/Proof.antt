@@ -2,13 +2,13 @@
 use native.Mathlib.Omega.{arith}
 use borrow.Author.Needs.{needs}
 use Prim.Native.Nat.{_<_}
-use Rattle.laws.specs.Tab.{col}
+use Rattle.laws.specs.Columns.{numberAt}
 use Rattle.ranges.specs.Laws.{owner-small}
 use Rattle.links.specs.Recipients.{recipientsAt}
 use Rattle.links.proofs.recipients_at.Statement.{statement}
 use Rattle.links.proofs.recipients_at.Tie as tie
 
-small : (c : tie.Start) → col (c .args .owner .now) (c .args .l) < 16
+small : (c : tie.Start) → numberAt (c .args .owner .now) (c .args .l) < 16
 small c = owner-small _ _ _ (c .pre .0) (c .args .l) (c .pre .1)
 
 returns : tie.Need-returns

@@ -3,14 +3,14 @@ use Rattle.links.specs.Six.{sixAt}
 use Rattle.work.specs.Decides.{decisions}
 use Prim.Native.Nat.{_<_}
 use native.Mathlib.Omega.{arith}
-use Rattle.laws.specs.Tab.{col}
+use Rattle.laws.specs.Columns.{numberAt}
 use Rattle.ranges.specs.Laws.{owner-small}
 use borrow.Author.Needs.{needs}
 use Rattle.links.proofs.six_at.Statement.{statement}
 use Rattle.links.proofs.six_at.Tie as tie
 
 -- the link's owner is within the table of pairs
-small : (c : tie.Start) → c .args .l < c .args .links → col (c .args .owner .now) (c .args .l) < 16
+small : (c : tie.Start) → c .args .l < c .args .links → numberAt (c .args .owner .now) (c .args .l) < 16
 small c h = owner-small _ _ _ (c .pre .0) (c .args .l) h
 
 returns : tie.Need-returns

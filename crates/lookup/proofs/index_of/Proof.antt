@@ -2,7 +2,7 @@
 use native.Mathlib.Omega.{arith}
 use borrow.Author.Needs.{needs}
 use Rattle.lookup.specs.Links.{index-found, index-none}
-use Rattle.laws.specs.Tab.{at}
+use Rattle.laws.specs.Columns.{flagAt}
 use Rattle.lookup.proofs.index_of.Statement.{statement}
 use Rattle.lookup.proofs.index_of.Tie as tie
 

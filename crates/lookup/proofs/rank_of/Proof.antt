@@ -6,12 +6,12 @@ use borrow.Author.Needs.{needs}
 use lib.Dec.{ltb}
 use Rattle.lookup.specs.Links.{rank}
 use Rattle.laws.specs.Below.{at-end, countBelow, count-none, count-more}
-use Rattle.laws.specs.Tab.{col}
+use Rattle.laws.specs.Columns.{numberAt}
 use Rattle.lookup.proofs.rank_of.Statement.{statement}
 use Rattle.lookup.proofs.rank_of.Tie as tie
 
 abbrev Inv-loop : tie.InvT-loop
-Inv-loop iid links x n₀ l₀ n l = (n ≡ countBelow (λ i. ltb (col iid i) x) l) × (n ≤ l) × (l ≤ links) × (links ≤ 128)
+Inv-loop iid links x n₀ l₀ n l = (n ≡ countBelow (λ i. ltb (numberAt iid i) x) l) × (n ≤ l) × (l ≤ links) × (links ≤ 128)
 
 abbrev μ-loop : tie.MeasureT-loop
 μ-loop iid links x n₀ l₀ n l = links - l

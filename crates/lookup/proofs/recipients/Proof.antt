@@ -6,12 +6,12 @@ use borrow.Author.Needs.{needs}
 use denote.Ref.{now}
 use Rattle.lookup.specs.Servers.{receives, before, before-none, before-more, before-small}
 use Rattle.gateway.specs.Sound.{activeIn}
-use Rattle.laws.specs.Tab.{at, Half, half-none, half-more, half-end}
+use Rattle.laws.specs.Columns.{flagAt, Half, half-none, half-more, half-end}
 use Rattle.lookup.proofs.recipients.Statement.{statement}
 use Rattle.lookup.proofs.recipients.Tie as tie
 
 abbrev Inv-loop : tie.InvT-loop
-Inv-loop active mode a x k place r₀ n₀ q₀ r n q = Half (receives active mode a x) (at r₀) 16 q r × (n ≡ before active a q) × (q ≤ 16) × (a < 16) × (place ≡ x % activeIn active a)
+Inv-loop active mode a x k place r₀ n₀ q₀ r n q = Half (receives active mode a x) (flagAt r₀) 16 q r × (n ≡ before active a q) × (q ≤ 16) × (a < 16) × (place ≡ x % activeIn active a)
 
 abbrev μ-loop : tie.MeasureT-loop
 μ-loop active mode a x k place r₀ n₀ q₀ r n q = 16 - q

@@ -3,12 +3,12 @@ use Prim.Native.Nat.{_≤_, _<_, _-_, _+_, _*_}
 use mathlib.Core.Path.{_≡_, sym}
 use borrow.Author.Needs.{needs}
 use Rattle.laws.specs.Below.{at-end, anyBelow, any-none, any-more}
-use Rattle.laws.specs.Tab.{on}
+use Rattle.laws.specs.Columns.{isSet}
 use Rattle.lookup.proofs.some_active.Statement.{statement}
 use Rattle.lookup.proofs.some_active.Tie as tie
 
 abbrev Inv-loop : tie.InvT-loop
-Inv-loop active a found₀ q₀ found q = (found ≡ anyBelow (λ i. on active (a * 16 + i)) q) × (q ≤ 16) × (a < 16)
+Inv-loop active a found₀ q₀ found q = (found ≡ anyBelow (λ i. isSet active (a * 16 + i)) q) × (q ≤ 16) × (a < 16)
 
 abbrev μ-loop : tie.MeasureT-loop
 μ-loop active a found₀ q₀ found q = 16 - q

@@ -4,12 +4,12 @@ use mathlib.Core.Path.{_≡_, sym}
 use mathlib.Core.Bool.{_&&_}
 use borrow.Author.Needs.{needs}
 use Rattle.laws.specs.Below.{at-end, anyBelow, any-none, any-more}
-use Rattle.laws.specs.Tab.{on}
+use Rattle.laws.specs.Columns.{isSet}
 use Rattle.lookup.proofs.some_up.Statement.{statement}
 use Rattle.lookup.proofs.some_up.Tie as tie
 
 abbrev Inv-loop : tie.InvT-loop
-Inv-loop up member a found₀ q₀ found q = (found ≡ anyBelow (λ i. on member (a * 16 + i) && on up i) q) × (q ≤ 16) × (a < 16)
+Inv-loop up member a found₀ q₀ found q = (found ≡ anyBelow (λ i. isSet member (a * 16 + i) && isSet up i) q) × (q ≤ 16) × (a < 16)
 
 abbrev μ-loop : tie.MeasureT-loop
 μ-loop up member a found₀ q₀ found q = 16 - q

@@ -2,7 +2,7 @@ use mathlib.Core.Path.{refl}
 use mathlib.Core.List.{_++_}
 use Prim.Native.Nat.{_+_, _-_}
 use lib.ListN.{length, replicate}
-use Rattle.put.specs.Bytes.{two, room, parBytes}
+use Rattle.put.specs.Bytes.{bytes16, parSize, parBytes}
 use Rattle.put.proofs.Sets.{over-two}
 use borrow.Author.Needs.{needs}
 use Rattle.put.proofs.put_param.Statement.{statement}
@@ -14,7 +14,7 @@ returns c = let a = c .before .before .before .before .before .before .before .b
     let n = 4 + length (a .v .now) in
     record {
       next = refl;
-      bytes = over-two _ (two (a .tag) ++ two n) (a .v .now ++ replicate (room (length (a .v .now)) - n) 0) _ _ _ _
+      bytes = over-two _ (bytes16 (a .tag) ++ bytes16 n) (a .v .now ++ replicate (parSize (length (a .v .now)) - n) 0) _ _ _ _
           (c .before .before .before .before .before .before .put-head .ensures) refl (c .before .before .put-value .ensures);
     }
 

@@ -3,14 +3,14 @@ use Prim.Native.Nat.{_≤_, _-_}
 use mathlib.Core.Path.{_≡_}
 use native.Mathlib.Omega.{arith}
 use borrow.Author.Needs.{needs}
-use Rattle.ranges.specs.Named.{isOf, someEntry, someOf, entries}
+use Rattle.ranges.specs.Named.{isOwnedBy, someEntry, someOf, entries}
 use Rattle.ranges.specs.Laws.{Table}
 use Rattle.ranges.specs.Marks.{Flags, flags-none, flags-more, flags-end}
 use Rattle.ranges.proofs.owners_of.Statement.{statement}
 use Rattle.ranges.proofs.owners_of.Tie as tie
 
 abbrev Inv-loop : tie.InvT-loop
-Inv-loop value pairs iid owner links n r₀ i₀ r i = (r ≡ Flags r₀ (λ a. someEntry (isOf iid owner links a) pairs value) i) × (i ≤ n) × (n ≡ entries pairs value) × Table iid owner links
+Inv-loop value pairs iid owner links n r₀ i₀ r i = (r ≡ Flags r₀ (λ a. someEntry (isOwnedBy iid owner links a) pairs value) i) × (i ≤ n) × (n ≡ entries pairs value) × Table iid owner links
 
 abbrev μ-loop : tie.MeasureT-loop
 μ-loop value pairs iid owner links n r₀ i₀ r i = n - i

@@ -2,7 +2,7 @@
 use mathlib.Core.Path.{_≡_, ap, sym, _∙_}
 use mathlib.Core.Bool.{Bool}
 use borrow.Author.Needs.{needs}
-use Rattle.gateway.specs.Sound.{consistent}
+use Rattle.gateway.specs.Sound.{isSound}
 use Rattle.gateway.specs.Laws.{counts-within}
 use Rattle.ranges.specs.Laws.{table}
 use Rattle.rules.specs.Event.{Event}
@@ -28,9 +28,9 @@ happens c = eventOf (happened (start c .args .kind) (start c .args .i) (start c 
 refusal-is : (c : tie.After-refused) → c .refused .result ≡ refusal (start (to-asked c) .args .t1) (happens (to-asked c))
 refusal-is c =
     c .refused .ensures
-    ∙ ap (λ (k : Bool). refusalOf (consistent (start (to-asked c) .args .t1)) k (start (to-asked c) .args .room)) (to-asked c .asked .ensures .known (start (to-asked c) .args .t1))
+    ∙ ap (λ (k : Bool). refusalOf (isSound (start (to-asked c) .args .t1)) k (start (to-asked c) .args .room)) (to-asked c .asked .ensures .known (start (to-asked c) .args .t1))
 
-taken : (c : tie.After-refused) → c .refused .result ≡ 0 → Accepted (consistent (start (to-asked c) .args .t1)) (inPlan (start (to-asked c) .args .t1) (happens (to-asked c) .kind)) (start (to-asked c) .args .room)
+taken : (c : tie.After-refused) → c .refused .result ≡ 0 → Accepted (isSound (start (to-asked c) .args .t1)) (inPlan (start (to-asked c) .args .t1) (happens (to-asked c) .msgtype)) (start (to-asked c) .args .room)
 taken c h = accepted _ _ _ (sym (refusal-is c) ∙ h)
 
 row-of-requires : tie.Need-row-of-requires

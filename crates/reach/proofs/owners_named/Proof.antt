@@ -1,5 +1,5 @@
 use Rattle.traffic.specs.Named.{Owners, owners-none, owners-more, owners-end}
-use Rattle.ranges.specs.Named.{isOf}
+use Rattle.ranges.specs.Named.{isOwnedBy}
 use Rattle.ranges.specs.Laws.{Table}
 use Rattle.wire.proofs.Steps.{step-next, Next, pars-next, pars-stop}
 use Rattle.wire.specs.declared.Step.the-variants.{Param}
@@ -13,7 +13,7 @@ use Rattle.reach.proofs.owners_named.Statement.{statement}
 use Rattle.reach.proofs.owners_named.Tie as tie
 
 abbrev Inv-loop : tie.InvT-loop
-Inv-loop s links iid owner set₀ at₀ set at = Owners (isOf iid owner links) (walk s at .pars) (walk s 8 .pars) set × Table iid owner links
+Inv-loop s links iid owner set₀ at₀ set at = Owners (isOwnedBy iid owner links) (walk s at .pars) (walk s 8 .pars) set × Table iid owner links
 
 abbrev μ-loop : tie.MeasureT-loop
 μ-loop s links iid owner set₀ at₀ set at = length s - at

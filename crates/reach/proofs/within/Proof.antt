@@ -5,12 +5,12 @@ use mathlib.Core.Bool.{_&&_}
 use native.Mathlib.Omega.{arith}
 use lib.Dec.{ltb}
 use borrow.Author.Needs.{needs}
-use Rattle.laws.specs.Tab.{Half, at, half-end, half-more, half-none}
+use Rattle.laws.specs.Columns.{Half, flagAt, half-end, half-more, half-none}
 use Rattle.reach.proofs.within.Statement.{statement}
 use Rattle.reach.proofs.within.Tie as tie
 
 abbrev Inv-loop : tie.InvT-loop
-Inv-loop ases row r₀ a₀ r a = Half (λ i. ltb i ases && at row i) (at r₀) 16 a r × (a ≤ 16)
+Inv-loop ases row r₀ a₀ r a = Half (λ i. ltb i ases && flagAt row i) (flagAt r₀) 16 a r × (a ≤ 16)
 
 abbrev μ-loop : tie.MeasureT-loop
 μ-loop ases row r₀ a₀ r a = 16 - a

@@ -1,6 +1,6 @@
 -- `server::flag_of`: by the change. Assumes nothing.
 use borrow.Author.Needs.{needs}
-use Rattle.laws.specs.Tab.{tab}
+use Rattle.laws.specs.Columns.{tabulate}
 use Rattle.server.specs.Change.{nobody}
 use Rattle.server.proofs.flag_of.Statement.{statement}
 use Rattle.server.proofs.flag_of.Tie as tie
@@ -18,7 +18,7 @@ returns-4 : tie.Need-returns-4
 returns-4 c = rw (c .before .before .k4 .given .1) (c .alone4 .ensures)
 
 returns-5 : tie.Need-returns-5
-unfolding nobody tab
+unfolding nobody tabulate
 returns-5 c = rw (c .enum-told .given .1)
 
 pub flag-of-spec : {M : Type 1} → statement M

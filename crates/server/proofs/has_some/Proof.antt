@@ -4,13 +4,13 @@ use mathlib.Core.Path.{_≡_, sym}
 use native.Mathlib.Omega.{arith}
 use borrow.Author.Needs.{needs}
 use Rattle.laws.specs.Below.{any-more, any-none, anyBelow, at-end}
-use Rattle.laws.specs.Tab.{at}
+use Rattle.laws.specs.Columns.{flagAt}
 use Rattle.server.specs.Record.{some}
 use Rattle.server.proofs.has_some.Statement.{statement}
 use Rattle.server.proofs.has_some.Tie as tie
 
 abbrev Inv-loop : tie.InvT-loop
-Inv-loop x found₀ q₀ found q = (found ≡ anyBelow (at x) q) × (q ≤ 16)
+Inv-loop x found₀ q₀ found q = (found ≡ anyBelow (flagAt x) q) × (q ≤ 16)
 
 abbrev μ-loop : tie.MeasureT-loop
 μ-loop x found₀ q₀ found q = 16 - q

@@ -4,13 +4,13 @@ use mathlib.Core.Path.{refl}
 use mathlib.Core.Bool.{_&&_}
 use native.Mathlib.Omega.{arith}
 use borrow.Author.Needs.{needs}
-use Rattle.laws.specs.Tab.{Half, at, half-end, half-more, half-none, on}
+use Rattle.laws.specs.Columns.{Half, flagAt, half-end, half-more, half-none, isSet}
 use Rattle.server.specs.Record.{membersUp}
 use Rattle.server.proofs.members_up.Statement.{statement}
 use Rattle.server.proofs.members_up.Tie as tie
 
 abbrev Inv-loop : tie.InvT-loop
-Inv-loop up member a r₀ q₀ r q = Half (λ i. on member (a * 16 + i) && on up i) (at r₀) 16 q r × (q ≤ 16)
+Inv-loop up member a r₀ q₀ r q = Half (λ i. isSet member (a * 16 + i) && isSet up i) (flagAt r₀) 16 q r × (q ≤ 16)
 
 abbrev μ-loop : tie.MeasureT-loop
 μ-loop up member a r₀ q₀ r q = 16 - q

@@ -1,7 +1,7 @@
 -- `server::overtake`: by the mode. Assumes nothing.
 use borrow.Author.Needs.{needs}
 use borrow.Author.Tests.{ne-eqb}
-use Rattle.laws.specs.Tab.{tab}
+use Rattle.laws.specs.Columns.{tabulate}
 use Rattle.server.specs.Change.{nobody}
 use Rattle.server.specs.Flag.{overtakenBy}
 use Rattle.server.proofs.overtake.Statement.{statement}
@@ -12,7 +12,7 @@ unfolding overtakenBy
 returns c = rw (c .before .if1 .taken) (c .minus .ensures)
 
 returns-2 : tie.Need-returns-2
-unfolding overtakenBy nobody tab
+unfolding overtakenBy nobody tabulate
 returns-2 c = rw (ne-eqb _ _ (c .if1 .left))
 
 pub overtake-spec : {M : Type 1} → statement M

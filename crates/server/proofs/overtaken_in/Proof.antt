@@ -1,6 +1,6 @@
 -- `server::overtaken_in`: by the change. Assumes nothing.
 use borrow.Author.Needs.{needs}
-use Rattle.laws.specs.Tab.{tab}
+use Rattle.laws.specs.Columns.{tabulate}
 use Rattle.server.specs.Change.{nobody}
 use Rattle.server.specs.Flag.{overtaken-one}
 use Rattle.server.proofs.overtaken_in.Statement.{statement}
@@ -10,19 +10,19 @@ returns : tie.Need-returns
 returns c = let k = c .before .enum-told .given in rw (k .1) (overtaken-one _ (rw (k .1) at (c .before .before .before .before .pre)) _ _ (c .overtake .ensures))
 
 returns-2 : tie.Need-returns-2
-unfolding nobody tab
+unfolding nobody tabulate
 returns-2 c = rw (c .enum-told2 .given .1)
 
 returns-3 : tie.Need-returns-3
-unfolding nobody tab
+unfolding nobody tabulate
 returns-3 c = rw (c .enum-told3 .given .1)
 
 returns-4 : tie.Need-returns-4
-unfolding nobody tab
+unfolding nobody tabulate
 returns-4 c = rw (c .enum-told4 .given .1)
 
 returns-5 : tie.Need-returns-5
-unfolding nobody tab
+unfolding nobody tabulate
 returns-5 c = rw (c .enum-told5 .given .1)
 
 pub overtaken-in-spec : {M : Type 1} → statement M

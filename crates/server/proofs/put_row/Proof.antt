@@ -3,13 +3,13 @@ use Prim.Native.Nat.{_≤_, _-_, _+_, _*_}
 use mathlib.Core.Path.{_∙_}
 use native.Mathlib.Omega.{arith}
 use borrow.Author.Needs.{needs}
-use Rattle.laws.specs.Tab.{HalfCol, col, half-at, half-more}
-use Rattle.server.specs.Record.{laid-end, laid-in, laid-none, laidAt}
+use Rattle.laws.specs.Columns.{HalfCol, numberAt, half-at, half-more}
+use Rattle.server.specs.Record.{laid-end, laid-in, laid-none, withRowAt}
 use Rattle.server.proofs.put_row.Statement.{statement}
 use Rattle.server.proofs.put_row.Tie as tie
 
 abbrev Inv-loop : tie.InvT-loop
-Inv-loop column₀ a x q₀ column q = HalfCol (laidAt column₀ a x) (col column₀) 256 (a * 16 + q) column × (q ≤ 16)
+Inv-loop column₀ a x q₀ column q = HalfCol (withRowAt column₀ a x) (numberAt column₀) 256 (a * 16 + q) column × (q ≤ 16)
 
 abbrev μ-loop : tie.MeasureT-loop
 μ-loop column₀ a x q₀ column q = 16 - q

@@ -3,13 +3,13 @@ use Prim.Native.Nat.{_≤_, _-_, _+_, _*_}
 use mathlib.Core.Path.{refl}
 use native.Mathlib.Omega.{arith}
 use borrow.Author.Needs.{needs}
-use Rattle.laws.specs.Tab.{Half, at, half-end, half-more, half-none, on}
+use Rattle.laws.specs.Columns.{Half, flagAt, half-end, half-more, half-none, isSet}
 use Rattle.server.specs.Record.{row}
 use Rattle.server.proofs.row_of.Statement.{statement}
 use Rattle.server.proofs.row_of.Tie as tie
 
 abbrev Inv-loop : tie.InvT-loop
-Inv-loop column a r₀ q₀ r q = Half (λ i. on column (a * 16 + i)) (at r₀) 16 q r × (q ≤ 16)
+Inv-loop column a r₀ q₀ r q = Half (λ i. isSet column (a * 16 + i)) (flagAt r₀) 16 q r × (q ≤ 16)
 
 abbrev μ-loop : tie.MeasureT-loop
 μ-loop column a r₀ q₀ r q = 16 - q

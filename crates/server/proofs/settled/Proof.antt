@@ -1,11 +1,11 @@
 -- `server::settled`: the two tests. Assumes nothing.
 use borrow.Author.Needs.{needs}
-use Rattle.server.specs.Change.{settle}
+use Rattle.server.specs.Change.{recordWith}
 use Rattle.server.proofs.settled.Statement.{statement}
 use Rattle.server.proofs.settled.Tie as tie
 
 returns : tie.Need-returns
-unfolding settle
+unfolding recordWith
 returns c = rw (c .before .has-some2 .ensures, c .before .before .has-some .ensures)
 
 pub settled-spec : {M : Type 1} → statement M

@@ -1,16 +1,16 @@
 -- `server::turn_on`: by the mode. Assumes nothing.
 use borrow.Author.Needs.{needs}
 use borrow.Author.Tests.{ne-eqb}
-use Rattle.server.specs.Flag.{turnedBy}
+use Rattle.server.specs.Flag.{activatedBy}
 use Rattle.server.proofs.turn_on.Statement.{statement}
 use Rattle.server.proofs.turn_on.Tie as tie
 
 returns : tie.Need-returns
-unfolding turnedBy
+unfolding activatedBy
 returns c = rw (c .if1 .taken)
 
 returns-2 : tie.Need-returns-2
-unfolding turnedBy
+unfolding activatedBy
 returns-2 c = rw (ne-eqb _ _ (c .before .if1 .left)) (c .plus .ensures)
 
 pub turn-on-spec : {M : Type 1} → statement M

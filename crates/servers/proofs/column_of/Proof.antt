@@ -3,13 +3,13 @@ use Prim.Native.Nat.{_≤_, _-_, _+_, _*_}
 use mathlib.Core.Path.{refl}
 use native.Mathlib.Omega.{arith}
 use borrow.Author.Needs.{needs}
-use Rattle.laws.specs.Tab.{Half, at, half-end, half-more, half-none, on}
-use Rattle.servers.specs.Moved.{columnOf}
+use Rattle.laws.specs.Columns.{Half, flagAt, half-end, half-more, half-none, isSet}
+use Rattle.servers.specs.Changed.{columnOf}
 use Rattle.servers.proofs.column_of.Statement.{statement}
 use Rattle.servers.proofs.column_of.Tie as tie
 
 abbrev Inv-loop : tie.InvT-loop
-Inv-loop column p r₀ a₀ r a = Half (λ i. on column (i * 16 + p)) (at r₀) 16 a r × (a ≤ 16)
+Inv-loop column p r₀ a₀ r a = Half (λ i. isSet column (i * 16 + p)) (flagAt r₀) 16 a r × (a ≤ 16)
 
 abbrev μ-loop : tie.MeasureT-loop
 μ-loop column p r₀ a₀ r a = 16 - a

@@ -1,11 +1,11 @@
 use borrow.Author.Needs.{needs}
-use Rattle.rules.specs.Asp.{activeDeed}
+use Rattle.rules.specs.Asp.{activeEffect}
 use Rattle.traffic.specs.Aims.{mode-is-other}
 use Rattle.traffic.proofs.active_work.Statement.{statement}
 use Rattle.traffic.proofs.active_work.Tie as tie
 
 returns : tie.Need-returns
-unfolding activeDeed
+unfolding activeEffect
 returns c = record { on = λ g h. rw (mode-is-other g _ _ h) (rw (c .before .other-mode .ensures) at (c .active-at .ensures)) }
 
 pub active-work-spec : {M : Type 1} → statement M

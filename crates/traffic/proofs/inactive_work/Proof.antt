@@ -1,10 +1,10 @@
-use Rattle.rules.specs.Asp.{inactiveDeed}
+use Rattle.rules.specs.Asp.{inactiveEffect}
 use borrow.Author.Needs.{needs}
 use Rattle.traffic.proofs.inactive_work.Statement.{statement}
 use Rattle.traffic.proofs.inactive_work.Tie as tie
 
 returns : tie.Need-returns
-unfolding inactiveDeed
+unfolding inactiveEffect
 returns c = rw (c .before .to-asp .ensures) at (c .change-one .ensures)
 
 pub inactive-work-spec : {M : Type 1} → statement M

@@ -1,5 +1,5 @@
 use Rattle.traffic.specs.Named.{refusedPars, refused-here, refused-later, Owners, owners-none, owners-more, owners-end}
-use Rattle.ranges.specs.Named.{isRefused, isOf}
+use Rattle.ranges.specs.Named.{isRefused, isOwnedBy}
 use Rattle.naming.specs.Laws.{names-found, names-none}
 use Rattle.ranges.specs.Laws.{Table}
 use Rattle.wire.proofs.Steps.{step-next, Next, pars-next, pars-stop}
@@ -14,7 +14,7 @@ use Rattle.traffic.proofs.named_of.Statement.{statement}
 use Rattle.traffic.proofs.named_of.Tie as tie
 
 abbrev Inv-loop : tie.InvT-loop
-Inv-loop s links member iid owner p set₀ at₀ set at = (refusedPars (isRefused iid owner member links p) (walk s at .pars) ≡ refusedPars (isRefused iid owner member links p) (walk s 8 .pars)) × Owners (isOf iid owner links) (walk s at .pars) (walk s 8 .pars) set × Table iid owner links × (p < 16)
+Inv-loop s links member iid owner p set₀ at₀ set at = (refusedPars (isRefused iid owner member links p) (walk s at .pars) ≡ refusedPars (isRefused iid owner member links p) (walk s 8 .pars)) × Owners (isOwnedBy iid owner links) (walk s at .pars) (walk s 8 .pars) set × Table iid owner links × (p < 16)
 
 abbrev μ-loop : tie.MeasureT-loop
 μ-loop s links member iid owner p set₀ at₀ set at = length s - at

@@ -1,4 +1,4 @@
-use Rattle.laws.specs.Tab.{at, col}
+use Rattle.laws.specs.Columns.{flagAt, numberAt}
 use Rattle.laws.specs.Below.{any-more, any-none, anyBelow, at-end}
 use lib.Dec.{eqb}
 use mathlib.Core.Bool.{not, _&&_}
@@ -10,7 +10,7 @@ use Rattle.traffic.proofs.some_other.Statement.{statement}
 use Rattle.traffic.proofs.some_other.Tie as tie
 
 abbrev Inv-loop : tie.InvT-loop
-Inv-loop mode m named found₀ a₀ found a = (found ≡ anyBelow (λ i. at named i && not (eqb (col mode i) m)) a) × (a ≤ 16)
+Inv-loop mode m named found₀ a₀ found a = (found ≡ anyBelow (λ i. flagAt named i && not (eqb (numberAt mode i) m)) a) × (a ≤ 16)
 
 abbrev μ-loop : tie.MeasureT-loop
 μ-loop mode m named found₀ a₀ found a = 16 - a

@@ -3,21 +3,21 @@ use mathlib.Core.Bool.{true}
 use mathlib.Core.List.{List}
 use Prim.Native.Nat.{ℕ}
 use lib.Dec.{eqb}
-use Rattle.laws.specs.Tab.{col}
+use Rattle.laws.specs.Columns.{numberAt}
 use borrow.Author.Needs.{needs}
 use borrow.Author.Tests.{eq-eqb}
 use Rattle.work.specs.Decides.{decisions}
-use Rattle.rules.specs.Asp.{trafficDeed}
+use Rattle.rules.specs.Asp.{trafficEffect}
 use Rattle.traffic.specs.Aims.{aims-on, aimed-refused, aimed-none, aimed-acts}
 use Rattle.traffic.proofs.traffic_work.Statement.{statement}
 use Rattle.traffic.proofs.traffic_work.Tie as tie
 
 -- the flag that the code asks is that of every state with its column
-up-on : (p : ℕ) {up column : List ℕ} → column ≡ up → col up p ≡ 1 → eqb (col column p) 1 ≡ true
+up-on : (p : ℕ) {up column : List ℕ} → column ≡ up → numberAt up p ≡ 1 → eqb (numberAt column p) 1 ≡ true
 up-on p e h = rw e (eq-eqb _ 1 h)
 
 returns : tie.Need-returns
-unfolding trafficDeed
+unfolding trafficEffect
 returns c = record { on = λ g h. rw (h .up-is) (search decisions depth 9) }
 
 returns-2 : tie.Need-returns-2

@@ -1,9 +1,9 @@
 use borrow.Author.Needs.{needs}
-use Rattle.links.proofs.order_and_reply.Statement.{statement}
-use Rattle.links.proofs.order_and_reply.Tie as tie
+use Rattle.links.proofs.send_and_reply.Statement.{statement}
+use Rattle.links.proofs.send_and_reply.Tie as tie
 
-pub order-and-reply-spec : {M : Type 1} → statement M
-order-and-reply-spec =
+pub send-and-reply-spec : {M : Type 1} → statement M
+send-and-reply-spec =
     tie.close
     (tie.spec
     (λ c κs. search needs)

@@ -10,39 +10,39 @@ use lib.Dec.{eqb}
 use lib.ListN.{length, getD, set, length-set}
 use lib.Seq.{ext-getD, getD-set-same, getD-set-other}
 
-abbrev pub at : List Bool → ℕ → Bool
-at l i = getD l i false
+abbrev pub flagAt : List Bool → ℕ → Bool
+flagAt l i = getD l i false
 
 module _ {A : Type 0} where
   -- f 0, f 1, .. below n
-  unfoldable pub tab : ℕ → (ℕ → A) → List A
-  tab zero f = []
-  tab (suc n) f = f zero ∷ tab n (λ i. f (suc i))
+  unfoldable pub tabulate : ℕ → (ℕ → A) → List A
+  tabulate zero f = []
+  tabulate (suc n) f = f zero ∷ tabulate n (λ i. f (suc i))
 
-  pub getD-tab : (n : ℕ) (f : ℕ → A) (i : ℕ) (d : A) → i < n → getD (tab n f) i d ≡ f i
-  unfolding tab
-  getD-tab zero f i d b = absurd (not-suc-le-zero b)
-  getD-tab (suc n) f zero d b = refl
-  getD-tab (suc n) f (suc i) d b = getD-tab n (λ k. f (suc k)) i d (omega arith)
+  pub getD-tabulate : (n : ℕ) (f : ℕ → A) (i : ℕ) (d : A) → i < n → getD (tabulate n f) i d ≡ f i
+  unfolding tabulate
+  getD-tabulate zero f i d b = absurd (not-suc-le-zero b)
+  getD-tabulate (suc n) f zero d b = refl
+  getD-tabulate (suc n) f (suc i) d b = getD-tabulate n (λ k. f (suc k)) i d (omega arith)
 
-  pub length-tab : (n : ℕ) (f : ℕ → A) → length (tab n f) ≡ n
-  unfolding tab
-  length-tab zero f = refl
-  length-tab (suc n) f = ap suc (length-tab n (λ k. f (suc k)))
+  pub length-tabulate : (n : ℕ) (f : ℕ → A) → length (tabulate n f) ≡ n
+  unfolding tabulate
+  length-tabulate zero f = refl
+  length-tabulate (suc n) f = ap suc (length-tabulate n (λ k. f (suc k)))
 
-  pub is-tab : (d : A) (l : List A) (n : ℕ) (f : ℕ → A) → length l ≡ n → ((i : ℕ) → i < n → getD l i d ≡ f i) → l ≡ tab n f
-  is-tab d l n f e h =
-      ext-getD d l (tab n f) (e ∙ sym (length-tab n f)) (λ i b. let g : i < n = omega arith in h i g ∙ sym (getD-tab n f i d g))
+  pub is-tabulate : (d : A) (l : List A) (n : ℕ) (f : ℕ → A) → length l ≡ n → ((i : ℕ) → i < n → getD l i d ≡ f i) → l ≡ tabulate n f
+  is-tabulate d l n f e h =
+      ext-getD d l (tabulate n f) (e ∙ sym (length-tabulate n f)) (λ i b. let g : i < n = omega arith in h i g ∙ sym (getD-tabulate n f i d g))
 
-  pub tab-ext : (d : A) (n : ℕ) (f g : ℕ → A) → ((i : ℕ) → i < n → f i ≡ g i) → tab n f ≡ tab n g
-  tab-ext d n f g h = is-tab d (tab n f) n g (length-tab n f) (λ i b. getD-tab n f i d b ∙ h i b)
+  pub tabulate-ext : (d : A) (n : ℕ) (f g : ℕ → A) → ((i : ℕ) → i < n → f i ≡ g i) → tabulate n f ≡ tabulate n g
+  tabulate-ext d n f g h = is-tabulate d (tabulate n f) n g (length-tabulate n f) (λ i b. getD-tabulate n f i d b ∙ h i b)
 
 -- a flag of a column: 1 is set
-abbrev pub on : List ℕ → ℕ → Bool
-on c i = eqb (getD c i 0) 1
+abbrev pub isSet : List ℕ → ℕ → Bool
+isSet c i = eqb (getD c i 0) 1
 
-abbrev pub col : List ℕ → ℕ → ℕ
-col c i = getD c i 0
+abbrev pub numberAt : List ℕ → ℕ → ℕ
+numberAt c i = getD c i 0
 
 module _ {A : Type 0} where
   -- of n places those below k hold f, the others g; d is only for the reading of a place
@@ -66,8 +66,8 @@ module _ {A : Type 0} where
       news i q (yes z) = rw z (getD-set-same l k v d (omega (arith, h .long)) ∙ e)
       news i q (no z) = getD-set-other l k i v d z ∙ h .new i (omega arith)
 
-  pub half-end : {d : A} {f g : ℕ → A} {n k : ℕ} {l : List A} → HalfOf d f g n k l → n ≤ k → l ≡ tab n f
-  half-end {d} {f} {g} {n} {k} {l} h b = is-tab d l n f (h .long) (λ i q. h .new i (omega arith))
+  pub half-end : {d : A} {f g : ℕ → A} {n k : ℕ} {l : List A} → HalfOf d f g n k l → n ≤ k → l ≡ tabulate n f
+  half-end {d} {f} {g} {n} {k} {l} h b = is-tabulate d l n f (h .long) (λ i q. h .new i (omega arith))
 
   pub half-at : {d : A} {f g : ℕ → A} {n j k : ℕ} {l : List A} → j ≡ k → HalfOf d f g n j l → HalfOf d f g n k l
   half-at e h = rw (sym e) h

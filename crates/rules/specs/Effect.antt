@@ -7,34 +7,34 @@ use Rattle.action.specs.declared.Action.{Action}
 use Rattle.action.specs.Words.{action}
 use Rattle.gateway.specs.declared.Gateway.{Gateway}
 use Rattle.server.specs.declared.Change.{Change}
-use Rattle.servers.specs.Moved.{moved, linked, allActions}
+use Rattle.servers.specs.Changed.{withChange, withLink, allActions}
 
-pub data Deed : Type 0 where
+pub data Effect : Type 0 where
   -- actions alone
-  say : List Action → Deed
+  send : List Action → Effect
   -- the link at an index comes to a state
-  turn : ℕ → ℕ → List Action → Deed
+  setLink : ℕ → ℕ → List Action → Effect
   -- replies, then a change in each of the flagged ASes, ascending, with its Notifies
-  change : List Action → Change → List Bool → Deed
+  changeIn : List Action → Change → List Bool → Effect
 
 -- replies first, then AS by AS upwards (Rule 8.3)
-abbrev pub actionsOf : Gateway → Deed → List Action
-actionsOf g (say os) = os
-actionsOf g (turn l v os) = os
-actionsOf g (change os k named) = os ++ allActions g k named
+abbrev pub actionsOf : Gateway → Effect → List Action
+actionsOf g (send os) = os
+actionsOf g (setLink l v os) = os
+actionsOf g (changeIn os k named) = os ++ allActions g k named
 
-abbrev pub stateAfter : Gateway → Deed → Gateway
-stateAfter g (say os) = g
-stateAfter g (turn l v os) = linked g l v
-stateAfter g (change os k named) = moved g k named
+abbrev pub stateAfter : Gateway → Effect → Gateway
+stateAfter g (send os) = g
+stateAfter g (setLink l v os) = withLink g l v
+stateAfter g (changeIn os k named) = withChange g k named
 
 -- one action
-abbrev pub sent : ℕ → ℕ → ℕ → ℕ → List Action
-sent q k s v = action q k s v ∷ []
+abbrev pub oneAction : ℕ → ℕ → ℕ → ℕ → List Action
+oneAction q k s v = action q k s v ∷ []
 
 -- An Error with its code; that of code 2 says which identifier was refused (Rule 8.4).
 abbrev pub error : ℕ → ℕ → List Action
-error p n = sent p 0 0 n
+error p n = oneAction p 0 0 n
 
 abbrev pub error2 : ℕ → ℕ → List Action
-error2 p x = sent p 0 x 2
+error2 p x = oneAction p 0 x 2

@@ -11,43 +11,43 @@ use native.Mathlib.Omega.{arith}
 use native.Mathlib.Decide.{ℕ-discrete}
 use borrow.Author.Tests.{eq-eqb, ne-eqb}
 use Rattle.laws.specs.Below.{one, concatBelow, concat-short}
-use Rattle.laws.specs.Tab.{at, on, col, tab, is-tab}
+use Rattle.laws.specs.Columns.{flagAt, isSet, numberAt, tabulate, is-tabulate}
 use Rattle.gateway.specs.Sound.{pair}
 use Rattle.gateway.specs.declared.Gateway.{Gateway}
 use Rattle.action.specs.declared.Action.{Action}
 use Rattle.server.specs.declared.AsRecord.{AsRecord}
 use Rattle.server.specs.declared.Change.{Change}
-use Rattle.server.specs.declared.Change.the-variants.{Rise, Fall, Off, On, Recover}
+use Rattle.server.specs.declared.Change.the-variants.{AspUp, AspDown, Deactivate, Activate, Recover}
 use Rattle.server.specs.Record.{recordOf}
 use Rattle.server.specs.Change.{after, fits}
 use Rattle.server.specs.Notify.{actionsIn, actionsIn-short}
 
 -- the ASes of ASP p, or those in which it is active
 unfoldable pub columnOf : List ℕ → ℕ → List Bool
-columnOf c p = tab 16 (λ a. on c (pair a p))
+columnOf c p = tabulate 16 (λ a. isSet c (pair a p))
 
 -- the column with x at place p
-unfoldable pub flagAt : List ℕ → ℕ → ℕ → List ℕ
-flagAt c p x = tab 16 (λ q. cond (eqb q p) x (col c q))
+unfoldable pub withFlag : List ℕ → ℕ → ℕ → List ℕ
+withFlag c p x = tabulate 16 (λ q. cond (eqb q p) x (numberAt c q))
 
 -- Up brings p up, Down and lost bring it down; nothing else changes an up flag
 abbrev pub upAfter : Change → List ℕ → List ℕ
-upAfter (Rise p) up = flagAt up p 1
-upAfter (Fall p) up = flagAt up p 0
-upAfter (Off p) up = up
-upAfter (On p) up = up
+upAfter (AspUp p) up = withFlag up p 1
+upAfter (AspDown p) up = withFlag up p 0
+upAfter (Deactivate p) up = up
+upAfter (Activate p) up = up
 upAfter Recover up = up
 
 -- place by place: the new record's where its AS is named, else as it was. `records` and the column are those before the event.
 unfoldable pub newActive : Change → List Bool → (ℕ → AsRecord) → List ℕ → ℕ → ℕ
 newActive k named records c i =
-    cond (at named (i / 16)) (one (at (after k (records (i / 16)) .acts) (i % 16))) (col c i)
+    cond (flagAt named (i / 16)) (one (flagAt (after k (records (i / 16)) .acts) (i % 16))) (numberAt c i)
 
 unfoldable pub newWaiting : Change → List Bool → (ℕ → AsRecord) → List ℕ → ℕ → ℕ
-newWaiting k named records c a = cond (at named a) (one (after k (records a) .waiting)) (col c a)
+newWaiting k named records c a = cond (flagAt named a) (one (after k (records a) .waiting)) (numberAt c a)
 
-unfoldable pub moved : Gateway → Change → List Bool → Gateway
-moved g k named =
+unfoldable pub withChange : Gateway → Change → List Bool → Gateway
+withChange g k named =
     record {
       asps = g .asps;
       ases = g .ases;
@@ -55,17 +55,17 @@ moved g k named =
       aspid = g .aspid;
       up = upAfter k (g .up);
       member = g .member;
-      active = tab 256 (newActive k named (recordOf g) (g .active));
+      active = tabulate 256 (newActive k named (recordOf g) (g .active));
       mode = g .mode;
-      waiting = tab 16 (newWaiting k named (recordOf g) (g .waiting));
+      waiting = tabulate 16 (newWaiting k named (recordOf g) (g .waiting));
       iid = g .iid;
       owner = g .owner;
       state = g .state;
     }
 
 -- the gateway with the link at an index in a state
-abbrev pub linked : Gateway → ℕ → ℕ → Gateway
-linked g l v =
+abbrev pub withLink : Gateway → ℕ → ℕ → Gateway
+withLink g l v =
     record {
       asps = g .asps;
       ases = g .ases;
@@ -82,7 +82,7 @@ linked g l v =
     }
 
 unfoldable pub actionsAt : Change → List Bool → (ℕ → AsRecord) → ℕ → List Action
-actionsAt k named records a = actionsIn (at named a) k a (records a)
+actionsAt k named records a = actionsIn (flagAt named a) k a (records a)
 
 -- AS by AS upwards (Rule 8.3)
 unfoldable pub allActions : Gateway → Change → List Bool → List Action
@@ -91,11 +91,11 @@ allActions g k named = concatBelow (actionsAt k named (recordOf g)) 16
 -- ---- laws
 
 -- one place of an array set
-pub flagAt-set : (c : List ℕ) (p x : ℕ) → length c ≡ 16 → set c p x ≡ flagAt c p x
-unfolding flagAt
-flagAt-set c p x e = is-tab 0 (set c p x) 16 (λ q. cond (eqb q p) x (col c q)) (length-set c p x ∙ e) (λ q b. go q b (ℕ-discrete q p))
+pub flagAt-set : (c : List ℕ) (p x : ℕ) → length c ≡ 16 → set c p x ≡ withFlag c p x
+unfolding withFlag
+flagAt-set c p x e = is-tabulate 0 (set c p x) 16 (λ q. cond (eqb q p) x (numberAt c q)) (length-set c p x ∙ e) (λ q b. go q b (ℕ-discrete q p))
   where
-    go : (q : ℕ) → q < 16 → Dec (q ≡ p) → col (set c p x) q ≡ cond (eqb q p) x (col c q)
+    go : (q : ℕ) → q < 16 → Dec (q ≡ p) → numberAt (set c p x) q ≡ cond (eqb q p) x (numberAt c q)
     go q b (yes z) = rw (eq-eqb q p z, z) (getD-set-same c p x 0 (omega arith))
     go q b (no z) = rw (ne-eqb q p z) (getD-set-other c p q x 0 z)
 
@@ -103,7 +103,7 @@ flagAt-set c p x e = is-tab 0 (set c p x) 16 (λ q. cond (eqb q p) x (col c q)) 
 
 pub actionsAt-short : (k : Change) (named : List Bool) (records : ℕ → AsRecord) → fits k ≡ true → (a : ℕ) → length (actionsAt k named records a) ≤ 16
 unfolding actionsAt
-actionsAt-short k named records h a = actionsIn-short (at named a) k a (records a) h
+actionsAt-short k named records h a = actionsIn-short (flagAt named a) k a (records a) h
 
 pub allActions-short : (g : Gateway) (k : Change) (named : List Bool) → fits k ≡ true → length (allActions g k named) ≤ 256
 unfolding allActions

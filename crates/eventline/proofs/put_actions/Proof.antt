@@ -1,8 +1,8 @@
 use borrow.Author.Needs.{needs}
 use Prim.Native.Nat.{_≤_, _-_, _+_, _*_}
 use lib.ListN.{length}
-use Rattle.eventline.proofs.put_orders.Statement.{statement}
-use Rattle.eventline.proofs.put_orders.Tie as tie
+use Rattle.eventline.proofs.put_actions.Statement.{statement}
+use Rattle.eventline.proofs.put_actions.Tie as tie
 
 abbrev Inv-loop : tie.InvT-loop
 Inv-loop out₀ from list n at₀ i₀ out at i = (i ≤ n) × (at ≤ from + 46 * i) × (from + 11868 ≤ 65536) × (n ≤ 258) × (4 * n ≤ length list)
@@ -10,8 +10,8 @@ Inv-loop out₀ from list n at₀ i₀ out at i = (i ≤ n) × (at ≤ from + 46
 abbrev μ-loop : tie.MeasureT-loop
 μ-loop out₀ from list n at₀ i₀ out at i = n - i
 
-pub put-orders-spec : {M : Type 1} → statement M
-put-orders-spec =
+pub put-actions-spec : {M : Type 1} → statement M
+put-actions-spec =
     tie.close
     (tie.spec
     Inv-loop μ-loop (λ c. search needs) (λ c. search needs) (λ c. search needs) (λ c. search needs) (λ c. search needs) (λ c. search needs)
