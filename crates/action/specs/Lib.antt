@@ -1,2 +1,3 @@
 pub mod Words
 pub mod Types
+pub mod Inner

@@ -3,7 +3,8 @@ ghost use mathlib.Core.Path.{_≡_};
 ghost use Prim.Native.Nat.{_+_, _*_, _≤_};
 ghost use lib.ListN.{length};
 ghost use Rattle.laws.specs.Below.{when};
-ghost use Rattle.action.specs.Words.{putAt, Written, toAll};
+ghost use Rattle.action.specs.Words.{toAll};
+ghost use Rattle.action.specs.Inner.Words.{putAt, Written};
 
 // A Notify (0.1), and its status that another ASP has become active in an AS: type 2, information 2 (Rule 8.5).
 pub const NOTIFY: u32 = 1;

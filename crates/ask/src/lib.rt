@@ -3,7 +3,8 @@ use message::Reading;
 ghost use mathlib.Core.Path.{_≡_};
 ghost use mathlib.Core.Bool.{true};
 ghost use Prim.Native.Nat.{_≤_};
-ghost use Rattle.gateway.specs.Sound.{ascends, isSoundOf};
+ghost use Rattle.gateway.specs.Sound.{ascends};
+ghost use Rattle.gateway.specs.Inner.Sound.{isSoundOf};
 ghost use Rattle.rules.specs.Rules.{refusalOf};
 ghost use Rattle.ask.specs.Inner.Ask.{askKnown, askOf, Asks};
 

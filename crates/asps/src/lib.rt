@@ -16,7 +16,7 @@ ghost use Rattle.servers.specs.Changed.{columnOf};
 ghost use Rattle.server.specs.declared.Change.the-variants.{AspUp, Recover};
 ghost use Rattle.rules.specs.Effect.{changeIn};
 ghost use Rattle.rules.specs.Asp.{upEffect, downEffect, lostEffect};
-ghost use Rattle.work.specs.Decides.{Decides, DecidesOn};
+ghost use Rattle.work.specs.Inner.Decides.{Decides, DecidesOn};
 
 // AS a alone.
 pub fn only(a: usize) -> [bool; 16]

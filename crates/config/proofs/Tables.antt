@@ -6,7 +6,8 @@ use mathlib.Core.List.{List}
 use native.Mathlib.Omega.{arith}
 use native.Mathlib.Nat.{not-suc-le-zero}
 use lib.ListN.{replicate, length-replicate, getD-replicate}
-use Rattle.laws.specs.Columns.{numberAt, HalfCol, getD-tabulate}
+use Rattle.laws.specs.Columns.{numberAt}
+use Rattle.laws.specs.Inner.Columns.{HalfCol, getD-tabulate}
 use Rattle.config.specs.Plan.{bit, high}
 use Rattle.config.specs.Inner.Tables.{highs}
 

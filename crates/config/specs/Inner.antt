@@ -1,1 +1,4 @@
 pub mod Tables
+pub mod Fresh
+pub mod Laws
+pub mod Layout

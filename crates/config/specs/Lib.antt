@@ -1,5 +1,2 @@
-pub mod Fresh
-pub mod Laws
-pub mod Layout
 pub mod Plan
 pub mod Inner

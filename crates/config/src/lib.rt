@@ -5,9 +5,10 @@ ghost use Prim.Native.Nat.{_+_, _*_, _<_, _≤_};
 ghost use lib.Dec.{leb, ltb, eqb};
 ghost use lib.ListN.{length};
 ghost use Rattle.laws.specs.Below.{allBelow};
-ghost use Rattle.laws.specs.Columns.{numberAt, HalfCol};
+ghost use Rattle.laws.specs.Columns.{numberAt};
+ghost use Rattle.laws.specs.Inner.Columns.{HalfCol};
 ghost use Rattle.config.specs.Plan.{offset, count, layoutOk, column, asWords, linkWords, rowsOk, bit, bitsFrom, high, low, members, fresh, accepted, built, loadOf};
-ghost use Rattle.config.specs.Layout.{Inside, placesOf};
+ghost use Rattle.config.specs.Inner.Layout.{Inside, placesOf};
 ghost use Rattle.config.specs.Inner.Tables.{wordOf, RowsIn, AllIn, highs, lows};
 use gateway::Gateway;
 

@@ -1,1 +1,1 @@
-pub mod Other
+pub mod Inner

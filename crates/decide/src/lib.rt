@@ -3,12 +3,12 @@ use message::Reading;
 use rules::Decision;
 ghost use mathlib.Core.Path.{_≡_};
 ghost use Prim.Native.Nat.{_<_};
-ghost use Rattle.ranges.specs.Laws.{Table};
+ghost use Rattle.ranges.specs.Inner.Laws.{Table};
 ghost use Rattle.rules.specs.Rules.{isError, fromAsp};
 ghost use Rattle.rules.specs.Link.{classSixEffect};
-ghost use Rattle.work.specs.Decides.{DecidesOn};
-ghost use Rattle.links.specs.Six.{SixColumns};
-ghost use Rattle.decide.specs.Other.{otherTree, otherEffect, typeIn};
+ghost use Rattle.work.specs.Inner.Decides.{DecidesOn};
+ghost use Rattle.links.specs.Inner.Six.{SixColumns};
+ghost use Rattle.decide.specs.Inner.Other.{otherTree, otherEffect, typeIn};
 
 // Whether a message is an Error (Rule 7.2).
 pub fn is_error(s: &[u8]) -> bool

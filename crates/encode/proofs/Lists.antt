@@ -15,7 +15,7 @@ use Rattle.message.specs.Verdict.{most}
 use Rattle.put.specs.Bytes.{par, parSize, parBytes, parsBytes}
 use Rattle.put.proofs.Round.{length-par}
 use Rattle.encode.specs.Encode.{total, parsIn, tagsOf, lensOf, valuesOf}
-use Rattle.encode.specs.Write.{sizes, sizeIf, Lent, Sized}
+use Rattle.encode.specs.Inner.Write.{sizes, sizeIf, Lent, Sized}
 
 -- what is left of the list at the index i, with the values from the position at on
 abbrev pub left : List ℕ → List ℕ → List ℕ → ℕ → ℕ → List Par

@@ -10,7 +10,8 @@ use lib.ListN.{length, getD, take, drop, replicate, length-drop, length-replicat
 use lib.Seq.{length-take-le, getD-take, getD-drop}
 use lib.Dec.{ltb, leb}
 use borrow.Author.Tests.{le-leb, lt-leb, lt-ltb, le-ltb, leb-true}
-use Rattle.laws.specs.Columns.{tabulate, is-tabulate, tabulate-ext}
+use Rattle.laws.specs.Columns.{tabulate}
+use Rattle.laws.specs.Inner.Columns.{is-tabulate, tabulate-ext}
 use Rattle.wire.specs.Number.{be}
 use Rattle.wire.specs.Walk.{Par, Walk, walk, stepAt, padded}
 use Rattle.wire.specs.declared.Step.{Step}

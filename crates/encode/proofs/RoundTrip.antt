@@ -8,7 +8,8 @@ use native.Mathlib.Omega.{arith}
 use lib.ListN.{length, getD, take}
 use lib.Dec.{eqb}
 use borrow.Author.Tests.{eq-eqb, ne-eqb, le-ltb, ltb-false, eqb-true}
-use Rattle.laws.specs.Columns.{tabulate, length-tabulate, tabulate-ext}
+use Rattle.laws.specs.Columns.{tabulate}
+use Rattle.laws.specs.Inner.Columns.{length-tabulate, tabulate-ext}
 use Rattle.wire.specs.Number.{be}
 use Rattle.wire.specs.Walk.{Par, Walk, walk}
 use Rattle.wire.proofs.Number.{be-two, be-four}

@@ -18,7 +18,7 @@ use Rattle.message.specs.Verdict.{most, check1, check2, check3, check4, check5,
 use Rattle.put.specs.Bytes.{headBytes, parsBytes}
 use Rattle.put.proofs.Round.{be-two-in, walk-written, pars-multiple}
 use Rattle.encode.specs.Encode.{sizeOf, encode, total, parsIn, whole}
-use Rattle.encode.specs.Write.{sizes, sizeIf, rowCode, listVerdict}
+use Rattle.encode.specs.Inner.Write.{sizes, sizeIf, rowCode, listVerdict}
 use Rattle.encode.proofs.Lists.{length-list}
 
 -- a check that applies decides

@@ -15,7 +15,8 @@ use Rattle.laws.specs.Choice.{_orElse_, _if_}
 use Rattle.message.specs.Verdict.{verdict}
 use Rattle.put.specs.Bytes.{overlay, headBytes, parsBytes}
 use Rattle.encode.specs.Encode.{sizeOf, encode, parsIn, whole}
-use Rattle.encode.specs.Write.{sizeIf, listVerdict, roomCode, writeCode, Sized, Fits, Emits, Writes}
+use Rattle.encode.specs.Write.{writeCode, Writes}
+use Rattle.encode.specs.Inner.Write.{sizeIf, listVerdict, roomCode, Sized, Fits, Emits}
 use Rattle.encode.specs.declared.Written.{Written}
 use Rattle.encode.proofs.Lists.{size-some}
 use Rattle.encode.proofs.Verdicts.{length-encode, size-list, list-verdict}

@@ -1,3 +1,4 @@
 pub mod Encode
 pub mod Write
 pub mod RoundTrip
+pub mod Inner

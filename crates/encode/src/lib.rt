@@ -10,10 +10,11 @@ ghost use mathlib.Core.Path.{_≡_};
 ghost use Prim.Native.Nat.{_+_, _≤_, _<_};
 ghost use lib.ListN.{length};
 ghost use Rattle.parameter.specs.Table.{table, hasClass, rowIn};
-ghost use Rattle.parameter.specs.Slot.{infoOf};
+ghost use Rattle.parameter.specs.Inner.Slot.{infoOf};
 ghost use Rattle.put.specs.Bytes.{overlay, parsBytes};
 ghost use Rattle.encode.specs.Encode.{encode, parsIn};
-ghost use Rattle.encode.specs.Write.{sizeIf, Lent, Fits, rowCode, listVerdict, roomCode, Emits, Writes};
+ghost use Rattle.encode.specs.Write.{Writes};
+ghost use Rattle.encode.specs.Inner.Write.{sizeIf, Lent, Fits, rowCode, listVerdict, roomCode, Emits};
 
 // The refusal of a buffer that is short.
 const SHORT_BUFFER: u32 = 103;

@@ -1,3 +1,1 @@
-pub mod Perform
-pub mod Decision
-pub mod Columns
+pub mod Inner

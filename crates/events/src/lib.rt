@@ -6,15 +6,15 @@ use rules::Outcome;
 ghost use mathlib.Core.Path.{_≡_};
 ghost use Prim.Native.Nat.{_<_, _≤_};
 ghost use lib.ListN.{length};
-ghost use Rattle.action.specs.Words.{Written};
-ghost use Rattle.ranges.specs.Laws.{Table};
+ghost use Rattle.action.specs.Inner.Words.{Written};
+ghost use Rattle.ranges.specs.Inner.Laws.{Table};
 ghost use Rattle.rules.specs.Entry.{MeetsRules};
-ghost use Rattle.rules.specs.Decision.{firstActions, spread, effectIn};
-ghost use Rattle.work.specs.Decides.{aspOf, DecidesOn};
+ghost use Rattle.rules.specs.Inner.Decision.{firstActions, spread, effectIn};
+ghost use Rattle.work.specs.Inner.Decides.{aspOf, DecidesOn};
 ghost use Rattle.ask.specs.Happened.{happened, event};
 ghost use Rattle.ask.specs.Inner.Ask.{askEffect, AskFits};
-ghost use Rattle.events.specs.Columns.{AskColumns};
-ghost use Rattle.events.specs.Decision.{firstOf, AsesColumns, EnactedOn, linkAfter};
+ghost use Rattle.events.specs.Inner.Columns.{AskColumns};
+ghost use Rattle.events.specs.Inner.Decision.{firstOf, AsesColumns, EnactedOn, linkAfter};
 
 // ---- what is done
 

@@ -6,7 +6,7 @@ use mathlib.Core.Bool.{true, _&&_}
 use mathlib.Core.List.{List}
 use lib.Dec.{eqb}
 use borrow.Author.Tests.{lt-ltb, le-ltb}
-use Rattle.laws.specs.Below.{all-more, all-of}
+use Rattle.laws.specs.Inner.Below.{all-more, all-of}
 use Rattle.laws.specs.Columns.{numberAt}
 use Rattle.gateway.specs.Sound.{blankFrom}
 

@@ -1,3 +1,3 @@
 pub mod Laws
 pub mod Sound
-pub mod Rows
+pub mod Inner

@@ -118,25 +118,6 @@ isSound g =
     && (soundAses (g .up) (g .member) (g .active) (g .mode) (g .waiting) (g .asps) (g .ases)
     && soundLinks (g .iid) (g .owner) (g .state) (g .ases) (g .links)))
 
--- the same of the columns that a state lends
-abbrev pub isSoundOf : ℕ → ℕ → ℕ → List ℕ → List ℕ → List ℕ → List ℕ → List ℕ → List ℕ → List ℕ → List ℕ → List ℕ → Bool
-isSoundOf asps ases links aspid up member active mode waiting iid owner state =
-    isSound
-    (record {
-      asps = asps;
-      ases = ases;
-      links = links;
-      aspid = aspid;
-      up = up;
-      member = member;
-      active = active;
-      mode = mode;
-      waiting = waiting;
-      iid = iid;
-      owner = owner;
-      state = state;
-    })
-
 -- ---- the state that comes with a refused plan (Rule 4.7)
 
 unfoldable pub zeros : Gateway

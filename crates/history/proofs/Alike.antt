@@ -8,17 +8,19 @@ use Prim.Native.Nat.{ℕ, _+_, _*_, _%_, _<_}
 use native.Mathlib.Omega.{arith}
 use lib.Dec.{eqb, ltb}
 use borrow.Author.Tests.{ltb-true, eq-eqb, not-false}
-use Rattle.laws.specs.Below.{any-ext, countBelow}
-use Rattle.laws.specs.Count.{count-ext}
-use Rattle.laws.specs.Every.{and-left, and-right, and-both}
-use Rattle.laws.specs.Columns.{isSet, numberAt, tabulate-ext}
+use Rattle.laws.specs.Below.{countBelow}
+use Rattle.laws.specs.Inner.Below.{any-ext}
+use Rattle.laws.specs.Inner.Count.{count-ext}
+use Rattle.laws.specs.Inner.Every.{and-left, and-right, and-both}
+use Rattle.laws.specs.Columns.{isSet, numberAt}
+use Rattle.laws.specs.Inner.Columns.{tabulate-ext}
 use Rattle.wire.specs.Walk.{Par, walk}
 use Rattle.message.specs.Verdict.{verdict}
 use Rattle.message.specs.Meaning.{readingOf}
 use Rattle.message.specs.declared.Reading.{Reading}
 use Rattle.gateway.specs.Sound.{pair, isSound}
 use Rattle.gateway.specs.Sound as sound
-use Rattle.gateway.specs.Laws.{active-is-member, counts-within}
+use Rattle.gateway.specs.Inner.Laws.{active-is-member, counts-within}
 use Rattle.gateway.specs.declared.Gateway.{Gateway}
 use Rattle.lookup.specs.Servers.{receives, before}
 use Rattle.ranges.specs.declared.Refused.{Refused}
@@ -32,9 +34,9 @@ use Rattle.rules.specs.Asp.{asesOf, activeIn, upEffect, downEffect, lostEffect,
 use Rattle.rules.specs.Link.{linkEffect, classSixEffect, recipientsOf, toRecipients, linkUpEffect, linkDownEffect, linkMessageEffect, starting, idle, inService, stopping}
 use Rattle.rules.specs.Rules.{isError, classTypeOf, fromAsp, fromLink, readEffect, messageEffect, effectOf, inPlan}
 use Rattle.rules.specs.Reach.{ownsId, readReach, messageReach, kindReach, fromController}
-use Rattle.history.specs.Local.{false-of}
+use Rattle.history.specs.Inner.Local.{false-of}
 use Rattle.history.proofs.Bits.{clash, cond-same, cond-both}
-use Rattle.servers.specs.Records.{column-at}
+use Rattle.servers.specs.Inner.Records.{column-at}
 use Rattle.history.proofs.Servers.{dyn, same-record}
 use Rattle.history.proofs.Within.{Reaches, known-below, owner-in, member-in, asps-16, reach-up, reach-six, neither}
 

@@ -10,18 +10,19 @@ use lib.Dec.{eqb, ltb}
 use lib.ListN.{length, drop, length-set}
 use lib.Seq.{ext-getD, getD-set-other}
 use borrow.Author.Tests.{ltb-true, lt-ltb, eqb-true}
-use Rattle.laws.specs.Below.{anyBelow, any-at, any-in, one}
-use Rattle.laws.specs.Every.{and-left, and-right, and-both}
+use Rattle.laws.specs.Below.{anyBelow, one}
+use Rattle.laws.specs.Inner.Below.{any-at, any-in}
+use Rattle.laws.specs.Inner.Every.{and-left, and-right, and-both}
 use Rattle.laws.specs.Columns.{flagAt, numberAt}
 use Rattle.gateway.specs.Sound.{pair, isSound}
-use Rattle.gateway.specs.Laws.{counts-within}
+use Rattle.gateway.specs.Inner.Laws.{counts-within}
 use Rattle.gateway.specs.declared.Gateway.{Gateway}
 use Rattle.action.specs.declared.Action.{Action}
 use Rattle.action.specs.Words.{wordsOf}
 use Rattle.server.specs.declared.Change.{Change}
 use Rattle.server.specs.Change.{after}
 use Rattle.servers.specs.Changed.{withChange}
-use Rattle.servers.specs.Records.{moves, active-new, active-kept, waiting-new, waiting-kept, up-kept}
+use Rattle.servers.specs.Inner.Records.{moves, active-new, active-kept, waiting-new, waiting-kept, up-kept}
 use Rattle.rules.specs.Event.{Event}
 use Rattle.rules.specs.Identifiers.{ownerAt, isMember}
 use Rattle.rules.specs.Effect.{Effect, send, setLink, changeIn, actionsOf, stateAfter}
@@ -29,8 +30,8 @@ use Rattle.rules.specs.Rules.{effectOf, inPlan, refusalOf, refusal}
 use Rattle.rules.specs.Reach.{kindReach, reach, fromController}
 use Rattle.rules.specs.Entry.{actions, next}
 use Rattle.rules.specs.Inner.Accepted.{accepted}
-use Rattle.history.specs.Trade.{Commute}
-use Rattle.history.specs.Local.{false-of, Local, Agree, Apart, commutes}
+use Rattle.history.specs.Inner.Trade.{Commute}
+use Rattle.history.specs.Inner.Local.{false-of, Local, Agree, Apart, commutes}
 use Rattle.history.specs.History.{rulesAnswer, Independent}
 use Rattle.history.proofs.Bits.{clash, or-left, or-right, or-case, set-same, ext-front, cond-yes, cond-no}
 use Rattle.history.proofs.Servers.{dyn, same-actions, same-up, remakesUp, up-length, up-drop, change-up, change-state, active-length, active-drop, waiting-length, waiting-drop}

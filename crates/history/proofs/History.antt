@@ -9,9 +9,10 @@ use lib.Dec.{eqb, ltb}
 use lib.ListN.{length, take, drop, replicate, length-replicate}
 use lib.Seq.{take-at}
 use borrow.Author.Tests.{not-true, eq-eqb, eqb-true, ltb-true}
-use Rattle.laws.specs.Every.{and-left, and-right}
+use Rattle.laws.specs.Inner.Every.{and-left, and-right}
 use Rattle.action.specs.declared.Action.{Action}
-use Rattle.action.specs.Words.{wordsOf, length-wordsOf}
+use Rattle.action.specs.Words.{wordsOf}
+use Rattle.action.specs.Inner.Words.{length-wordsOf}
 use Rattle.message.specs.Verdict.{verdict}
 use Rattle.message.specs.Meaning.{readingOf}
 use Rattle.gateway.specs.declared.Gateway.{Gateway}
@@ -23,7 +24,8 @@ use Rattle.rules.specs.Entry.{actions, next, MeetsRules}
 use Rattle.rules.specs.Inner.Few.{few-actions}
 use Rattle.rules.specs.Samples.{g₁, takes, comesUp}
 use Rattle.rules.proofs.Samples.{reach-apart}
-use Rattle.history.specs.Trade.{swaps, outs, last, Commute, traded-outs, traded-last}
+use Rattle.history.specs.Trade.{swaps, outs, last}
+use Rattle.history.specs.Inner.Trade.{Commute, traded-outs, traded-last}
 use Rattle.history.specs.History.{Call, events, Calls, none, call, answer, rulesAnswer, reaches, Independent, Untouched, Outside, Statement, isUp, ReachOfUp, Rooms, Made, TradesExist}
 use Rattle.history.proofs.Frame.{Plan, planOf, plan, wait, act, line, up, untouched, not-mine, not-reached, reach-next, free-commute}
 use Rattle.history.proofs.Keeps.{keeps}

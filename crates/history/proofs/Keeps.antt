@@ -5,16 +5,16 @@ use mathlib.Core.Bool.{Bool, true, false}
 use mathlib.Core.List.{List}
 use Prim.Native.Nat.{ℕ, _<_}
 use lib.Dec.{ltb}
-use Rattle.laws.specs.Every.{and-left, and-both}
+use Rattle.laws.specs.Inner.Every.{and-left, and-both}
 use Rattle.laws.specs.Columns.{flagAt, isSet}
 use Rattle.gateway.specs.Sound.{pair, isSound}
 use Rattle.gateway.specs.declared.Gateway.{Gateway}
 use Rattle.server.specs.declared.Change.{Change}
 use Rattle.server.specs.declared.Change.the-variants.{AspUp, AspDown, Deactivate, Activate, Recover}
 use Rattle.server.specs.Record.{recordFrom, recordOf}
-use Rattle.servers.specs.Records.{ups-at}
-use Rattle.keeps.specs.Good.{Allowed}
-use Rattle.keeps.specs.Keeps.{InPlan, keeps as keeps-change, keeps-link}
+use Rattle.servers.specs.Inner.Records.{ups-at}
+use Rattle.keeps.specs.Inner.Good.{Allowed}
+use Rattle.keeps.specs.Inner.Keeps.{InPlan, keeps as keeps-change, keeps-link}
 use Rattle.rules.specs.Event.{Event}
 use Rattle.rules.specs.Effect.{Effect, send, setLink, changeIn, stateAfter}
 use Rattle.rules.specs.Reach.{kindReach, fromController}

@@ -7,8 +7,9 @@ use Prim.Native.Nat.{ℕ, _<_}
 use native.Mathlib.Omega.{arith}
 use lib.ListN.{length, drop, drop-of-length-le}
 use lib.Dec.{eqb}
-use Rattle.laws.specs.Below.{concat-ext}
-use Rattle.laws.specs.Columns.{flagAt, isSet, numberAt, tabulate, length-tabulate, tabulate-ext}
+use Rattle.laws.specs.Inner.Below.{concat-ext}
+use Rattle.laws.specs.Columns.{flagAt, isSet, numberAt, tabulate}
+use Rattle.laws.specs.Inner.Columns.{length-tabulate, tabulate-ext}
 use Rattle.gateway.specs.Sound.{pair}
 use Rattle.gateway.specs.declared.Gateway.{Gateway}
 use Rattle.server.specs.declared.Change.{Change}
@@ -16,7 +17,7 @@ use Rattle.server.specs.declared.Change.the-variants.{AspUp, AspDown, Deactivat
 use Rattle.server.specs.Record.{row, membersUp, recordFrom, recordOf}
 use Rattle.server.specs.Notify.{actionsIn}
 use Rattle.servers.specs.Changed.{withFlag, newActive, newWaiting, upAfter, withChange, actionsAt, allActions}
-use Rattle.servers.specs.Records.{flag-at}
+use Rattle.servers.specs.Inner.Records.{flag-at}
 use Rattle.history.proofs.Bits.{and-cong}
 
 -- the gateway g with other contents where events change it

@@ -8,15 +8,17 @@ use native.Mathlib.Omega.{arith}
 use native.Mathlib.Decide.{decLt}
 use lib.Dec.{eqb, ltb}
 use borrow.Author.Tests.{lt-ltb, le-ltb, ltb-true, eqb-true, eq-eqb, not-false}
-use Rattle.laws.specs.Below.{any-at, firstBelow}
-use Rattle.laws.specs.Every.{and-left, and-right, and-both}
-use Rattle.laws.specs.Columns.{flagAt, isSet, numberAt, tabulate, getD-tabulate}
+use Rattle.laws.specs.Below.{firstBelow}
+use Rattle.laws.specs.Inner.Below.{any-at}
+use Rattle.laws.specs.Inner.Every.{and-left, and-right, and-both}
+use Rattle.laws.specs.Columns.{flagAt, isSet, numberAt, tabulate}
+use Rattle.laws.specs.Inner.Columns.{getD-tabulate}
 use Rattle.wire.specs.Walk.{Par, walk}
 use Rattle.message.specs.Verdict.{verdict}
 use Rattle.message.specs.Meaning.{readingOf}
 use Rattle.message.specs.declared.Reading.{Reading}
 use Rattle.gateway.specs.Sound.{pair, isSound}
-use Rattle.gateway.specs.Laws.{counts-within, owner-within, member-within}
+use Rattle.gateway.specs.Inner.Laws.{counts-within, owner-within, member-within}
 use Rattle.gateway.specs.declared.Gateway.{Gateway}
 use Rattle.lookup.specs.Links.{indexOf, known}
 use Rattle.ranges.specs.Named.{ownerOf, isRefused, isOwnedBy, span, nothing, refusing, firstIn, someIn, startAt, stopAt, entries, firstOf, refusedEntry, refusedIn, someEntry, someOf}
@@ -25,7 +27,7 @@ use Rattle.action.specs.declared.Action.{Action}
 use Rattle.server.specs.declared.Change.{Change}
 use Rattle.server.specs.declared.Change.the-variants.{AspUp, AspDown, Deactivate, Activate, Recover}
 use Rattle.server.specs.Record.{some}
-use Rattle.servers.specs.Records.{moves, NamesOwn, names-own, column-at}
+use Rattle.servers.specs.Inner.Records.{moves, NamesOwn, names-own, column-at}
 use Rattle.rules.specs.Event.{EventKind, message, lost, recovery, linkUp, linkDown, linkMessage}
 use Rattle.rules.specs.Identifiers.{isIds, firstRefused, ownsNamed, ownersNamed, isKnown, linkOf, ownerAt, isMember, isActive}
 use Rattle.rules.specs.Effect.{Effect, send, setLink, changeIn}
@@ -33,7 +35,7 @@ use Rattle.rules.specs.Asp.{asesOf, upEffect, downEffect, lostEffect, otherMode
 use Rattle.rules.specs.Link.{starting, inService, stopping, idle, establish, release, dataEffect, linkEffect, classSixEffect, linkUpEffect, linkDownEffect, linkMessageEffect}
 use Rattle.rules.specs.Rules.{isError, classTypeOf, fromAsp, readEffect, messageEffect, effectOf, inPlan}
 use Rattle.rules.specs.Reach.{ownsId, readReach, messageReach, kindReach, fromController}
-use Rattle.history.specs.Local.{false-of}
+use Rattle.history.specs.Inner.Local.{false-of}
 use Rattle.history.proofs.Bits.{clash, or-left, or-right, or-case, by-cond}
 
 -- what a change needs to leave a sound state so

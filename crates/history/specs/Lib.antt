@@ -1,3 +1,3 @@
 pub mod Trade
-pub mod Local
 pub mod History
+pub mod Inner

@@ -1,3 +1,1 @@
-pub mod Six
-pub mod Side
-pub mod Recipients
+pub mod Inner

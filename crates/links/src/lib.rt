@@ -8,14 +8,14 @@ ghost use Prim.Native.Nat.{_<_, _≤_};
 ghost use lib.Dec.{eqb};
 ghost use Rattle.action.specs.Words.{action, linkSide, toAll};
 ghost use Rattle.gateway.specs.Sound.{ascends};
-ghost use Rattle.ranges.specs.Laws.{Table};
+ghost use Rattle.ranges.specs.Inner.Laws.{Table};
 ghost use Rattle.rules.specs.Link.{establish, release, dataEffect, linkEffect, classSixEffect, linkUpEffect, linkDownEffect, linkMessageEffect};
 ghost use Rattle.rules.specs.Effect.{send, setLink};
 ghost use Rattle.rules.specs.Rules.{fromLink};
-ghost use Rattle.work.specs.Decides.{Decides, DecidesOn};
-ghost use Rattle.links.specs.Recipients.{recipientsAt, SideColumns};
-ghost use Rattle.links.specs.Six.{dataTree, sixAt, SixColumns};
-ghost use Rattle.links.specs.Side.{passes, Side};
+ghost use Rattle.work.specs.Inner.Decides.{Decides, DecidesOn};
+ghost use Rattle.links.specs.Inner.Recipients.{recipientsAt, SideColumns};
+ghost use Rattle.links.specs.Inner.Six.{dataTree, sixAt, SixColumns};
+ghost use Rattle.links.specs.Inner.Side.{passes, Side};
 
 // ---- class 6 of an ASP: p is the ASP, x the identifier, l the link's index, st its state
 

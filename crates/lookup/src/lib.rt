@@ -5,8 +5,10 @@ ghost use Prim.Native.Nat.{_%_, _<_, _≤_};
 ghost use Rattle.laws.specs.Below.{anyBelow, one};
 ghost use Rattle.laws.specs.Columns.{isSet, tabulate};
 ghost use Rattle.gateway.specs.Sound.{pair, ascends};
-ghost use Rattle.lookup.specs.Servers.{stateOf, receives};
-ghost use Rattle.lookup.specs.Links.{indexOf, known, rank};
+ghost use Rattle.lookup.specs.Servers.{receives};
+ghost use Rattle.lookup.specs.Inner.Servers.{stateOf};
+ghost use Rattle.lookup.specs.Links.{indexOf, known};
+ghost use Rattle.lookup.specs.Inner.Links.{rank};
 
 // ---- ASes
 

@@ -13,7 +13,7 @@ use Rattle.parameter.specs.Table.{table, hasClass, rowIn}
 use Rattle.laws.specs.Choice.{_orElse_, _if_}
 use Rattle.message.specs.Verdict.{most, check2, check3, check4, check5, lastChecks, verdict}
 use Rattle.message.specs.Meaning.{refusal, outcome, readingOf}
-use Rattle.message.specs.Seen.{rowOutcome, kindOutcome, checksOutcome}
+use Rattle.message.specs.Inner.Seen.{rowOutcome, kindOutcome, checksOutcome}
 use Rattle.message.specs.declared.Reading.{Reading}
 
 -- a check that applies decides; else the rest does

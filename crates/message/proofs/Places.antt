@@ -15,11 +15,11 @@ use Rattle.wire.specs.declared.Step.{Step}
 use Rattle.wire.specs.declared.Step.the-variants.{Param, End, Fault}
 use Rattle.wire.proofs.Steps.{step-next, Next, pars-next, pars-stop, walk-step}
 use Rattle.parameter.specs.Table.{key}
-use Rattle.parameter.specs.Slot.{slot}
+use Rattle.parameter.specs.Inner.Slot.{slot}
 use Rattle.parameter.proofs.Slots.{same-slot}
 use Rattle.message.specs.declared.DataAt.{DataAt}
 use Rattle.message.specs.Meaning.{bodyIn, placeIn, dataOf, dataAt, LiesAt, DataLies}
-use Rattle.message.specs.Seen.{placeAt}
+use Rattle.message.specs.Inner.Seen.{placeAt}
 
 -- the first parameter of a tag is the first of its slot
 pub place-same : (t : ℕ) → slot t < 31 → (at : ℕ) (ps : List Par) → placeAt (slot t) at ps ≡ placeIn t at ps

@@ -10,10 +10,10 @@ use lib.ListN.{length, getD, set, replicate, getD-replicate}
 use lib.Seq.{getD-set-same, getD-set-other}
 use lib.Dec.{eqb}
 use borrow.Author.Tests.{eq-eqb, ne-eqb, eqb-true, eqb-false}
-use Rattle.laws.specs.Below.{both-true}
+use Rattle.laws.specs.Inner.Below.{both-true}
 use Rattle.wire.specs.Walk.{Par}
 use Rattle.parameter.specs.Table.{Usage, forbidden, Entry, table, entriesIn, key, usage}
-use Rattle.parameter.specs.Slot.{slot, tagAt, infoOf, packedUse, allMet}
+use Rattle.parameter.specs.Inner.Slot.{slot, tagAt, infoOf, packedUse, allMet}
 use Rattle.parameter.specs.Check.{allowedCode, parCode}
 use Rattle.parameter.specs.Value.{bodyCode}
 use Rattle.parameter.proofs.Slots.{same-slot, tag-one, usage-slot, all-near, near, row-near, near-slot, usage-far}
@@ -21,7 +21,7 @@ use Rattle.laws.specs.Choice.{_orElse_}
 use Rattle.parameter.proofs.Info.{musts-row, use-bits}
 use Rattle.message.specs.Verdict.{has, number, head, allThere, exactly, sequenceCode, check8}
 use Rattle.message.specs.Meaning.{flag, meaning, refusal}
-use Rattle.message.specs.Seen.{there, word, Seen, sequenceAt, endAt, meaningAt}
+use Rattle.message.specs.Inner.Seen.{there, word, Seen, sequenceAt, endAt, meaningAt}
 use Rattle.message.specs.declared.Reading.{Reading}
 
 -- ---- by tag and by slot

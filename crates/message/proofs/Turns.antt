@@ -16,13 +16,14 @@ use Rattle.wire.specs.declared.Step.{Step}
 use Rattle.wire.specs.declared.Step.the-variants.{Param}
 use Rattle.wire.proofs.Steps.{walk-step, walk-stop, pars-next, pars-stop}
 use Rattle.parameter.specs.Table.{Usage, table, rowIn, usage}
-use Rattle.parameter.specs.Slot.{slot, infoOf, packedUse}
+use Rattle.parameter.specs.Inner.Slot.{slot, infoOf, packedUse}
 use Rattle.parameter.specs.declared.RowInfo.{RowInfo}
 use Rattle.parameter.specs.Check.{parCode}
-use Rattle.laws.specs.Choice.{_orElse_, or-not}
+use Rattle.laws.specs.Choice.{_orElse_}
+use Rattle.laws.specs.Inner.Choice.{or-not}
 use Rattle.message.specs.Verdict.{has, head, isNone, inTurn, parsCode, lastChecks, check8}
 use Rattle.message.specs.Meaning.{meaning, refusal, outcome}
-use Rattle.message.specs.Seen.{there, Seen, endAt, meaningAt, outcomeAt}
+use Rattle.message.specs.Inner.Seen.{there, Seen, endAt, meaningAt, outcomeAt}
 use Rattle.message.proofs.Seen.{check-slot, packed-uses, seen-none, seen-more, end-same, meaning-same}
 
 is-none-last : (ps : List Par) (p : Par) → isNone (ps ++ (p ∷ [])) ≡ false

@@ -1,4 +1,4 @@
 pub mod Verdict
 pub mod Meaning
-pub mod Seen
 pub mod Samples
+pub mod Inner

@@ -18,10 +18,10 @@ ghost use lib.Dec.{eqb};
 ghost use Rattle.laws.specs.Choice.{_orElse_, _if_};
 ghost use Rattle.wire.specs.Walk.{walk};
 ghost use Rattle.parameter.specs.Table.{table, rowIn};
-ghost use Rattle.parameter.specs.Slot.{slot, infoOf};
+ghost use Rattle.parameter.specs.Inner.Slot.{slot, infoOf};
 ghost use Rattle.message.specs.Verdict.{exactly, head, lastChecks};
 ghost use Rattle.message.specs.Meaning.{flag, refusal, outcome, readingOf, dataAt, dataOf};
-ghost use Rattle.message.specs.Seen.{sequenceAt, endAt, meaningAt, outcomeAt, placeAt, rowOutcome, kindOutcome, checksOutcome};
+ghost use Rattle.message.specs.Inner.Seen.{sequenceAt, endAt, meaningAt, outcomeAt, placeAt, rowOutcome, kindOutcome, checksOutcome};
 
 // The slots of the tags that are asked for.
 const ID: usize = 1;

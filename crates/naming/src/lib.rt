@@ -5,10 +5,10 @@ ghost use mathlib.Core.Bool.{true, false, _||_};
 ghost use Prim.Native.Nat.{_<_, _≤_};
 ghost use Rattle.laws.specs.Columns.{flagAt, tabulate};
 ghost use Rattle.gateway.specs.Sound.{ascends};
-ghost use Rattle.lookup.specs.Links.{rank};
+ghost use Rattle.lookup.specs.Inner.Links.{rank};
 ghost use Rattle.ranges.specs.Named.{isRefused, isOwnedBy, nothing, refusing, firstIn, someIn, startAt, stopAt, refusedIn, someOf};
-ghost use Rattle.ranges.specs.Laws.{Table};
-ghost use Rattle.naming.specs.Names.{Names};
+ghost use Rattle.ranges.specs.Inner.Laws.{Table};
+ghost use Rattle.naming.specs.Inner.Names.{Names};
 
 // The flags are of use where nothing is refused.
 pub struct Named {

@@ -7,9 +7,10 @@ use Prim.Native.Nat.{ℕ, zero, suc, _+_, _*_, _/_, _%_, _^_, _<_}
 use lib.ListN.{getD}
 use lib.Dec.{eqb}
 use borrow.Author.Tests.{eqb-true}
-use Rattle.laws.specs.Below.{allBelow, all-at, both-true}
+use Rattle.laws.specs.Below.{allBelow}
+use Rattle.laws.specs.Inner.Below.{all-at, both-true}
 use Rattle.parameter.specs.Table.{Usage, forbidden, optional, mandatory, repeated, isMandatory, Entry, table, entriesIn, useIn, usage}
-use Rattle.parameter.specs.Slot.{slot, tagAt, infoOf, useBits, usageOf, packedUse, asked, allAsked, allMet}
+use Rattle.parameter.specs.Inner.Slot.{slot, tagAt, infoOf, useBits, usageOf, packedUse, asked, allAsked, allMet}
 
 -- ---- how tags stand
 

@@ -9,9 +9,10 @@ use native.Mathlib.Decide.{decLt}
 use lib.ListN.{length, getD}
 use lib.Dec.{ltb, eqb}
 use borrow.Author.Tests.{eqb-true, ltb-true, lt-ltb, ne-eqb}
-use Rattle.laws.specs.Below.{allBelow, all-at, both-true}
+use Rattle.laws.specs.Below.{allBelow}
+use Rattle.laws.specs.Inner.Below.{all-at, both-true}
 use Rattle.parameter.specs.Table.{Row, table, among, hasClass, rowIn}
-use Rattle.parameter.specs.Slot.{rowBits}
+use Rattle.parameter.specs.Inner.Slot.{rowBits}
 
 -- each number is below n
 below : ℕ → List ℕ → Bool

@@ -8,9 +8,9 @@ use native.Mathlib.Omega.{arith}
 use native.Mathlib.Decide.{decLt, ℕ-discrete}
 use lib.Dec.{ltb, leb, eqb}
 use borrow.Author.Tests.{lt-ltb, le-ltb, ltb-true, ltb-false, eq-eqb, ne-eqb, eqb-true, eqb-false, le-leb, lt-leb}
-use Rattle.laws.specs.Below.{both-true}
+use Rattle.laws.specs.Inner.Below.{both-true}
 use Rattle.parameter.specs.Table.{Entry, Row, table, key, useIn, usage, entriesIn, forbidden}
-use Rattle.parameter.specs.Slot.{slot, tagAt}
+use Rattle.parameter.specs.Inner.Slot.{slot, tagAt}
 
 -- where a tag lies: among the low ones, among the high ones, at 0x301, or beyond what any message has
 pub data Lies (t : ℕ) : Type 0 where

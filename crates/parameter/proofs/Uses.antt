@@ -9,7 +9,7 @@ use lib.ListN.{length}
 use lib.Dec.{ltb, eqb}
 use borrow.Author.Tests.{ne-eqb}
 use Rattle.parameter.specs.Table.{Usage, forbidden, optional, mandatory, repeated}
-use Rattle.parameter.specs.Slot.{usageOf}
+use Rattle.parameter.specs.Inner.Slot.{usageOf}
 use Rattle.parameter.specs.Value.{oneId, idCode}
 use Rattle.parameter.specs.Check.{textCode, onceCode, tagCode, allowedCode}
 

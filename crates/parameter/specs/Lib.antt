@@ -1,4 +1,4 @@
 pub mod Table
 pub mod Value
-pub mod Slot
 pub mod Check
+pub mod Inner

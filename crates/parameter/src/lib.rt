@@ -11,7 +11,7 @@ ghost use Rattle.laws.specs.Choice.{_orElse_};
 ghost use Rattle.wire.specs.Number.{be};
 ghost use Rattle.parameter.specs.Table.{table, hasClass, rowIn};
 ghost use Rattle.parameter.specs.Value.{bytesOf, numberOf, limitsOf, plainCode, wordCode, valueCode, idCode, rangeCode, bodyCode};
-ghost use Rattle.parameter.specs.Slot.{slot, info, infoOf, rowBits, useBits, usageOf, packedUse, asked, allAsked};
+ghost use Rattle.parameter.specs.Inner.Slot.{slot, info, infoOf, rowBits, useBits, usageOf, packedUse, asked, allAsked};
 ghost use Rattle.parameter.specs.Check.{textCode, allowedCode, parCode};
 
 // Tags that the checks ask for.

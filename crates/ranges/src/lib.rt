@@ -4,7 +4,7 @@ ghost use mathlib.Core.Bool.{_||_};
 ghost use Prim.Native.Nat.{_<_};
 ghost use Rattle.laws.specs.Columns.{flagAt, tabulate};
 ghost use Rattle.ranges.specs.Named.{isOwnedBy, someIn, startAt, stopAt, entries, someOf};
-ghost use Rattle.ranges.specs.Laws.{Table};
+ghost use Rattle.ranges.specs.Inner.Laws.{Table};
 
 // The first refused identifier, if one is found; else 0.
 pub struct Refused {

@@ -9,14 +9,14 @@ ghost use Prim.Native.Nat.{_<_};
 ghost use lib.Dec.{eqb, ltb};
 ghost use Rattle.laws.specs.Columns.{flagAt, numberAt, tabulate};
 ghost use Rattle.wire.specs.Walk.{walk};
-ghost use Rattle.ranges.specs.Laws.{Table};
+ghost use Rattle.ranges.specs.Inner.Laws.{Table};
 ghost use Rattle.ranges.specs.Named.{isOwnedBy};
-ghost use Rattle.traffic.specs.Named.{withPar, ownersPars};
+ghost use Rattle.traffic.specs.Inner.Named.{withPar, ownersPars};
 ghost use Rattle.rules.specs.Event.{message, lost, recovery, linkUp, linkDown, linkMessage};
 ghost use Rattle.ask.specs.Happened.{happened, eventOf};
 ghost use Rattle.ask.specs.Inner.Ask.{AskFits};
 ghost use Rattle.reach.specs.Reached.{reached};
-ghost use Rattle.reach.specs.Rows.{ownerRow, namedRow, otherRow, askRow};
+ghost use Rattle.reach.specs.Inner.Rows.{ownerRow, namedRow, otherRow, askRow};
 
 // ---- owners
 

@@ -6,7 +6,7 @@ use text::collect;
 use text::first;
 ghost use mathlib.Core.Path.{_≡_};
 ghost use Prim.Native.Nat.{_≤_};
-ghost use Rattle.replay.specs.Sound.{Sound};
+ghost use Rattle.replay.specs.Inner.Sound.{Sound};
 
 // What goes from part to part of the input: how much of a line is held, and what goes from line to line.
 struct Session {

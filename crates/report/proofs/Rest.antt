@@ -17,7 +17,8 @@ use Rattle.wire.proofs.Step.{enum}
 use Rattle.wire.proofs.Steps.{step-next, Next, pars-next, pars-stop, walk-step}
 use borrow.Author.Tests.{le-ltb}
 use Rattle.report.specs.declared.Style.{Style}
-use Rattle.report.specs.Shown.{par, parText, parsText}
+use Rattle.report.specs.Shown.{parText, parsText}
+use Rattle.report.specs.Inner.Shown.{par}
 use Rattle.report.proofs.Texts.{par-sized}
 
 -- the parameters take at most eight characters for each byte of the message

@@ -54,9 +54,6 @@ fieldsIn Plain t v = fields t v
 fieldsIn Bars t v = named t v
 fieldsIn Lines t v = named t v
 
-abbrev pub par : ℕ → List ℕ → Par
-par t v = record { tag = t; body = v }
-
 unfoldable pub parText : Style → Par → List ℕ
 parText style p = joint style ++ fieldsIn style (p .tag) (p .body)
 

@@ -10,7 +10,8 @@ ghost use Prim.Native.Nat.{_+_, _*_, _≤_};
 ghost use lib.ListN.{length};
 ghost use Rattle.wire.specs.Walk.{walk, partOf};
 ghost use Rattle.text.specs.Put.{Put};
-ghost use Rattle.report.specs.Shown.{joint, two, value, fields, named, fieldsIn, par, parText, parsText, headLine, verdictLine, acceptedText, readText, shownText};
+ghost use Rattle.report.specs.Shown.{joint, two, value, fields, named, fieldsIn, parText, parsText, headLine, verdictLine, acceptedText, readText, shownText};
+ghost use Rattle.report.specs.Inner.Shown.{par};
 
 // How parameters are written: by `read`, by `show` in one line, by `show` in lines of its own.
 pub enum Style {

@@ -1,2 +1,4 @@
 pub mod Accepted
 pub mod Few
+pub mod Decision
+pub mod Samples

@@ -1,7 +1,6 @@
 pub mod Event
 pub mod Identifiers
 pub mod Effect
-pub mod Decision
 pub mod Asp
 pub mod Link
 pub mod Rules

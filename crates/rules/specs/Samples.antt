@@ -1,16 +1,13 @@
 -- The starred samples as one claim (Rules 11.1 to 11.4).
 -- Assumes nothing.
 use mathlib.Core.Path.{_≡_}
-use mathlib.Core.Bool.{true, false}
 use mathlib.Core.List.{List, [], _∷_}
 use Prim.Native.Nat.{ℕ}
 use Rattle.config.specs.Plan.{loadOf}
 use Rattle.gateway.specs.declared.Gateway.{Gateway}
-use Rattle.action.specs.declared.Action.{Action}
 use Rattle.action.specs.Words.{action}
 use Rattle.message.specs.Samples.{active, ReaderSamples}
 use Rattle.rules.specs.Event.{EventKind, message, recovery, Event}
-use Rattle.rules.specs.Reach.{reach}
 use Rattle.rules.specs.Entry.{actions, next}
 
 -- plan S, byte by byte (Rule 11.1)
@@ -74,8 +71,3 @@ takes = event (message 0 m)
 -- ASP 2 comes up
 unfoldable pub comesUp : Event
 comesUp = event (message 2 (bare 3 1))
-
-pub record ReachApart : Type 0 where
-  pub ases : g₁ .ases ≡ 2
-  pub first : (reach g₁ takes 0 ≡ true) × (reach g₁ takes 1 ≡ false)
-  pub second : (reach g₁ comesUp 0 ≡ false) × (reach g₁ comesUp 1 ≡ true)

@@ -9,7 +9,8 @@ use lib.ListN.{length, getD, take}
 use borrow.Author.Tests.{lt-ltb, le-ltb, eq-eqb, ne-eqb}
 use Rattle.text.specs.Put.{Put}
 use Rattle.text.specs.Word.{wordIn, restIn, same}
-use Rattle.text.specs.Parse.{sizeOf, unhex, Bytes}
+use Rattle.text.specs.Parse.{sizeOf, unhex}
+use Rattle.text.specs.Inner.Parse.{Bytes}
 use Rattle.text.specs.declared.Size.{Size}
 use Rattle.text.specs.declared.Size.the-variants.{Count, NoBytes}
 use Rattle.text.proofs.Puts.{put-then, put-none}

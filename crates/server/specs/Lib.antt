@@ -1,4 +1,4 @@
 pub mod Change
 pub mod Notify
 pub mod Record
-pub mod Flag
+pub mod Inner

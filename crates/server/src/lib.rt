@@ -3,11 +3,12 @@ ghost use mathlib.Core.Path.{_≡_};
 ghost use Prim.Native.Nat.{_+_, _*_, _<_, _≤_};
 ghost use lib.ListN.{length};
 ghost use Rattle.laws.specs.Below.{one};
-ghost use Rattle.action.specs.Words.{Written};
-ghost use Rattle.server.specs.Record.{row, membersUp, recordFrom, some, stateIn, withRow};
+ghost use Rattle.action.specs.Inner.Words.{Written};
+ghost use Rattle.server.specs.Record.{row, membersUp, recordFrom, some, stateIn};
+ghost use Rattle.server.specs.Inner.Record.{withRow};
 ghost use Rattle.server.specs.Change.{recordWith, after, overtakenIn};
-ghost use Rattle.server.specs.Flag.{flagged, flagOf, less, more, activatedBy, overtakenBy};
-ghost use Rattle.server.specs.Notify.{announced, spoken};
+ghost use Rattle.server.specs.Inner.Flag.{flagged, flagOf, less, more, activatedBy, overtakenBy};
+ghost use Rattle.server.specs.Inner.Notify.{announced, spoken};
 
 // Its members that are up, those active in it, whether it waits, its traffic mode.
 pub struct AsRecord {

@@ -9,15 +9,19 @@ use native.Mathlib.Decide.{decLt}
 use lib.Dec.{eqb}
 use lib.ListN.{length, set}
 use Rattle.laws.specs.Below.{one}
-use Rattle.laws.specs.Columns.{flagAt, isSet, numberAt, tabulate, tabulate-ext, getD-tabulate, length-tabulate, HalfCol, half-none, half-more, half-keep, half-end}
-use Rattle.action.specs.Words.{Written, written-none, emit-none, emit-more, emit-end}
+use Rattle.laws.specs.Columns.{flagAt, isSet, numberAt, tabulate}
+use Rattle.laws.specs.Inner.Columns.{tabulate-ext, getD-tabulate, length-tabulate, HalfCol, half-none, half-more, half-keep, half-end}
+use Rattle.action.specs.Inner.Words.{Written, written-none, emit-none, emit-more, emit-end}
 use Rattle.server.specs.declared.AsRecord.{AsRecord}
 use Rattle.server.specs.declared.Change.{Change}
-use Rattle.server.specs.Record.{row, membersUp, recordFrom, withRow, withRowAt, laid-in, laid-out}
-use Rattle.server.specs.Change.{after, overtakenIn, fits}
-use Rattle.server.specs.Notify.{actionsIn, spoken, spoken-is}
+use Rattle.server.specs.Record.{row, membersUp, recordFrom}
+use Rattle.server.specs.Inner.Record.{withRow, withRowAt, laid-in, laid-out}
+use Rattle.server.specs.Change.{after, overtakenIn}
+use Rattle.server.specs.Inner.Change.{fits}
+use Rattle.server.specs.Notify.{actionsIn}
+use Rattle.server.specs.Inner.Notify.{spoken, spoken-is}
 use Rattle.servers.specs.Changed.{newActive, newWaiting, actionsAt}
-use Rattle.servers.specs.Run.{Stepped, Ran, Running}
+use Rattle.servers.specs.Inner.Run.{Stepped, Ran, Running}
 
 pub stepped-not : (k : Change) (named : Bool) (a : ℕ) (s : AsRecord) (active waiting : List ℕ) (ws : List ℕ) (n : ℕ) → not named ≡ true → Stepped k named a s active waiting ws n active waiting ws n
 unfolding actionsIn

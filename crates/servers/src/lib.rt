@@ -4,10 +4,10 @@ ghost use mathlib.Core.Bool.{true};
 ghost use Prim.Native.Nat.{_+_, _*_, _<_, _≤_};
 ghost use lib.ListN.{length};
 ghost use Rattle.server.specs.Record.{recordFrom};
-ghost use Rattle.server.specs.Change.{fits};
-ghost use Rattle.server.specs.Flag.{flagOf};
+ghost use Rattle.server.specs.Inner.Change.{fits};
+ghost use Rattle.server.specs.Inner.Flag.{flagOf};
 ghost use Rattle.servers.specs.Changed.{withFlag, upAfter, columnOf};
-ghost use Rattle.servers.specs.Run.{Stepped, Ran};
+ghost use Rattle.servers.specs.Inner.Run.{Stepped, Ran};
 
 // The ASes of ASP p, or those in which it is active.
 pub fn column_of(column: &[u8; 256], p: usize) -> [bool; 16]

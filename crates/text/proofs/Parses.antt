@@ -14,7 +14,8 @@ use lib.Seq.{drop-cons, sets-eq, take-append-seam}
 use borrow.Author.Tests.{lt-ltb, le-ltb, eq-eqb, ne-eqb}
 use Rattle.text.specs.declared.Number.the-variants.{Value, NoNumber}
 use Rattle.text.specs.Put.{overlay}
-use Rattle.text.specs.Parse.{addDigit, numberFrom, numberOf, nibbleOf, octetOf, isHex, unhex, isDash, octets, sizeOf, Octets, Bytes}
+use Rattle.text.specs.Parse.{nibbleOf, octetOf, isHex, unhex, isDash, octets, sizeOf}
+use Rattle.text.specs.Inner.Parse.{addDigit, numberFrom, numberOf, Octets, Bytes}
 
 pub number-next : (w : List ℕ) (i n m : ℕ) → i < length w → addDigit n (getD w i 0) ≡ Value m → numberFrom m (drop (i + 1) w) ≡ numberFrom n (drop i w)
 unfolding numberFrom

@@ -10,7 +10,8 @@ use lib.ListN.{length, getD, take, drop, drop-of-length-le, length-take, length-
 use lib.Seq.{drop-cons, take-suc, take-all}
 use lib.Dec.{eqb}
 use borrow.Author.Tests.{eq-eqb, ne-eqb}
-use Rattle.text.specs.Word.{wordIn, restIn, same, Blank}
+use Rattle.text.specs.Word.{wordIn, restIn, same}
+use Rattle.text.specs.Inner.Word.{Blank}
 
 -- no blank stands before a place
 pub record Passed (line : List ℕ) (i : ℕ) : Type 0 where

@@ -1,10 +1,8 @@
 -- The words of a line.
 -- Assumes nothing.
-use mathlib.Core.Path.{_≡_}
 use mathlib.Core.Bool.{Bool, true, false, cond}
 use mathlib.Core.List.{List, [], _∷_}
-use Prim.Native.Nat.{ℕ, _+_, _≤_}
-use lib.ListN.{length, take, drop}
+use Prim.Native.Nat.{ℕ}
 use lib.Dec.{eqb}
 
 -- the characters before the first blank
@@ -16,12 +14,6 @@ wordIn (b ∷ line) = cond (eqb b 32) [] (b ∷ wordIn line)
 unfoldable pub restIn : List ℕ → List ℕ
 restIn [] = []
 restIn (b ∷ line) = cond (eqb b 32) line (restIn line)
-
--- a place that parts the two
-pub record Blank (line : List ℕ) (at : ℕ) : Type 0 where
-  pub within : at ≤ length line
-  pub word : take at line ≡ wordIn line
-  pub rest : drop (at + 1) line ≡ restIn line
 
 -- two lists are the same
 unfoldable pub same : List ℕ → List ℕ → Bool

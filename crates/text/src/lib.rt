@@ -5,8 +5,10 @@ ghost use lib.ListN.{length, take};
 ghost use mathlib.Core.List.{[], _∷_};
 ghost use Rattle.text.specs.Put.{Put};
 ghost use Rattle.text.specs.Digits.{glyph, digits, places, decimal, pair, hex};
-ghost use Rattle.text.specs.Word.{wordIn, restIn, same, Blank};
-ghost use Rattle.text.specs.Parse.{addDigit, numberOf, nibbleOf, octetOf, isDash, Bytes, Octets};
+ghost use Rattle.text.specs.Word.{wordIn, restIn, same};
+ghost use Rattle.text.specs.Inner.Word.{Blank};
+ghost use Rattle.text.specs.Parse.{nibbleOf, octetOf, isDash};
+ghost use Rattle.text.specs.Inner.Parse.{addDigit, numberOf, Bytes, Octets};
 
 // ---- Writing. Each function puts its text into `out` from `at` on and returns the place after it.
 

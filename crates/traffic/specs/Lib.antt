@@ -1,2 +1,1 @@
-pub mod Named
-pub mod Aims
+pub mod Inner

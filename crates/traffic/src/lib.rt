@@ -13,16 +13,16 @@ ghost use Rattle.laws.specs.Below.{anyBelow};
 ghost use Rattle.laws.specs.Columns.{flagAt, numberAt};
 ghost use Rattle.wire.specs.Walk.{walk};
 ghost use Rattle.action.specs.Words.{action};
-ghost use Rattle.ranges.specs.Laws.{Table};
+ghost use Rattle.ranges.specs.Inner.Laws.{Table};
 ghost use Rattle.ranges.specs.Named.{isRefused, isOwnedBy};
-ghost use Rattle.naming.specs.Names.{Names};
+ghost use Rattle.naming.specs.Inner.Names.{Names};
 ghost use Rattle.servers.specs.Changed.{columnOf};
 ghost use Rattle.server.specs.declared.Change.the-variants.{Activate};
 ghost use Rattle.rules.specs.Effect.{send, changeIn};
 ghost use Rattle.rules.specs.Asp.{activeEffect, inactiveEffect, trafficEffect};
-ghost use Rattle.work.specs.Decides.{Decides, DecidesOn, act};
-ghost use Rattle.traffic.specs.Aims.{TrafficColumns, otherModeIn, Aims};
-ghost use Rattle.traffic.specs.Named.{refusedPar, withPar, refusedPars, ownersPars};
+ghost use Rattle.work.specs.Inner.Decides.{Decides, DecidesOn, act};
+ghost use Rattle.traffic.specs.Inner.Aims.{TrafficColumns, otherModeIn, Aims};
+ghost use Rattle.traffic.specs.Inner.Named.{refusedPar, withPar, refusedPars, ownersPars};
 
 // ---- the identifiers of a message
 

@@ -7,7 +7,7 @@ ghost use mathlib.Core.List.{[], _∷_};
 ghost use Prim.Native.Nat.{_<_};
 ghost use Rattle.action.specs.Words.{action, linkSide, toAll};
 ghost use Rattle.rules.specs.Effect.{send, setLink, changeIn};
-ghost use Rattle.work.specs.Decides.{Decides, aspOf};
+ghost use Rattle.work.specs.Inner.Decides.{Decides, aspOf};
 
 // An action to ASP p.
 pub fn to_asp(p: usize, classtype: u32, subject: u32, value: u32) -> Action

@@ -15,7 +15,7 @@ use text::word_of;
 ghost use mathlib.Core.Path.{_≡_};
 ghost use Prim.Native.Nat.{_+_, _*_, _≤_, _<_};
 ghost use lib.ListN.{length};
-ghost use Rattle.writing.specs.Items.{Room, Within};
+ghost use Rattle.writing.specs.Inner.Items.{Room, Within};
 
 // As much of a list as is read: its items, and the bytes of their values. Of a list of more than 512 items the first 512 are kept,
 // and the values of all: it has more than 2,048 bytes either way.

@@ -2,7 +2,7 @@
 use native.Mathlib.Omega.{arith}
 use borrow.Author.Needs.{needs}
 use lib.ListN.{length-set}
-use Rattle.action.specs.Words.{putAt}
+use Rattle.action.specs.Inner.Words.{putAt}
 use Rattle.action.proofs.put.Statement.{statement}
 use Rattle.action.proofs.put.Tie as tie
 

@@ -1,6 +1,6 @@
 -- `action::put_if`: by the flag. Assumes nothing.
 use borrow.Author.Needs.{needs}
-use Rattle.action.specs.Words.{written-left, written-taken}
+use Rattle.action.specs.Inner.Words.{written-left, written-taken}
 use Rattle.action.proofs.put_if.Statement.{statement}
 use Rattle.action.proofs.put_if.Tie as tie
 

@@ -2,7 +2,8 @@
 use Prim.Native.Nat.{_≤_, _-_}
 use native.Mathlib.Omega.{arith}
 use borrow.Author.Needs.{needs}
-use Rattle.action.specs.Words.{Emitted, emit-bound, emit-end, emit-more, emit-none, toAll, toEach, toEach-short, written-length}
+use Rattle.action.specs.Words.{toAll, toEach}
+use Rattle.action.specs.Inner.Words.{Emitted, emit-bound, emit-end, emit-more, emit-none, toEach-short, written-length}
 use Rattle.action.proofs.to_all.Statement.{statement}
 use Rattle.action.proofs.to_all.Tie as tie
 

@@ -1,7 +1,7 @@
 -- `ask::ask_message`: what the message is, by its class and type. Assumes nothing.
 use mathlib.Core.Path.{_≡_, refl, _∙_}
 use native.Mathlib.Omega.{arith}
-use Rattle.decide.specs.Other.{class-small, type-small}
+use Rattle.decide.specs.Inner.Other.{class-small, type-small}
 use Rattle.ask.specs.Inner.Ask.{asks-0}
 use borrow.Author.Needs.{needs}
 use Rattle.ask.proofs.ask_message.Statement.{statement}

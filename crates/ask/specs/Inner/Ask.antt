@@ -21,9 +21,9 @@ use Rattle.rules.specs.Link.{linkUpEffect, linkDownEffect, linkMessageEffect}
 use Rattle.rules.specs.Rules.{isError, effectOf, inPlan}
 use Rattle.rules.specs.Identifiers.{ownerAt, isMember}
 use Rattle.rules.specs.Reach.{ownsId, kindReach}
-use Rattle.work.specs.Decides.{act}
-use Rattle.decide.specs.Other.{otherEffect, typeIn, message-up, message-down, message-active, message-inactive, message-other}
-use Rattle.links.specs.Side.{passes, Side, side, in-plan}
+use Rattle.work.specs.Inner.Decides.{act}
+use Rattle.decide.specs.Inner.Other.{otherEffect, typeIn, message-up, message-down, message-active, message-inactive, message-other}
+use Rattle.links.specs.Inner.Side.{passes, Side, side, in-plan}
 use Rattle.ask.specs.Happened.{happened}
 use Rattle.ask.specs.Inner.Reach.{namedReach, otherReach, reach-up, reach-down, reach-active, reach-inactive, reach-other}
 use Rattle.ask.specs.declared.Ask.{Ask}

@@ -14,8 +14,8 @@ use Rattle.gateway.specs.declared.Gateway.{Gateway}
 use Rattle.rules.specs.Identifiers.{ownsNamed, isMember}
 use Rattle.rules.specs.Rules.{isError, classTypeOf}
 use Rattle.rules.specs.Reach.{ownsId, readReach, messageReach}
-use Rattle.decide.specs.Other.{typeIn, typed}
-use Rattle.links.specs.Side.{code-is}
+use Rattle.decide.specs.Inner.Other.{typeIn, typed}
+use Rattle.links.specs.Inner.Side.{code-is}
 
 -- Active and Inactive: with identifiers the owners of the known ones, without any the ASes of p
 unfoldable pub namedReach : Gateway → ℕ → List ℕ → ℕ → ℕ → Bool

@@ -4,7 +4,8 @@ use mathlib.Core.Path.{refl}
 use native.Mathlib.Omega.{arith}
 use lib.Dec.{eqb}
 use borrow.Author.Needs.{needs}
-use Rattle.laws.specs.Columns.{Half, flagAt, half-end, half-more, half-none}
+use Rattle.laws.specs.Columns.{flagAt}
+use Rattle.laws.specs.Inner.Columns.{Half, half-end, half-more, half-none}
 use Rattle.asps.proofs.only.Statement.{statement}
 use Rattle.asps.proofs.only.Tie as tie
 

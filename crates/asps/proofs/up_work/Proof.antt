@@ -1,5 +1,5 @@
 use Rattle.rules.specs.Asp.{upEffect}
-use Rattle.work.specs.Decides.{by-yes, by-no}
+use Rattle.work.specs.Inner.Decides.{by-yes, by-no}
 use mathlib.Core.Path.{sym, _∙_}
 use borrow.Author.Needs.{needs}
 use Rattle.asps.proofs.up_work.Statement.{statement}

@@ -6,7 +6,8 @@ use native.Mathlib.Omega.{arith}
 use borrow.Author.Needs.{needs}
 use lib.Dec.{leb, ltb}
 use lib.ListN.{length}
-use Rattle.laws.specs.Below.{allBelow, all-none, all-more, at-end}
+use Rattle.laws.specs.Below.{allBelow}
+use Rattle.laws.specs.Inner.Below.{all-none, all-more, at-end}
 use Rattle.config.specs.Inner.Tables.{wordOf, RowsIn}
 use Rattle.config.proofs.all_in.Statement.{statement}
 use Rattle.config.proofs.all_in.Tie as tie

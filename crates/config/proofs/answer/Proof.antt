@@ -4,7 +4,7 @@ use mathlib.Core.Path.{_≡_, sym, _∙_}
 use mathlib.Core.Bool.{true, false}
 use borrow.Author.Needs.{needs}
 use Rattle.config.specs.Plan.{built, rowsOk}
-use Rattle.config.specs.Laws.{rows}
+use Rattle.config.specs.Inner.Laws.{rows}
 use Rattle.config.specs.Inner.Tables.{mode-bytes, owner-bytes}
 use Rattle.gateway.specs.Sound.{zeros}
 use Rattle.config.proofs.answer.Statement.{statement}

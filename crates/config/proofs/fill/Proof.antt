@@ -4,7 +4,8 @@ use mathlib.Core.Path.{refl}
 use native.Mathlib.Omega.{arith}
 use borrow.Author.Needs.{needs}
 use lib.ListN.{length}
-use Rattle.laws.specs.Columns.{numberAt, HalfCol, half-none, half-more, half-at}
+use Rattle.laws.specs.Columns.{numberAt}
+use Rattle.laws.specs.Inner.Columns.{HalfCol, half-none, half-more, half-at}
 use Rattle.config.specs.Inner.Tables.{wordOf, RowsIn}
 use Rattle.config.proofs.fill.Statement.{statement}
 use Rattle.config.proofs.fill.Tie as tie

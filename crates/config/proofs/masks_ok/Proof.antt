@@ -5,7 +5,8 @@ use mathlib.Core.Bool.{_&&_}
 use borrow.Author.Needs.{needs}
 use lib.Dec.{eqb}
 use Rattle.config.specs.Plan.{bitsFrom, high, low}
-use Rattle.laws.specs.Below.{allBelow, all-none, all-more, at-end}
+use Rattle.laws.specs.Below.{allBelow}
+use Rattle.laws.specs.Inner.Below.{all-none, all-more, at-end}
 use Rattle.laws.specs.Columns.{numberAt}
 use Rattle.config.proofs.masks_ok.Statement.{statement}
 use Rattle.config.proofs.masks_ok.Tie as tie

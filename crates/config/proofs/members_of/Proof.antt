@@ -6,7 +6,8 @@ use borrow.Author.Needs.{needs}
 use denote.Ref.{now}
 use Rattle.config.specs.Plan.{bit, members}
 use Rattle.config.specs.Inner.Tables.{highs}
-use Rattle.laws.specs.Columns.{flagAt, numberAt, HalfCol, half-more, half-end, half-at}
+use Rattle.laws.specs.Columns.{flagAt, numberAt}
+use Rattle.laws.specs.Inner.Columns.{HalfCol, half-more, half-end, half-at}
 use Rattle.config.proofs.Tables.{column-none, bit-at}
 use Rattle.config.proofs.members_of.Statement.{statement}
 use Rattle.config.proofs.members_of.Tie as tie

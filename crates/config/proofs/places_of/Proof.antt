@@ -1,7 +1,7 @@
 -- `config::places_of`: the numbers read. Assumes nothing.
 use borrow.Author.Needs.{needs}
-use Rattle.config.specs.Laws.{layout}
-use Rattle.config.specs.Layout.{placesOf}
+use Rattle.config.specs.Inner.Laws.{layout}
+use Rattle.config.specs.Inner.Layout.{placesOf}
 use Rattle.config.proofs.places_of.Statement.{statement}
 use Rattle.config.proofs.places_of.Tie as tie
 

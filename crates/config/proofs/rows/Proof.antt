@@ -5,7 +5,7 @@ use native.Mathlib.Omega.{arith}
 use borrow.Author.Needs.{needs}
 use denote.Ref.{now}
 use Rattle.config.specs.Plan.{offset, count, high, low, loadOf, aspIds, masks, spares, modes, linkIds, owners}
-use Rattle.config.specs.Layout.{inside-of, placesOf}
+use Rattle.config.specs.Inner.Layout.{inside-of, placesOf}
 use Rattle.config.specs.Inner.Tables.{wordOf, highs, lows, column-part}
 use Rattle.config.proofs.rows.Statement.{statement}
 use Rattle.config.proofs.rows.Tie as tie

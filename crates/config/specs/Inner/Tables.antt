@@ -10,12 +10,13 @@ use lib.Dec.{eqb, leb, ltb}
 use lib.ListN.{length, getD, replicate, length-replicate, getD-replicate}
 use borrow.Author.Tests.{ltb-true, leb-true, lt-ltb, le-ltb, le-leb}
 use Rattle.laws.specs.Below.{allBelow}
-use Rattle.laws.specs.Every.{all-ext, all-two, same-truth}
-use Rattle.laws.specs.Columns.{numberAt, tabulate, tabulate-ext, getD-tabulate, is-tabulate, HalfCol}
+use Rattle.laws.specs.Inner.Every.{all-ext, all-two, same-truth}
+use Rattle.laws.specs.Columns.{numberAt, tabulate}
+use Rattle.laws.specs.Inner.Columns.{tabulate-ext, getD-tabulate, is-tabulate, HalfCol}
 use Rattle.wire.specs.Number.{be}
 use Rattle.gateway.specs.Sound.{allUnder}
 use Rattle.config.specs.Plan.{high, low, column, bitsFrom, modesOk, masksOk, sparesOk}
-use Rattle.config.specs.Laws.{column-at, mode-small, owner-small}
+use Rattle.config.specs.Inner.Laws.{column-at, mode-small, owner-small}
 
 -- the word of row i, if that of the first row stands at a position
 abbrev pub wordOf : List ℕ → ℕ → ℕ → ℕ → ℕ

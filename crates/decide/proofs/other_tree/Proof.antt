@@ -1,7 +1,7 @@
 -- `decide::other_tree`: test for test. Assumes nothing.
 use borrow.Author.Needs.{needs}
-use Rattle.work.specs.Decides.{decisions}
-use Rattle.decide.specs.Other.{otherTree}
+use Rattle.work.specs.Inner.Decides.{decisions}
+use Rattle.decide.specs.Inner.Other.{otherTree}
 use Rattle.decide.proofs.other_tree.Statement.{statement}
 use Rattle.decide.proofs.other_tree.Tie as tie
 

@@ -1,7 +1,7 @@
 -- `decide::other_work`: nothing for an Error, and an Error for what cannot be read. Assumes nothing.
 use borrow.Author.Needs.{needs}
-use Rattle.work.specs.Decides.{by-yes, by-no, by-eq, by-ne}
-use Rattle.decide.specs.Other.{otherEffect}
+use Rattle.work.specs.Inner.Decides.{by-yes, by-no, by-eq, by-ne}
+use Rattle.decide.specs.Inner.Other.{otherEffect}
 use Rattle.decide.proofs.other_work.Statement.{statement}
 use Rattle.decide.proofs.other_work.Tie as tie
 

@@ -1,4 +1,4 @@
-use Rattle.decide.specs.Other.{typeIn}
+use Rattle.decide.specs.Inner.Other.{typeIn}
 use borrow.Author.Tests.{eq-eqb, ne-eqb}
 use borrow.Author.Needs.{needs}
 use Rattle.decide.proofs.type_of.Statement.{statement}

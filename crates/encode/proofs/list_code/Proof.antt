@@ -1,4 +1,4 @@
-use Rattle.encode.specs.Write.{rowCode}
+use Rattle.encode.specs.Inner.Write.{rowCode}
 use mathlib.Core.List.{List, _∷_}
 use borrow.Author.Needs.{needs}
 use native.Mathlib.Omega.{arith}

@@ -3,7 +3,7 @@ use native.Mathlib.Omega.{arith}
 use Prim.Native.Nat.{ℕ, _+_, _-_, _≤_}
 use mathlib.Core.Path.{_≡_}
 use lib.ListN.{length, drop, getD, take}
-use Rattle.encode.specs.Write.{sizes}
+use Rattle.encode.specs.Inner.Write.{sizes}
 use Rattle.put.specs.Bytes.{par, parsBytes}
 use Rattle.encode.specs.Encode.{total, parsIn}
 use Rattle.encode.proofs.Puts.{Puts, puts-none, puts-end, puts-length, puts-room, puts-more}

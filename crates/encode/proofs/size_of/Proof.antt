@@ -1,6 +1,6 @@
 use native.Mathlib.Nat.{zero-add}
 use Rattle.encode.proofs.Lists.{size-over, size-other, size-whole, total-next, sizes-next, total-none, sizes-none}
-use Rattle.laws.specs.Choice.{choices}
+use Rattle.laws.specs.Inner.Choice.{choices}
 use Rattle.put.specs.Bytes.{parSize}
 use lib.ListN.{length, drop, getD}
 use Prim.Native.Nat.{_+_, _-_, _≤_}
@@ -8,7 +8,7 @@ use mathlib.Core.Path.{_≡_, refl}
 use native.Mathlib.Omega.{arith}
 use borrow.Author.Needs.{needs}
 use Rattle.encode.specs.Encode.{total}
-use Rattle.encode.specs.Write.{sizes, sizeIf}
+use Rattle.encode.specs.Inner.Write.{sizes, sizeIf}
 use Rattle.encode.proofs.size_of.Statement.{statement}
 use Rattle.encode.proofs.size_of.Tie as tie
 

@@ -1,14 +1,14 @@
 use Rattle.encode.specs.Encode.{parsIn}
 use Rattle.parameter.specs.Table.{table, rowIn}
-use Rattle.parameter.specs.Slot.{infoOf}
-use Rattle.encode.specs.Write.{rowCode}
+use Rattle.parameter.specs.Inner.Slot.{infoOf}
+use Rattle.encode.specs.Inner.Write.{rowCode}
 use mathlib.Core.Path.{_≡_, ap, sym, _∙_}
 use Prim.Native.Nat.{ℕ, _<_}
 use borrow.Author.Needs.{needs}
 use native.Mathlib.Omega.{arith}
 use Rattle.encode.proofs.Lists.{size-some}
-use Rattle.encode.specs.Write.{listVerdict}
-use Rattle.laws.specs.Choice.{choices}
+use Rattle.encode.specs.Inner.Write.{listVerdict}
+use Rattle.laws.specs.Inner.Choice.{choices}
 use Rattle.encode.proofs.verdict_of.Statement.{statement}
 use Rattle.encode.proofs.verdict_of.Tie as tie
 

@@ -1,5 +1,5 @@
-use Rattle.encode.specs.Write.{roomCode}
-use Rattle.laws.specs.Choice.{choices}
+use Rattle.encode.specs.Inner.Write.{roomCode}
+use Rattle.laws.specs.Inner.Choice.{choices}
 use Rattle.encode.proofs.with_room.Statement.{statement}
 use Rattle.encode.proofs.with_room.Tie as tie
 

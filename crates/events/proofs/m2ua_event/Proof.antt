@@ -5,17 +5,17 @@ use mathlib.Core.List.{List}
 use Prim.Native.Nat.{ℕ}
 use lib.ListN.{length}
 use Rattle.gateway.specs.Sound.{isSound}
-use Rattle.gateway.specs.Laws.{counts-within}
+use Rattle.gateway.specs.Inner.Laws.{counts-within}
 use Rattle.gateway.specs.declared.Gateway.{Gateway}
-use Rattle.ranges.specs.Laws.{table}
+use Rattle.ranges.specs.Inner.Laws.{table}
 use Rattle.rules.specs.Event.{EventKind}
 use Rattle.rules.specs.Rules.{refusalOf, inPlan, effectOf}
-use Rattle.work.specs.Decides.{Decides, decided}
+use Rattle.work.specs.Inner.Decides.{Decides, decided}
 use Rattle.ask.specs.Happened.{happened}
 use Rattle.ask.specs.Inner.Ask.{ask-fits-at}
-use Rattle.events.specs.Decision.{performed}
+use Rattle.events.specs.Inner.Decision.{performed}
 use Rattle.ask.specs.Inner.Refused.{Accepted, accepted}
-use Rattle.events.specs.Perform.{meets-no, meets-yes}
+use Rattle.events.specs.Inner.Perform.{meets-no, meets-yes}
 use borrow.Author.Needs.{needs}
 use Rattle.events.proofs.m2ua_event.Statement.{statement}
 use Rattle.events.proofs.m2ua_event.Tie as tie

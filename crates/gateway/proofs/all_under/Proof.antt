@@ -3,7 +3,7 @@ use Prim.Native.Nat.{_≤_, _-_}
 use mathlib.Core.Path.{_≡_, sym}
 use borrow.Author.Needs.{needs}
 use Rattle.gateway.specs.Sound.{allUnder}
-use Rattle.laws.specs.Below.{all-none, all-more, at-end}
+use Rattle.laws.specs.Inner.Below.{all-none, all-more, at-end}
 use Rattle.gateway.proofs.all_under.Statement.{statement}
 use Rattle.gateway.proofs.all_under.Tie as tie
 

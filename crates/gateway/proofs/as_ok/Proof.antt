@@ -1,6 +1,6 @@
 -- `gateway::as_ok`: the conditions of one AS. Assumes nothing.
 use borrow.Author.Needs.{needs}
-use Rattle.gateway.specs.Rows.{as-inside}
+use Rattle.gateway.specs.Inner.Rows.{as-inside}
 use Rattle.gateway.proofs.as_ok.Statement.{statement}
 use Rattle.gateway.proofs.as_ok.Tie as tie
 

@@ -5,7 +5,8 @@ use native.Mathlib.Omega.{arith}
 use borrow.Author.Needs.{needs}
 use lib.Dec.{ltb}
 use Rattle.gateway.specs.Sound.{ascends}
-use Rattle.laws.specs.Below.{allBelow, all-none, all-more, at-end}
+use Rattle.laws.specs.Below.{allBelow}
+use Rattle.laws.specs.Inner.Below.{all-none, all-more, at-end}
 use Rattle.laws.specs.Columns.{numberAt}
 use Rattle.gateway.proofs.ascending.Statement.{statement}
 use Rattle.gateway.proofs.ascending.Tie as tie

@@ -3,8 +3,9 @@ use Prim.Native.Nat.{_≤_, _-_}
 use mathlib.Core.Path.{_≡_, _∙_, sym}
 use borrow.Author.Needs.{needs}
 use Rattle.gateway.specs.Sound.{soundAs, soundAses}
-use Rattle.gateway.specs.Rows.{rows-whole}
-use Rattle.laws.specs.Below.{allBelow, all-none, all-more, at-end}
+use Rattle.gateway.specs.Inner.Rows.{rows-whole}
+use Rattle.laws.specs.Below.{allBelow}
+use Rattle.laws.specs.Inner.Below.{all-none, all-more, at-end}
 use Rattle.gateway.proofs.ases_ok.Statement.{statement}
 use Rattle.gateway.proofs.ases_ok.Tie as tie
 

@@ -4,7 +4,7 @@ use mathlib.Core.Path.{_≡_, sym}
 use borrow.Author.Needs.{needs}
 use lib.ListN.{length}
 use Rattle.gateway.specs.Sound.{blankFrom}
-use Rattle.laws.specs.Below.{at-end}
+use Rattle.laws.specs.Inner.Below.{at-end}
 use Rattle.gateway.proofs.Turns.{blank-none, blank-more}
 use Rattle.gateway.proofs.blank_wide.Statement.{statement}
 use Rattle.gateway.proofs.blank_wide.Tie as tie

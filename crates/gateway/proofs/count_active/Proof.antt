@@ -5,7 +5,8 @@ use native.Mathlib.Omega.{arith}
 use borrow.Author.Needs.{needs}
 use denote.Ref.{now}
 use Rattle.gateway.specs.Sound.{activeIn}
-use Rattle.laws.specs.Below.{at-end, countBelow, count-none, count-more, count-small}
+use Rattle.laws.specs.Below.{countBelow}
+use Rattle.laws.specs.Inner.Below.{at-end, count-none, count-more, count-small}
 use Rattle.laws.specs.Columns.{isSet}
 use Rattle.gateway.proofs.count_active.Statement.{statement}
 use Rattle.gateway.proofs.count_active.Tie as tie

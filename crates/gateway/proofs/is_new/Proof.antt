@@ -5,7 +5,8 @@ use mathlib.Core.Bool.{not}
 use borrow.Author.Needs.{needs}
 use lib.Dec.{eqb}
 use Rattle.gateway.specs.Sound.{differs}
-use Rattle.laws.specs.Below.{allBelow, all-none, all-more, at-end}
+use Rattle.laws.specs.Below.{allBelow}
+use Rattle.laws.specs.Inner.Below.{all-none, all-more, at-end}
 use Rattle.laws.specs.Columns.{numberAt}
 use Rattle.gateway.proofs.is_new.Statement.{statement}
 use Rattle.gateway.proofs.is_new.Tie as tie

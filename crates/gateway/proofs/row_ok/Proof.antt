@@ -6,8 +6,9 @@ use borrow.Author.Needs.{needs}
 use lib.Dec.{ltb}
 use Rattle.laws.specs.Columns.{numberAt}
 use Rattle.gateway.specs.Sound.{pair, flagIf, activeAt}
-use Rattle.gateway.specs.Rows.{rowIf}
-use Rattle.laws.specs.Below.{allBelow, all-none, all-more, at-end}
+use Rattle.gateway.specs.Inner.Rows.{rowIf}
+use Rattle.laws.specs.Below.{allBelow}
+use Rattle.laws.specs.Inner.Below.{all-none, all-more, at-end}
 use Rattle.gateway.proofs.row_ok.Statement.{statement}
 use Rattle.gateway.proofs.row_ok.Tie as tie
 

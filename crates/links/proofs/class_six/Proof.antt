@@ -1,4 +1,4 @@
-use Rattle.links.specs.Six.{six-on}
+use Rattle.links.specs.Inner.Six.{six-on}
 use borrow.Author.Needs.{needs}
 use Rattle.links.proofs.class_six.Statement.{statement}
 use Rattle.links.proofs.class_six.Tie as tie

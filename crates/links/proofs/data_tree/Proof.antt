@@ -1,5 +1,5 @@
-use Rattle.links.specs.Six.{dataTree}
-use Rattle.work.specs.Decides.{decisions}
+use Rattle.links.specs.Inner.Six.{dataTree}
+use Rattle.work.specs.Inner.Decides.{decisions}
 use borrow.Author.Needs.{needs}
 use Rattle.links.proofs.data_tree.Statement.{statement}
 use Rattle.links.proofs.data_tree.Tie as tie

@@ -1,4 +1,4 @@
-use Rattle.links.specs.Six.{data-tree}
+use Rattle.links.specs.Inner.Six.{data-tree}
 use borrow.Author.Needs.{needs}
 use Rattle.links.proofs.data_work.Statement.{statement}
 use Rattle.links.proofs.data_work.Tie as tie

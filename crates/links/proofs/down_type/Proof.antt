@@ -1,4 +1,4 @@
-use Rattle.laws.specs.Choice.{choices}
+use Rattle.laws.specs.Inner.Choice.{choices}
 use Rattle.links.proofs.down_type.Statement.{statement}
 use Rattle.links.proofs.down_type.Tie as tie
 

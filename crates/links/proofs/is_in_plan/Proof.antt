@@ -1,4 +1,4 @@
-use Rattle.links.specs.Side.{passes}
+use Rattle.links.specs.Inner.Side.{passes}
 use borrow.Author.Needs.{needs}
 use Rattle.links.proofs.is_in_plan.Statement.{statement}
 use Rattle.links.proofs.is_in_plan.Tie as tie

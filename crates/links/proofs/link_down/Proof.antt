@@ -1,7 +1,7 @@
 -- `links::link_down`: by the link's state. Assumes nothing.
 use borrow.Author.Needs.{needs}
 use Rattle.rules.specs.Link.{linkDownEffect, toRecipients, recipientsOf}
-use Rattle.links.specs.Recipients.{recipientsAt}
+use Rattle.links.specs.Inner.Recipients.{recipientsAt}
 use Rattle.links.proofs.link_down.Statement.{statement}
 use Rattle.links.proofs.link_down.Tie as tie
 

@@ -6,7 +6,7 @@ use borrow.Author.Needs.{needs}
 use Rattle.lookup.specs.Links.{known}
 use Rattle.rules.specs.Identifiers.{linkOf}
 use Rattle.rules.specs.Link.{linkMessageEffect, toRecipients, recipientsOf}
-use Rattle.links.specs.Recipients.{recipientsAt}
+use Rattle.links.specs.Inner.Recipients.{recipientsAt}
 use Rattle.links.proofs.link_message.Statement.{statement}
 use Rattle.links.proofs.link_message.Tie as tie
 

@@ -1,5 +1,5 @@
 use Rattle.rules.specs.Link.{linkEffect}
-use Rattle.work.specs.Decides.{decisions}
+use Rattle.work.specs.Inner.Decides.{decisions}
 use borrow.Author.Needs.{needs}
 use Rattle.links.proofs.link_work.Statement.{statement}
 use Rattle.links.proofs.link_work.Tie as tie

@@ -3,8 +3,8 @@ use native.Mathlib.Omega.{arith}
 use borrow.Author.Needs.{needs}
 use Prim.Native.Nat.{_<_}
 use Rattle.laws.specs.Columns.{numberAt}
-use Rattle.ranges.specs.Laws.{owner-small}
-use Rattle.links.specs.Recipients.{recipientsAt}
+use Rattle.ranges.specs.Inner.Laws.{owner-small}
+use Rattle.links.specs.Inner.Recipients.{recipientsAt}
 use Rattle.links.proofs.recipients_at.Statement.{statement}
 use Rattle.links.proofs.recipients_at.Tie as tie
 

@@ -1,10 +1,10 @@
 -- `links::six_at`: test for test. Assumes nothing.
-use Rattle.links.specs.Six.{sixAt}
-use Rattle.work.specs.Decides.{decisions}
+use Rattle.links.specs.Inner.Six.{sixAt}
+use Rattle.work.specs.Inner.Decides.{decisions}
 use Prim.Native.Nat.{_<_}
 use native.Mathlib.Omega.{arith}
 use Rattle.laws.specs.Columns.{numberAt}
-use Rattle.ranges.specs.Laws.{owner-small}
+use Rattle.ranges.specs.Inner.Laws.{owner-small}
 use borrow.Author.Needs.{needs}
 use Rattle.links.proofs.six_at.Statement.{statement}
 use Rattle.links.proofs.six_at.Tie as tie

@@ -1,6 +1,6 @@
 -- `lookup::as_state`: from the three tests. Assumes nothing.
 use borrow.Author.Needs.{needs}
-use Rattle.lookup.specs.Servers.{stateOf}
+use Rattle.lookup.specs.Inner.Servers.{stateOf}
 use Rattle.lookup.proofs.as_state.Statement.{statement}
 use Rattle.lookup.proofs.as_state.Tie as tie
 

@@ -1,7 +1,7 @@
 -- `lookup::index_of`: x stands at its rank or nowhere. Assumes nothing.
 use native.Mathlib.Omega.{arith}
 use borrow.Author.Needs.{needs}
-use Rattle.lookup.specs.Links.{index-found, index-none}
+use Rattle.lookup.specs.Inner.Links.{index-found, index-none}
 use Rattle.laws.specs.Columns.{flagAt}
 use Rattle.lookup.proofs.index_of.Statement.{statement}
 use Rattle.lookup.proofs.index_of.Tie as tie

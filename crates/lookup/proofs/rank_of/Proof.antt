@@ -4,8 +4,9 @@ use mathlib.Core.Path.{_≡_, sym}
 use native.Mathlib.Omega.{arith}
 use borrow.Author.Needs.{needs}
 use lib.Dec.{ltb}
-use Rattle.lookup.specs.Links.{rank}
-use Rattle.laws.specs.Below.{at-end, countBelow, count-none, count-more}
+use Rattle.lookup.specs.Inner.Links.{rank}
+use Rattle.laws.specs.Below.{countBelow}
+use Rattle.laws.specs.Inner.Below.{at-end, count-none, count-more}
 use Rattle.laws.specs.Columns.{numberAt}
 use Rattle.lookup.proofs.rank_of.Statement.{statement}
 use Rattle.lookup.proofs.rank_of.Tie as tie

@@ -4,9 +4,11 @@ use mathlib.Core.Path.{_≡_, refl, sym}
 use native.Mathlib.Omega.{arith}
 use borrow.Author.Needs.{needs}
 use denote.Ref.{now}
-use Rattle.lookup.specs.Servers.{receives, before, before-none, before-more, before-small}
+use Rattle.lookup.specs.Servers.{receives, before}
+use Rattle.lookup.specs.Inner.Servers.{before-none, before-more, before-small}
 use Rattle.gateway.specs.Sound.{activeIn}
-use Rattle.laws.specs.Columns.{flagAt, Half, half-none, half-more, half-end}
+use Rattle.laws.specs.Columns.{flagAt}
+use Rattle.laws.specs.Inner.Columns.{Half, half-none, half-more, half-end}
 use Rattle.lookup.proofs.recipients.Statement.{statement}
 use Rattle.lookup.proofs.recipients.Tie as tie
 

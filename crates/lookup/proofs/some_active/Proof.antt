@@ -2,7 +2,8 @@
 use Prim.Native.Nat.{_≤_, _<_, _-_, _+_, _*_}
 use mathlib.Core.Path.{_≡_, sym}
 use borrow.Author.Needs.{needs}
-use Rattle.laws.specs.Below.{at-end, anyBelow, any-none, any-more}
+use Rattle.laws.specs.Below.{anyBelow}
+use Rattle.laws.specs.Inner.Below.{at-end, any-none, any-more}
 use Rattle.laws.specs.Columns.{isSet}
 use Rattle.lookup.proofs.some_active.Statement.{statement}
 use Rattle.lookup.proofs.some_active.Tie as tie

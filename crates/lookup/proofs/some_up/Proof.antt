@@ -3,7 +3,8 @@ use Prim.Native.Nat.{_≤_, _<_, _-_, _+_, _*_}
 use mathlib.Core.Path.{_≡_, sym}
 use mathlib.Core.Bool.{_&&_}
 use borrow.Author.Needs.{needs}
-use Rattle.laws.specs.Below.{at-end, anyBelow, any-none, any-more}
+use Rattle.laws.specs.Below.{anyBelow}
+use Rattle.laws.specs.Inner.Below.{at-end, any-none, any-more}
 use Rattle.laws.specs.Columns.{isSet}
 use Rattle.lookup.proofs.some_up.Statement.{statement}
 use Rattle.lookup.proofs.some_up.Tie as tie

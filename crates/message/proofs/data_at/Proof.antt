@@ -1,6 +1,6 @@
 use native.Mathlib.Omega.{arith}
 use mathlib.Core.Path.{_∙_}
-use Rattle.parameter.specs.Slot.{slot}
+use Rattle.parameter.specs.Inner.Slot.{slot}
 use Rattle.message.specs.Meaning.{dataAt}
 use Rattle.message.proofs.Places.{place-same}
 use borrow.Author.Needs.{needs}

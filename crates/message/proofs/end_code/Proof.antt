@@ -1,5 +1,5 @@
-use Rattle.parameter.specs.Slot.{slot}
-use Rattle.message.specs.Seen.{endAt}
+use Rattle.parameter.specs.Inner.Slot.{slot}
+use Rattle.message.specs.Inner.Seen.{endAt}
 use borrow.Author.Needs.{needs}
 use Rattle.message.proofs.end_code.Statement.{statement}
 use Rattle.message.proofs.end_code.Tie as tie

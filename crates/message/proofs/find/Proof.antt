@@ -3,12 +3,12 @@ use native.Mathlib.Omega.{arith}
 use Prim.Native.Nat.{ℕ, _-_}
 use mathlib.Core.Path.{_≡_, refl, sym, ap, _∙_}
 use lib.ListN.{length}
-use Rattle.message.specs.Seen.{placeAt}
+use Rattle.message.specs.Inner.Seen.{placeAt}
 use Rattle.message.proofs.Places.{place-next, place-stop}
 use Rattle.wire.proofs.Steps.{step-next, Next}
 use Rattle.wire.specs.declared.Step.the-variants.{Param}
 use Rattle.wire.specs.Walk.{stepAt, walk}
-use Rattle.laws.specs.Choice.{at-eq, at-ne}
+use Rattle.laws.specs.Inner.Choice.{at-eq, at-ne}
 use Rattle.message.proofs.find.Statement.{statement}
 use Rattle.message.proofs.find.Tie as tie
 

@@ -1,4 +1,4 @@
-use Rattle.parameter.specs.Slot.{slot}
+use Rattle.parameter.specs.Inner.Slot.{slot}
 use borrow.Author.Needs.{needs}
 use Rattle.message.proofs.finish.Statement.{statement}
 use Rattle.message.proofs.finish.Tie as tie

@@ -1,5 +1,5 @@
 use mathlib.Core.Path.{sym}
-use Rattle.laws.specs.Choice.{or-not}
+use Rattle.laws.specs.Inner.Choice.{or-not}
 use borrow.Author.Needs.{needs}
 use Rattle.message.proofs.first_of.Statement.{statement}
 use Rattle.message.proofs.first_of.Tie as tie

@@ -1,5 +1,5 @@
 use Rattle.message.specs.Verdict.{head}
-use Rattle.laws.specs.Choice.{choices}
+use Rattle.laws.specs.Inner.Choice.{choices}
 use borrow.Author.Needs.{needs}
 use Rattle.message.proofs.head_of.Statement.{statement}
 use Rattle.message.proofs.head_of.Tie as tie

@@ -1,4 +1,4 @@
-use Rattle.laws.specs.Choice.{choices}
+use Rattle.laws.specs.Inner.Choice.{choices}
 use borrow.Author.Needs.{needs}
 use Rattle.message.proofs.kept.Statement.{statement}
 use Rattle.message.proofs.kept.Tie as tie

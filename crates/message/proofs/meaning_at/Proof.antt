@@ -1,5 +1,5 @@
-use Rattle.parameter.specs.Slot.{slot}
-use Rattle.message.specs.Seen.{meaningAt}
+use Rattle.parameter.specs.Inner.Slot.{slot}
+use Rattle.message.specs.Inner.Seen.{meaningAt}
 use borrow.Author.Needs.{needs}
 use Rattle.message.proofs.meaning_at.Statement.{statement}
 use Rattle.message.proofs.meaning_at.Tie as tie

@@ -1,6 +1,6 @@
-use Rattle.parameter.specs.Slot.{slot}
-use Rattle.message.specs.Seen.{outcomeAt}
-use Rattle.laws.specs.Choice.{choices}
+use Rattle.parameter.specs.Inner.Slot.{slot}
+use Rattle.message.specs.Inner.Seen.{outcomeAt}
+use Rattle.laws.specs.Inner.Choice.{choices}
 use borrow.Author.Needs.{needs}
 use Rattle.message.proofs.outcome_of.Statement.{statement}
 use Rattle.message.proofs.outcome_of.Tie as tie

@@ -1,5 +1,5 @@
-use Rattle.message.specs.Seen.{checksOutcome}
-use Rattle.laws.specs.Choice.{choices}
+use Rattle.message.specs.Inner.Seen.{checksOutcome}
+use Rattle.laws.specs.Inner.Choice.{choices}
 use borrow.Author.Needs.{needs}
 use Rattle.message.proofs.read_checks.Statement.{statement}
 use Rattle.message.proofs.read_checks.Tie as tie

@@ -5,7 +5,7 @@ use Prim.Native.Nat.{ℕ, _-_}
 use mathlib.Core.Path.{_≡_, refl, sym, ap, _∙_}
 use mathlib.Core.List.{[]}
 use lib.ListN.{length}
-use Rattle.message.specs.Seen.{outcomeAt}
+use Rattle.message.specs.Inner.Seen.{outcomeAt}
 use Rattle.laws.specs.Choice.{_orElse_}
 use Rattle.message.specs.Verdict.{inTurn, isNone}
 use Rattle.message.proofs.Seen.{seen-none}

@@ -1,10 +1,10 @@
 use Rattle.message.proofs.Turns.{rowOf}
-use Rattle.parameter.specs.Slot.{infoOf}
+use Rattle.parameter.specs.Inner.Slot.{infoOf}
 use mathlib.Core.Path.{_≡_, ap, _∙_}
 use Prim.Native.Nat.{_<_}
 use native.Mathlib.Omega.{arith}
-use Rattle.message.specs.Seen.{rowOutcome}
-use Rattle.laws.specs.Choice.{choices}
+use Rattle.message.specs.Inner.Seen.{rowOutcome}
+use Rattle.laws.specs.Inner.Choice.{choices}
 use borrow.Author.Needs.{needs}
 use Rattle.message.proofs.read_row.Statement.{statement}
 use Rattle.message.proofs.read_row.Tie as tie

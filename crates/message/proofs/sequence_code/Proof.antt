@@ -1,5 +1,5 @@
-use Rattle.message.specs.Seen.{sequenceAt}
-use Rattle.laws.specs.Choice.{choices}
+use Rattle.message.specs.Inner.Seen.{sequenceAt}
+use Rattle.laws.specs.Inner.Choice.{choices}
 use borrow.Author.Needs.{needs}
 use Rattle.message.proofs.sequence_code.Statement.{statement}
 use Rattle.message.proofs.sequence_code.Tie as tie

@@ -2,7 +2,7 @@
 use mathlib.Core.Path.{sym}
 use native.Mathlib.Omega.{arith}
 use borrow.Author.Needs.{needs}
-use Rattle.ranges.specs.Laws.{refused-here, refused-past, owner-small}
+use Rattle.ranges.specs.Inner.Laws.{refused-here, refused-past, owner-small}
 use Rattle.naming.proofs.is_refused.Statement.{statement}
 use Rattle.naming.proofs.is_refused.Tie as tie
 

@@ -5,8 +5,8 @@ use mathlib.Core.Bool.{false}
 use native.Mathlib.Omega.{arith}
 use borrow.Author.Needs.{needs}
 use Rattle.ranges.specs.Named.{entries}
-use Rattle.ranges.specs.Laws.{Table, owner-small, stands, single-start, single-stop}
-use Rattle.naming.specs.Laws.{Passed, passed-none, passed-long, passed-more, passed-refused, all-good, all-marked, within, alone-refused, alone-good, alone-marked, names-refused, names-none}
+use Rattle.ranges.specs.Inner.Laws.{Table, owner-small, stands, single-start, single-stop}
+use Rattle.naming.specs.Inner.Laws.{Passed, passed-none, passed-long, passed-more, passed-refused, all-good, all-marked, within, alone-refused, alone-good, alone-marked, names-refused, names-none}
 use Rattle.naming.proofs.of_ids.Statement.{statement}
 use Rattle.naming.proofs.of_ids.Tie as tie
 

@@ -3,11 +3,11 @@ use Prim.Native.Nat.{_≤_, _<_, _-_}
 use mathlib.Core.Path.{_≡_, sym, _∙_}
 use native.Mathlib.Omega.{arith}
 use borrow.Author.Needs.{needs}
-use Rattle.lookup.specs.Links.{rank}
+use Rattle.lookup.specs.Inner.Links.{rank}
 use Rattle.ranges.specs.Named.{isRefused}
-use Rattle.ranges.specs.Laws.{Table, Good, good-none, good-more, refuses-at, none-refused, empty-range, rank-next, stands, owner-small, named}
-use Rattle.ranges.specs.Marks.{Marked, owners-start}
-use Rattle.naming.specs.Laws.{within, unmarked, marked-step, marked-last, names-refused, names-none}
+use Rattle.ranges.specs.Inner.Laws.{Table, Good, good-none, good-more, refuses-at, none-refused, empty-range, rank-next, stands, owner-small, named}
+use Rattle.ranges.specs.Inner.Marks.{Marked, owners-start}
+use Rattle.naming.specs.Inner.Laws.{within, unmarked, marked-step, marked-last, names-refused, names-none}
 use Rattle.naming.proofs.of_range.Statement.{statement}
 use Rattle.naming.proofs.of_range.Tie as tie
 

@@ -5,8 +5,8 @@ use mathlib.Core.Bool.{true}
 use native.Mathlib.Omega.{arith}
 use borrow.Author.Needs.{needs}
 use Rattle.ranges.specs.Named.{entries}
-use Rattle.ranges.specs.Laws.{Table, pair-start, pair-stop}
-use Rattle.naming.specs.Laws.{Passed, passed-none, passed-more, passed-refused, all-good, all-marked, names-found, names-none}
+use Rattle.ranges.specs.Inner.Laws.{Table, pair-start, pair-stop}
+use Rattle.naming.specs.Inner.Laws.{Passed, passed-none, passed-more, passed-refused, all-good, all-marked, names-found, names-none}
 use Rattle.naming.proofs.of_ranges.Statement.{statement}
 use Rattle.naming.proofs.of_ranges.Tie as tie
 

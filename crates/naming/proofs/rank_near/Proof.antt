@@ -1,6 +1,6 @@
 -- `naming::rank_near`: the place where x stands is its rank. Assumes nothing.
 use borrow.Author.Needs.{needs}
-use Rattle.naming.specs.Laws.{rank-here}
+use Rattle.naming.specs.Inner.Laws.{rank-here}
 use Rattle.naming.proofs.rank_near.Statement.{statement}
 use Rattle.naming.proofs.rank_near.Tie as tie
 

@@ -1,5 +1,5 @@
 use Rattle.parameter.proofs.Uses.{allowed-tree}
-use Rattle.laws.specs.Choice.{choices}
+use Rattle.laws.specs.Inner.Choice.{choices}
 use borrow.Author.Needs.{needs}
 use Rattle.parameter.proofs.allowed_code.Statement.{statement}
 use Rattle.parameter.proofs.allowed_code.Tie as tie

@@ -1,4 +1,4 @@
-use Rattle.laws.specs.Choice.{choices}
+use Rattle.laws.specs.Inner.Choice.{choices}
 use Rattle.parameter.proofs.Uses.{id-tree}
 use borrow.Author.Needs.{needs}
 use Rattle.parameter.proofs.id_code.Statement.{statement}

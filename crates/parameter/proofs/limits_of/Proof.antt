@@ -1,6 +1,6 @@
 use mathlib.Core.Path.{_≡_, ap, sym, _∙_}
 use Rattle.parameter.specs.Value.{limitsOf}
-use Rattle.laws.specs.Choice.{choices}
+use Rattle.laws.specs.Inner.Choice.{choices}
 use borrow.Author.Needs.{needs}
 use Rattle.parameter.proofs.limits_of.Statement.{statement}
 use Rattle.parameter.proofs.limits_of.Tie as tie

@@ -1,4 +1,4 @@
-use Rattle.laws.specs.Choice.{choices}
+use Rattle.laws.specs.Inner.Choice.{choices}
 use borrow.Author.Needs.{needs}
 use Rattle.parameter.proofs.met_at.Statement.{statement}
 use Rattle.parameter.proofs.met_at.Tie as tie

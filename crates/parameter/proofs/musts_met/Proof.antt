@@ -1,4 +1,4 @@
-use Rattle.parameter.specs.Slot.{allAsked}
+use Rattle.parameter.specs.Inner.Slot.{allAsked}
 use borrow.Author.Needs.{needs}
 use Rattle.parameter.proofs.musts_met.Statement.{statement}
 use Rattle.parameter.proofs.musts_met.Tie as tie

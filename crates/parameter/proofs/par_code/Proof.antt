@@ -1,5 +1,5 @@
 use mathlib.Core.Path.{sym}
-use Rattle.laws.specs.Choice.{or-none, or-not}
+use Rattle.laws.specs.Inner.Choice.{or-none, or-not}
 use borrow.Author.Needs.{needs}
 use Rattle.parameter.proofs.par_code.Statement.{statement}
 use Rattle.parameter.proofs.par_code.Tie as tie

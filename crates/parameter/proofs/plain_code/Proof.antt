@@ -1,4 +1,4 @@
-use Rattle.laws.specs.Choice.{choices}
+use Rattle.laws.specs.Inner.Choice.{choices}
 use Rattle.parameter.specs.Value.{plainCode}
 use borrow.Author.Needs.{needs}
 use Rattle.parameter.proofs.plain_code.Statement.{statement}

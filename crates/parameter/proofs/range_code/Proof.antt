@@ -1,7 +1,8 @@
 use lib.ListN.{length}
 use borrow.Author.Tests.{lt-leb, le-leb}
-use Rattle.laws.specs.Below.{allBelow, all-next, all-not}
-use Rattle.laws.specs.Choice.{choices}
+use Rattle.laws.specs.Below.{allBelow}
+use Rattle.laws.specs.Inner.Below.{all-next, all-not}
+use Rattle.laws.specs.Inner.Choice.{choices}
 use Rattle.parameter.specs.Value.{rangeCode}
 use Rattle.wire.specs.Number.{be}
 use lib.Dec.{leb}

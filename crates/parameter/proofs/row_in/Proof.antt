@@ -1,5 +1,5 @@
-use Rattle.parameter.specs.Slot.{rowBits}
-use Rattle.laws.specs.Choice.{choices}
+use Rattle.parameter.specs.Inner.Slot.{rowBits}
+use Rattle.laws.specs.Inner.Choice.{choices}
 use borrow.Author.Needs.{needs}
 use Rattle.parameter.proofs.row_in.Statement.{statement}
 use Rattle.parameter.proofs.row_in.Tie as tie

@@ -1,6 +1,6 @@
-use Rattle.parameter.specs.Slot.{infoOf}
+use Rattle.parameter.specs.Inner.Slot.{infoOf}
 use mathlib.Core.Path.{_≡_, sym, ap, _∙_}
-use Rattle.laws.specs.Choice.{choices}
+use Rattle.laws.specs.Inner.Choice.{choices}
 use borrow.Author.Needs.{needs}
 use Rattle.parameter.proofs.row_info.Statement.{statement}
 use Rattle.parameter.proofs.row_info.Tie as tie

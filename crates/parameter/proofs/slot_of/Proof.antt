@@ -1,4 +1,4 @@
-use Rattle.parameter.specs.Slot.{slot}
+use Rattle.parameter.specs.Inner.Slot.{slot}
 use native.Mathlib.Omega.{arith}
 use borrow.Author.Tests.{lt-ltb, le-ltb, eq-eqb, ne-eqb}
 use borrow.Author.Needs.{needs}

@@ -1,4 +1,4 @@
-use Rattle.laws.specs.Choice.{choices}
+use Rattle.laws.specs.Inner.Choice.{choices}
 use Rattle.parameter.proofs.value_code.Statement.{statement}
 use Rattle.parameter.proofs.value_code.Tie as tie
 

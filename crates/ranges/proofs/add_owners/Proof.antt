@@ -2,9 +2,9 @@
 use Prim.Native.Nat.{_≤_, _-_}
 use native.Mathlib.Omega.{arith}
 use borrow.Author.Needs.{needs}
-use Rattle.ranges.specs.Laws.{Table, named, owner-small}
-use Rattle.ranges.specs.Marks.{Marked, owners-start, owners-more, owners-end}
-use Rattle.lookup.specs.Links.{rank, rank-from}
+use Rattle.ranges.specs.Inner.Laws.{Table, named, owner-small}
+use Rattle.ranges.specs.Inner.Marks.{Marked, owners-start, owners-more, owners-end}
+use Rattle.lookup.specs.Inner.Links.{rank, rank-from}
 use Rattle.ranges.proofs.add_owners.Statement.{statement}
 use Rattle.ranges.proofs.add_owners.Tie as tie
 

@@ -4,8 +4,8 @@ use mathlib.Core.Path.{_≡_}
 use native.Mathlib.Omega.{arith}
 use borrow.Author.Needs.{needs}
 use Rattle.ranges.specs.Named.{isOwnedBy, someEntry, someOf, entries}
-use Rattle.ranges.specs.Laws.{Table}
-use Rattle.ranges.specs.Marks.{Flags, flags-none, flags-more, flags-end}
+use Rattle.ranges.specs.Inner.Laws.{Table}
+use Rattle.ranges.specs.Inner.Marks.{Flags, flags-none, flags-more, flags-end}
 use Rattle.ranges.proofs.owners_of.Statement.{statement}
 use Rattle.ranges.proofs.owners_of.Tie as tie
 

@@ -1,7 +1,7 @@
 -- `ranges::start_at`: by the tag. Assumes nothing.
 use mathlib.Core.Path.{sym, _∙_}
 use native.Mathlib.Omega.{arith}
-use Rattle.ranges.specs.Laws.{pair-inside, single-inside, pair-start, single-start}
+use Rattle.ranges.specs.Inner.Laws.{pair-inside, single-inside, pair-start, single-start}
 use Rattle.ranges.proofs.start_at.Statement.{statement}
 use Rattle.ranges.proofs.start_at.Tie as tie
 

@@ -1,7 +1,7 @@
 -- `ranges::stop_at`: by the tag. Assumes nothing.
 use mathlib.Core.Path.{sym, _∙_}
 use native.Mathlib.Omega.{arith}
-use Rattle.ranges.specs.Laws.{pair-inside, single-inside, pair-stop, single-stop}
+use Rattle.ranges.specs.Inner.Laws.{pair-inside, single-inside, pair-stop, single-stop}
 use Rattle.ranges.proofs.stop_at.Statement.{statement}
 use Rattle.ranges.proofs.stop_at.Tie as tie
 

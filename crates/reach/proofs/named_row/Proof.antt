@@ -1,6 +1,6 @@
 -- `reach::named_row`: by whether identifiers are given. Assumes nothing.
-use Rattle.laws.specs.Choice.{choices}
-use Rattle.reach.specs.Rows.{namedRow}
+use Rattle.laws.specs.Inner.Choice.{choices}
+use Rattle.reach.specs.Inner.Rows.{namedRow}
 use borrow.Author.Needs.{needs}
 use Rattle.reach.proofs.named_row.Statement.{statement}
 use Rattle.reach.proofs.named_row.Tie as tie

@@ -3,14 +3,14 @@ use mathlib.Core.Path.{_≡_, ap, sym, _∙_}
 use mathlib.Core.Bool.{Bool}
 use borrow.Author.Needs.{needs}
 use Rattle.gateway.specs.Sound.{isSound}
-use Rattle.gateway.specs.Laws.{counts-within}
-use Rattle.ranges.specs.Laws.{table}
+use Rattle.gateway.specs.Inner.Laws.{counts-within}
+use Rattle.ranges.specs.Inner.Laws.{table}
 use Rattle.rules.specs.Event.{Event}
 use Rattle.rules.specs.Rules.{refusal, refusalOf, inPlan}
 use Rattle.ask.specs.Happened.{happened, eventOf}
 use Rattle.ask.specs.Inner.Ask.{ask-fits-at}
 use Rattle.ask.specs.Inner.Refused.{Accepted, accepted}
-use Rattle.reach.specs.Rows.{row-is, reached-no, reached-yes}
+use Rattle.reach.specs.Inner.Rows.{row-is, reached-no, reached-yes}
 use Rattle.reach.proofs.of_event.Statement.{statement}
 use Rattle.reach.proofs.of_event.Tie as tie
 

@@ -1,6 +1,6 @@
 -- `reach::other_row`: test for test. Assumes nothing.
-use Rattle.laws.specs.Choice.{choices}
-use Rattle.reach.specs.Rows.{otherRow}
+use Rattle.laws.specs.Inner.Choice.{choices}
+use Rattle.reach.specs.Inner.Rows.{otherRow}
 use borrow.Author.Needs.{needs}
 use Rattle.reach.proofs.other_row.Statement.{statement}
 use Rattle.reach.proofs.other_row.Tie as tie

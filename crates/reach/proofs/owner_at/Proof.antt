@@ -1,6 +1,6 @@
 -- `reach::owner_at`: the owner alone. Assumes nothing.
 use mathlib.Core.Path.{_∙_}
-use Rattle.reach.specs.Rows.{only-row}
+use Rattle.reach.specs.Inner.Rows.{only-row}
 use borrow.Author.Needs.{needs}
 use Rattle.reach.proofs.owner_at.Statement.{statement}
 use Rattle.reach.proofs.owner_at.Tie as tie

@@ -1,6 +1,6 @@
 -- `reach::owner_of`: the identifier stands at its index or nowhere. Assumes nothing.
 use mathlib.Core.Path.{_∙_}
-use Rattle.reach.specs.Rows.{id-known, id-unknown}
+use Rattle.reach.specs.Inner.Rows.{id-known, id-unknown}
 use borrow.Author.Needs.{needs}
 use Rattle.reach.proofs.owner_of.Statement.{statement}
 use Rattle.reach.proofs.owner_of.Tie as tie

@@ -1,6 +1,6 @@
-use Rattle.traffic.specs.Named.{Owners, owners-none, owners-more, owners-end}
+use Rattle.traffic.specs.Inner.Named.{Owners, owners-none, owners-more, owners-end}
 use Rattle.ranges.specs.Named.{isOwnedBy}
-use Rattle.ranges.specs.Laws.{Table}
+use Rattle.ranges.specs.Inner.Laws.{Table}
 use Rattle.wire.proofs.Steps.{step-next, Next, pars-next, pars-stop}
 use Rattle.wire.specs.declared.Step.the-variants.{Param}
 use Rattle.wire.specs.Walk.{stepAt, walk}

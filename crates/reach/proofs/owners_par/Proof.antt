@@ -1,5 +1,5 @@
-use Rattle.traffic.specs.Named.{withPar}
-use Rattle.laws.specs.Choice.{choices}
+use Rattle.traffic.specs.Inner.Named.{withPar}
+use Rattle.laws.specs.Inner.Choice.{choices}
 use borrow.Author.Needs.{needs}
 use Rattle.reach.proofs.owners_par.Statement.{statement}
 use Rattle.reach.proofs.owners_par.Tie as tie

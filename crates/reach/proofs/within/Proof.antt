@@ -5,7 +5,8 @@ use mathlib.Core.Bool.{_&&_}
 use native.Mathlib.Omega.{arith}
 use lib.Dec.{ltb}
 use borrow.Author.Needs.{needs}
-use Rattle.laws.specs.Columns.{Half, flagAt, half-end, half-more, half-none}
+use Rattle.laws.specs.Columns.{flagAt}
+use Rattle.laws.specs.Inner.Columns.{Half, half-end, half-more, half-none}
 use Rattle.reach.proofs.within.Statement.{statement}
 use Rattle.reach.proofs.within.Tie as tie
 

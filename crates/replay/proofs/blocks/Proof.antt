@@ -1,4 +1,4 @@
-use Rattle.replay.specs.Sound.{Sound}
+use Rattle.replay.specs.Inner.Sound.{Sound}
 use borrow.Author.Needs.{needs}
 use Rattle.replay.proofs.blocks.Statement.{statement}
 use Rattle.replay.proofs.blocks.Tie as tie

@@ -1,4 +1,4 @@
-use Rattle.replay.specs.Sound.{Sound}
+use Rattle.replay.specs.Inner.Sound.{Sound}
 use lib.ListN.{length}
 use Prim.Native.Nat.{_-_}
 use borrow.Author.Needs.{needs}

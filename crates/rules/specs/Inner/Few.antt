@@ -12,14 +12,16 @@ use Rattle.laws.specs.Columns.{tabulate}
 use Rattle.wire.specs.Walk.{Par}
 use Rattle.message.specs.declared.Reading.{Reading}
 use Rattle.action.specs.declared.Action.{Action}
-use Rattle.action.specs.Words.{toAll, toAll-short}
-use Rattle.gateway.specs.Laws.{counts-within}
+use Rattle.action.specs.Words.{toAll}
+use Rattle.action.specs.Inner.Words.{toAll-short}
+use Rattle.gateway.specs.Inner.Laws.{counts-within}
 use Rattle.gateway.specs.Sound.{isSound}
 use Rattle.gateway.specs.declared.Gateway.{Gateway}
 use Rattle.server.specs.declared.Change.{Change}
 use Rattle.server.specs.declared.Change.the-variants.{AspUp, AspDown, Deactivate, Activate, Recover}
-use Rattle.server.specs.Change.{fits}
-use Rattle.servers.specs.Changed.{allActions, allActions-short}
+use Rattle.server.specs.Inner.Change.{fits}
+use Rattle.servers.specs.Changed.{allActions}
+use Rattle.servers.specs.Inner.Changed.{allActions-short}
 use Rattle.rules.specs.Event.{EventKind, message, lost, recovery, linkUp, linkDown, linkMessage, Event}
 use Rattle.rules.specs.Effect.{Effect, send, setLink, changeIn, actionsOf}
 use Rattle.rules.specs.Asp.{upEffect, downEffect, lostEffect, activeEffect, inactiveEffect, trafficEffect}

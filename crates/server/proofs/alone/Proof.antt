@@ -1,6 +1,6 @@
 -- `server::alone`: one place, or none. Assumes nothing.
 use borrow.Author.Needs.{needs}
-use Rattle.server.specs.Flag.{flagged-in, flagged-not}
+use Rattle.server.specs.Inner.Flag.{flagged-in, flagged-not}
 use Rattle.server.proofs.alone.Statement.{statement}
 use Rattle.server.proofs.alone.Tie as tie
 

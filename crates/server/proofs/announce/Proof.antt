@@ -2,9 +2,9 @@
 use mathlib.Core.Path.{sym, _∙_}
 use native.Mathlib.Omega.{arith}
 use borrow.Author.Needs.{needs}
-use Rattle.action.specs.Words.{written-none}
-use Rattle.server.specs.Notify.{announced-down, announced-new, announced-same}
-use Rattle.server.specs.Record.{state-small}
+use Rattle.action.specs.Inner.Words.{written-none}
+use Rattle.server.specs.Inner.Notify.{announced-down, announced-new, announced-same}
+use Rattle.server.specs.Inner.Record.{state-small}
 use Rattle.server.proofs.announce.Statement.{statement}
 use Rattle.server.proofs.announce.Tie as tie
 

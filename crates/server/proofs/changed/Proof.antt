@@ -1,7 +1,7 @@
 -- `server::changed`: by the change. Assumes nothing.
 use mathlib.Core.Path.{_∙_}
 use borrow.Author.Needs.{needs}
-use Rattle.server.specs.Flag.{less-one, more-one, turned-one}
+use Rattle.server.specs.Inner.Flag.{less-one, more-one, turned-one}
 use Rattle.server.proofs.changed.Statement.{statement}
 use Rattle.server.proofs.changed.Tie as tie
 

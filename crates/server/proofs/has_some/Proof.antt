@@ -3,7 +3,8 @@ use Prim.Native.Nat.{_≤_, _-_}
 use mathlib.Core.Path.{_≡_, sym}
 use native.Mathlib.Omega.{arith}
 use borrow.Author.Needs.{needs}
-use Rattle.laws.specs.Below.{any-more, any-none, anyBelow, at-end}
+use Rattle.laws.specs.Below.{anyBelow}
+use Rattle.laws.specs.Inner.Below.{any-more, any-none, at-end}
 use Rattle.laws.specs.Columns.{flagAt}
 use Rattle.server.specs.Record.{some}
 use Rattle.server.proofs.has_some.Statement.{statement}

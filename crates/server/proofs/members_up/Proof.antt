@@ -4,7 +4,8 @@ use mathlib.Core.Path.{refl}
 use mathlib.Core.Bool.{_&&_}
 use native.Mathlib.Omega.{arith}
 use borrow.Author.Needs.{needs}
-use Rattle.laws.specs.Columns.{Half, flagAt, half-end, half-more, half-none, isSet}
+use Rattle.laws.specs.Columns.{flagAt, isSet}
+use Rattle.laws.specs.Inner.Columns.{Half, half-end, half-more, half-none}
 use Rattle.server.specs.Record.{membersUp}
 use Rattle.server.proofs.members_up.Statement.{statement}
 use Rattle.server.proofs.members_up.Tie as tie

@@ -5,8 +5,9 @@ use mathlib.Core.Bool.{_&&_, not}
 use native.Mathlib.Omega.{arith}
 use lib.Dec.{eqb}
 use borrow.Author.Needs.{needs}
-use Rattle.laws.specs.Columns.{Half, flagAt, half-end, half-more, half-none}
-use Rattle.server.specs.Flag.{less}
+use Rattle.laws.specs.Columns.{flagAt}
+use Rattle.laws.specs.Inner.Columns.{Half, half-end, half-more, half-none}
+use Rattle.server.specs.Inner.Flag.{less}
 use Rattle.server.proofs.minus.Statement.{statement}
 use Rattle.server.proofs.minus.Tie as tie
 

@@ -3,7 +3,7 @@ use borrow.Author.Needs.{needs}
 use borrow.Author.Tests.{ne-eqb}
 use Rattle.laws.specs.Columns.{tabulate}
 use Rattle.server.specs.Change.{nobody}
-use Rattle.server.specs.Flag.{overtakenBy}
+use Rattle.server.specs.Inner.Flag.{overtakenBy}
 use Rattle.server.proofs.overtake.Statement.{statement}
 use Rattle.server.proofs.overtake.Tie as tie
 

@@ -2,7 +2,7 @@
 use borrow.Author.Needs.{needs}
 use Rattle.laws.specs.Columns.{tabulate}
 use Rattle.server.specs.Change.{nobody}
-use Rattle.server.specs.Flag.{overtaken-one}
+use Rattle.server.specs.Inner.Flag.{overtaken-one}
 use Rattle.server.proofs.overtaken_in.Statement.{statement}
 use Rattle.server.proofs.overtaken_in.Tie as tie
 

@@ -3,8 +3,9 @@ use Prim.Native.Nat.{_≤_, _-_, _+_, _*_}
 use mathlib.Core.Path.{_∙_}
 use native.Mathlib.Omega.{arith}
 use borrow.Author.Needs.{needs}
-use Rattle.laws.specs.Columns.{HalfCol, numberAt, half-at, half-more}
-use Rattle.server.specs.Record.{laid-end, laid-in, laid-none, withRowAt}
+use Rattle.laws.specs.Columns.{numberAt}
+use Rattle.laws.specs.Inner.Columns.{HalfCol, half-at, half-more}
+use Rattle.server.specs.Inner.Record.{laid-end, laid-in, laid-none, withRowAt}
 use Rattle.server.proofs.put_row.Statement.{statement}
 use Rattle.server.proofs.put_row.Tie as tie
 

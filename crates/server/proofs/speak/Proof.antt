@@ -1,7 +1,7 @@
 -- `server::speak`: by whether someone is overtaken. Assumes nothing.
 use mathlib.Core.Path.{sym, _∙_}
 use borrow.Author.Needs.{needs}
-use Rattle.server.specs.Notify.{spoken}
+use Rattle.server.specs.Inner.Notify.{spoken}
 use Rattle.server.proofs.speak.Statement.{statement}
 use Rattle.server.proofs.speak.Tie as tie
 

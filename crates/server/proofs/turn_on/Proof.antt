@@ -1,7 +1,7 @@
 -- `server::turn_on`: by the mode. Assumes nothing.
 use borrow.Author.Needs.{needs}
 use borrow.Author.Tests.{ne-eqb}
-use Rattle.server.specs.Flag.{activatedBy}
+use Rattle.server.specs.Inner.Flag.{activatedBy}
 use Rattle.server.proofs.turn_on.Statement.{statement}
 use Rattle.server.proofs.turn_on.Tie as tie
 

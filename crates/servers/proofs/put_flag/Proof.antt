@@ -3,7 +3,7 @@ use mathlib.Core.Path.{sym, _∙_}
 use native.Mathlib.Omega.{arith}
 use borrow.Author.Needs.{needs}
 use lib.Seq.{set-out}
-use Rattle.servers.specs.Changed.{flagAt-set}
+use Rattle.servers.specs.Inner.Changed.{flagAt-set}
 use Rattle.servers.proofs.put_flag.Statement.{statement}
 use Rattle.servers.proofs.put_flag.Tie as tie
 

@@ -2,11 +2,11 @@
 use Prim.Native.Nat.{_≤_, _-_}
 use native.Mathlib.Omega.{arith}
 use borrow.Author.Needs.{needs}
-use Rattle.action.specs.Words.{emit-bound, written-length}
+use Rattle.action.specs.Inner.Words.{emit-bound, written-length}
 use Rattle.server.specs.Record.{recordFrom}
 use Rattle.servers.proofs.Turn.{run-end, run-none, run-turn}
-use Rattle.servers.specs.Changed.{actionsAt-short}
-use Rattle.servers.specs.Run.{Running}
+use Rattle.servers.specs.Inner.Changed.{actionsAt-short}
+use Rattle.servers.specs.Inner.Run.{Running}
 use Rattle.servers.proofs.run.Statement.{statement}
 use Rattle.servers.proofs.run.Tie as tie
 

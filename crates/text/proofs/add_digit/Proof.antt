@@ -1,5 +1,5 @@
-use Rattle.text.specs.Parse.{addDigit}
-use Rattle.laws.specs.Choice.{choices}
+use Rattle.text.specs.Inner.Parse.{addDigit}
+use Rattle.laws.specs.Inner.Choice.{choices}
 use borrow.Author.Needs.{needs}
 use Rattle.text.proofs.add_digit.Statement.{statement}
 use Rattle.text.proofs.add_digit.Tie as tie

@@ -1,5 +1,5 @@
 use Rattle.text.specs.Digits.{glyph}
-use Rattle.laws.specs.Choice.{choices}
+use Rattle.laws.specs.Inner.Choice.{choices}
 use borrow.Author.Needs.{needs}
 use Rattle.text.proofs.digit.Statement.{statement}
 use Rattle.text.proofs.digit.Tie as tie

@@ -1,5 +1,5 @@
 use Rattle.text.specs.Parse.{isDash}
-use Rattle.laws.specs.Choice.{choices}
+use Rattle.laws.specs.Inner.Choice.{choices}
 use borrow.Author.Needs.{needs}
 use Rattle.text.proofs.is_dash.Statement.{statement}
 use Rattle.text.proofs.is_dash.Tie as tie

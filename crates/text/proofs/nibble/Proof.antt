@@ -1,6 +1,6 @@
 use Rattle.text.specs.Parse.{nibbleOf}
 use native.Mathlib.Omega.{arith}
-use Rattle.laws.specs.Choice.{choices}
+use Rattle.laws.specs.Inner.Choice.{choices}
 use borrow.Author.Needs.{needs}
 use Rattle.text.proofs.nibble.Statement.{statement}
 use Rattle.text.proofs.nibble.Tie as tie

@@ -1,7 +1,7 @@
 use Prim.Native.Nat.{_<_, _≤_, _-_}
 use Rattle.text.proofs.Parses.{number-empty, number-done, number-next, number-stop, number-some}
 use native.Mathlib.Omega.{arith}
-use Rattle.text.specs.Parse.{numberFrom}
+use Rattle.text.specs.Inner.Parse.{numberFrom}
 use lib.ListN.{length, drop}
 use mathlib.Core.Path.{_≡_, refl, sym, _∙_}
 use borrow.Author.Needs.{needs}

@@ -1,6 +1,6 @@
 use Rattle.text.specs.Digits.{places}
 use native.Mathlib.Omega.{arith}
-use Rattle.laws.specs.Choice.{choices}
+use Rattle.laws.specs.Inner.Choice.{choices}
 use Rattle.text.proofs.width.Statement.{statement}
 use Rattle.text.proofs.width.Tie as tie
 

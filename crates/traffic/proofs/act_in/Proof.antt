@@ -1,5 +1,5 @@
 use borrow.Author.Needs.{needs}
-use Rattle.work.specs.Decides.{act, decisions}
+use Rattle.work.specs.Inner.Decides.{act, decisions}
 use Rattle.traffic.proofs.act_in.Statement.{statement}
 use Rattle.traffic.proofs.act_in.Tie as tie
 

@@ -1,4 +1,4 @@
-use Rattle.work.specs.Decides.{decisions, by-no}
+use Rattle.work.specs.Inner.Decides.{decisions, by-no}
 use borrow.Author.Needs.{needs}
 use Rattle.traffic.proofs.active_at.Statement.{statement}
 use Rattle.traffic.proofs.active_at.Tie as tie

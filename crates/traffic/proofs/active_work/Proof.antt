@@ -1,6 +1,6 @@
 use borrow.Author.Needs.{needs}
 use Rattle.rules.specs.Asp.{activeEffect}
-use Rattle.traffic.specs.Aims.{mode-is-other}
+use Rattle.traffic.specs.Inner.Aims.{mode-is-other}
 use Rattle.traffic.proofs.active_work.Statement.{statement}
 use Rattle.traffic.proofs.active_work.Tie as tie
 

@@ -1,7 +1,7 @@
-use Rattle.traffic.specs.Named.{refusedPars, refused-here, refused-later, Owners, owners-none, owners-more, owners-end}
+use Rattle.traffic.specs.Inner.Named.{refusedPars, refused-here, refused-later, Owners, owners-none, owners-more, owners-end}
 use Rattle.ranges.specs.Named.{isRefused, isOwnedBy}
-use Rattle.naming.specs.Laws.{names-found, names-none}
-use Rattle.ranges.specs.Laws.{Table}
+use Rattle.naming.specs.Inner.Laws.{names-found, names-none}
+use Rattle.ranges.specs.Inner.Laws.{Table}
 use Rattle.wire.proofs.Steps.{step-next, Next, pars-next, pars-stop}
 use Rattle.wire.specs.declared.Step.the-variants.{Param}
 use Rattle.wire.specs.Walk.{stepAt, walk}

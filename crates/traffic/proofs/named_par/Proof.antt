@@ -1,8 +1,8 @@
 use mathlib.Core.Path.{refl}
 use borrow.Author.Needs.{needs}
 use borrow.Author.Tests.{eq-eqb, ne-eqb}
-use Rattle.naming.specs.Laws.{names-none}
-use Rattle.traffic.specs.Named.{refusedPar, withPar}
+use Rattle.naming.specs.Inner.Laws.{names-none}
+use Rattle.traffic.specs.Inner.Named.{refusedPar, withPar}
 use Rattle.traffic.proofs.named_par.Statement.{statement}
 use Rattle.traffic.proofs.named_par.Tie as tie
 

@@ -1,5 +1,5 @@
 use borrow.Author.Needs.{needs}
-use Rattle.traffic.specs.Aims.{otherModeIn}
+use Rattle.traffic.specs.Inner.Aims.{otherModeIn}
 use Rattle.traffic.proofs.other_mode.Statement.{statement}
 use Rattle.traffic.proofs.other_mode.Tie as tie
 

@@ -1,5 +1,6 @@
 use Rattle.laws.specs.Columns.{flagAt, numberAt}
-use Rattle.laws.specs.Below.{any-more, any-none, anyBelow, at-end}
+use Rattle.laws.specs.Below.{anyBelow}
+use Rattle.laws.specs.Inner.Below.{any-more, any-none, at-end}
 use lib.Dec.{eqb}
 use mathlib.Core.Bool.{not, _&&_}
 use mathlib.Core.Path.{_≡_, sym}

@@ -6,9 +6,9 @@ use lib.Dec.{eqb}
 use Rattle.laws.specs.Columns.{numberAt}
 use borrow.Author.Needs.{needs}
 use borrow.Author.Tests.{eq-eqb}
-use Rattle.work.specs.Decides.{decisions}
+use Rattle.work.specs.Inner.Decides.{decisions}
 use Rattle.rules.specs.Asp.{trafficEffect}
-use Rattle.traffic.specs.Aims.{aims-on, aimed-refused, aimed-none, aimed-acts}
+use Rattle.traffic.specs.Inner.Aims.{aims-on, aimed-refused, aimed-none, aimed-acts}
 use Rattle.traffic.proofs.traffic_work.Statement.{statement}
 use Rattle.traffic.proofs.traffic_work.Tie as tie
 

@@ -1,5 +1,5 @@
 use Rattle.wire.specs.Walk.{partOf}
-use Rattle.laws.specs.Choice.{choices}
+use Rattle.laws.specs.Inner.Choice.{choices}
 use borrow.Author.Needs.{needs}
 use Rattle.wire.proofs.part_at.Statement.{statement}
 use Rattle.wire.proofs.part_at.Tie as tie

@@ -1,4 +1,4 @@
-use Rattle.rules.specs.Decision.{effectIn, firstActions}
+use Rattle.rules.specs.Inner.Decision.{effectIn, firstActions}
 use mathlib.Core.Path.{refl}
 use borrow.Author.Needs.{needs}
 use Rattle.work.proofs.nothing.Statement.{statement}

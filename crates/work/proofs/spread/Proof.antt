@@ -1,4 +1,4 @@
-use Rattle.rules.specs.Decision.{effectIn, firstActions, spread}
+use Rattle.rules.specs.Inner.Decision.{effectIn, firstActions, spread}
 use mathlib.Core.Path.{refl}
 use borrow.Author.Needs.{needs}
 use Rattle.work.proofs.spread.Statement.{statement}

@@ -1,0 +1,128 @@
+-- A message by its class and type: which method answers it, and what those do that have none of their own.
+-- Assumes nothing.
+use mathlib.Core.Path.{_≡_, refl, sym, ap, _∙_}
+use mathlib.Core.Bool.{Bool, true, false, cond, _&&_}
+use mathlib.Core.List.{List, []}
+use Prim.Native.Nat.{ℕ, _<_}
+use native.Mathlib.Omega.{arith}
+use lib.Dec.{eqb}
+use lib.ListN.{getD}
+use borrow.Author.Tests.{eq-eqb, ne-eqb, eqb-true}
+use Rattle.wire.specs.Walk.{walk}
+use Rattle.message.specs.Verdict.{verdict}
+use Rattle.message.specs.Meaning.{meaning, outcome, refusal, readingOf}
+use Rattle.message.specs.declared.Reading.{Reading}
+use Rattle.gateway.specs.declared.Gateway.{Gateway}
+use Rattle.rules.specs.Effect.{Effect, send, error, oneAction}
+use Rattle.rules.specs.Asp.{upEffect, downEffect, trafficEffect, activeEffect, inactiveEffect}
+use Rattle.rules.specs.Link.{classSixEffect}
+use Rattle.rules.specs.Rules.{isError, classTypeOf, fromAsp, readEffect, messageEffect}
+use Rattle.links.specs.Inner.Side.{code-is}
+
+-- the class and type as one number; 0 of an Error (wrong) and of what cannot be read
+unfoldable pub typeIn : Bool → Reading → ℕ
+typeIn wrong r = cond wrong 0 (cond (eqb (r .code) 0) (classTypeOf r) 0)
+
+-- Beat, Beat Ack, class 6 and any other (Rules 7.7, 7.14, 7.23), as the code asks; six says that the type is one of class 6 that ASPs send, d what it does
+unfoldable pub otherTree : Effect → ℕ → Reading → Bool → Effect
+otherTree d p r six =
+    cond (eqb (classTypeOf r) 771) (send (oneAction p 774 0 0))
+    (cond (eqb (classTypeOf r) 774) (send [])
+    (cond (eqb (r .class) 6) (cond six d (send (error p 6)))
+    (send (error p 6))))
+
+-- nothing for an Error, and an Error for what cannot be read
+unfoldable pub otherEffect : Gateway → ℕ → Bool → Reading → Effect
+otherEffect g p wrong r =
+    cond wrong (send []) (cond (eqb (r .code) 0) (otherTree (classSixEffect g p r) p r (fromAsp (r .msgtype))) (send (error p (r .code))))
+
+-- ---- a readable message, by its type
+
+module _ (g : Gateway) (p : ℕ) (s : List ℕ) (r : Reading) where
+  read-up : classTypeOf r ≡ 769 → readEffect g p s r ≡ upEffect g p r
+  unfolding readEffect
+  read-up e = rw e
+
+  read-down : classTypeOf r ≡ 770 → readEffect g p s r ≡ downEffect g p
+  unfolding readEffect
+  read-down e = rw e
+
+  read-active : classTypeOf r ≡ 1025 → readEffect g p s r ≡ trafficEffect g p r (walk s 8 .pars) (activeEffect g p (r .mode))
+  unfolding readEffect
+  read-active e = rw e
+
+  read-inactive : classTypeOf r ≡ 1026 → readEffect g p s r ≡ trafficEffect g p r (walk s 8 .pars) (inactiveEffect p)
+  unfolding readEffect
+  read-inactive e = rw e
+
+  read-other : (classTypeOf r ≡ 769 → ⊥) → (classTypeOf r ≡ 770 → ⊥) → (classTypeOf r ≡ 1025 → ⊥) → (classTypeOf r ≡ 1026 → ⊥) → readEffect g p s r ≡ otherTree (classSixEffect g p r) p r (fromAsp (r .msgtype))
+  unfolding readEffect otherTree
+  read-other up down on off =
+      rw (ne-eqb (classTypeOf r) 769 up, ne-eqb (classTypeOf r) 770 down, ne-eqb (classTypeOf r) 1025 on, ne-eqb (classTypeOf r) 1026 off)
+      (ap (λ (d : Effect). cond (eqb (classTypeOf r) 771) (send (oneAction p 774 0 0)) (cond (eqb (classTypeOf r) 774) (send []) d)) (sym (last (eqb (r .class) 6) (fromAsp (r .msgtype)))))
+    where
+      last : (u v : Bool) → cond u (cond v (classSixEffect g p r) (send (error p 6))) (send (error p 6)) ≡ cond (u && v) (classSixEffect g p r) (send (error p 6))
+      last true v = refl
+      last false v = refl
+
+-- ---- any message, by its type
+
+-- a type is that of a message that is no Error and can be read
+pub record Typed (wrong : Bool) (r : Reading) (t : ℕ) : Type 0 where
+  pub right : wrong ≡ false
+  pub code : r .code ≡ 0
+  pub type : classTypeOf r ≡ t
+
+pub typed : (wrong : Bool) (r : Reading) (t : ℕ) → typeIn wrong r ≡ t → (0 ≡ t → ⊥) → Typed wrong r t
+unfolding typeIn
+typed wrong r t = go wrong (eqb (r .code) 0) refl
+  where
+    go : (u v : Bool) → eqb (r .code) 0 ≡ v → cond u 0 (cond v (classTypeOf r) 0) ≡ t → (0 ≡ t → ⊥) → Typed u r t
+    go true v f e n = absurd (n e)
+    go false true f e n = record { right = refl; code = eqb-true (r .code) 0 f; type = e }
+    go false false f e n = absurd (n e)
+
+module _ (g : Gateway) (p : ℕ) (s : List ℕ) where
+  message-read : (t : ℕ) → typeIn (isError s) (readingOf s) ≡ t → (0 ≡ t → ⊥) → messageEffect g p s ≡ readEffect g p s (readingOf s)
+  unfolding messageEffect
+  message-read t e n = let y = typed (isError s) (readingOf s) t e n in rw (y .right, ← code-is s, eq-eqb (readingOf s .code) 0 (y .code))
+
+  pub message-up : typeIn (isError s) (readingOf s) ≡ 769 → messageEffect g p s ≡ upEffect g p (readingOf s)
+  message-up e = message-read 769 e (λ z. omega arith) ∙ read-up g p s (readingOf s) (typed _ _ 769 e (λ z. omega arith) .type)
+
+  pub message-down : typeIn (isError s) (readingOf s) ≡ 770 → messageEffect g p s ≡ downEffect g p
+  message-down e = message-read 770 e (λ z. omega arith) ∙ read-down g p s (readingOf s) (typed _ _ 770 e (λ z. omega arith) .type)
+
+  pub message-active : typeIn (isError s) (readingOf s) ≡ 1025 → messageEffect g p s ≡ trafficEffect g p (readingOf s) (walk s 8 .pars) (activeEffect g p (readingOf s .mode))
+  message-active e = message-read 1025 e (λ z. omega arith) ∙ read-active g p s (readingOf s) (typed _ _ 1025 e (λ z. omega arith) .type)
+
+  pub message-inactive : typeIn (isError s) (readingOf s) ≡ 1026 → messageEffect g p s ≡ trafficEffect g p (readingOf s) (walk s 8 .pars) (inactiveEffect p)
+  message-inactive e = message-read 1026 e (λ z. omega arith) ∙ read-inactive g p s (readingOf s) (typed _ _ 1026 e (λ z. omega arith) .type)
+
+  pub message-other : (typeIn (isError s) (readingOf s) ≡ 769 → ⊥) → (typeIn (isError s) (readingOf s) ≡ 770 → ⊥) → (typeIn (isError s) (readingOf s) ≡ 1025 → ⊥) → (typeIn (isError s) (readingOf s) ≡ 1026 → ⊥) → messageEffect g p s ≡ otherEffect g p (isError s) (readingOf s)
+  unfolding messageEffect otherEffect typeIn
+  message-other = rw (← code-is s) (go (isError s) (eqb (readingOf s .code) 0))
+    where
+      go : (u v : Bool) → (cond u 0 (cond v (classTypeOf (readingOf s)) 0) ≡ 769 → ⊥) → (cond u 0 (cond v (classTypeOf (readingOf s)) 0) ≡ 770 → ⊥) → (cond u 0 (cond v (classTypeOf (readingOf s)) 0) ≡ 1025 → ⊥) → (cond u 0 (cond v (classTypeOf (readingOf s)) 0) ≡ 1026 → ⊥)
+          → cond u (send []) (cond v (readEffect g p s (readingOf s)) (send (error p (readingOf s .code)))) ≡ cond u (send []) (cond v (otherTree (classSixEffect g p (readingOf s)) p (readingOf s) (fromAsp (readingOf s .msgtype))) (send (error p (readingOf s .code))))
+      go true v a b c d = refl
+      go false true a b c d = read-other g p s (readingOf s) a b c d
+      go false false a b c d = refl
+
+-- ---- class and type are bytes
+
+pub class-small : (s : List ℕ) → getD s 2 0 < 256 → readingOf s .class < 256
+unfolding readingOf outcome meaning
+class-small s h = go (eqb (verdict s) 0)
+  where
+    go : (u : Bool) → cond u (meaning (getD s 2 0) (getD s 3 0) (walk s 8 .pars)) (refusal (verdict s)) .class < 256
+    go true = h
+    go false = omega arith
+
+pub type-small : (s : List ℕ) → getD s 3 0 < 256 → readingOf s .msgtype < 256
+unfolding readingOf outcome meaning
+type-small s h = go (eqb (verdict s) 0)
+  where
+    go : (u : Bool) → cond u (meaning (getD s 2 0) (getD s 3 0) (walk s 8 .pars)) (refusal (verdict s)) .msgtype < 256
+    go true = h
+    go false = omega arith

@@ -1,0 +1,3 @@
+pub mod Recipients
+pub mod Side
+pub mod Six

@@ -1,0 +1,64 @@
+-- What the reading of a link-side message says of its place in the plan.
+-- Assumes nothing.
+use mathlib.Core.Path.{_≡_, refl, sym, _∙_}
+use mathlib.Core.Bool.{Bool, true, false, cond, not, _&&_, _||_, false≢true}
+use mathlib.Core.List.{List}
+use Prim.Native.Nat.{ℕ, zero, suc, _<_}
+use native.Mathlib.Omega.{arith}
+use native.Mathlib.Decide.{decLt}
+use lib.Dec.{eqb, leb}
+use borrow.Author.Tests.{ne-eqb, le-leb, lt-leb, eqb-true}
+use Rattle.laws.specs.Inner.Every.{and-left, and-right}
+use Rattle.message.specs.Verdict.{verdict}
+use Rattle.message.specs.Meaning.{meaning, outcome, readingOf}
+use Rattle.message.specs.declared.Reading.{Reading}
+use Rattle.gateway.specs.declared.Gateway.{Gateway}
+use Rattle.lookup.specs.Links.{known}
+use Rattle.rules.specs.Event.{linkMessage}
+use Rattle.rules.specs.Identifiers.{isKnown}
+use Rattle.rules.specs.Rules.{fromLink, inPlan}
+
+-- a message of the link side that is not refused with 102 (Rule 6.5)
+unfoldable pub passes : List ℕ → ℕ → Reading → Bool
+passes iid links r = eqb (r .code) 0 && (eqb (r .class) 6 && (fromLink (r .msgtype) && known iid links (r .id)))
+
+-- the number of a reading is the verdict
+pub code-is : (s : List ℕ) → readingOf s .code ≡ verdict s
+unfolding readingOf outcome meaning
+code-is s = go (verdict s)
+  where
+    go : (n : ℕ) → outcome n s .code ≡ n
+    go zero = refl
+    go (suc n) = rw (ne-eqb (suc n) 0 (λ e. omega arith))
+
+pub in-plan : (g : Gateway) (s : List ℕ) → passes (g .iid) (g .links) (readingOf s) ≡ inPlan g (linkMessage s)
+unfolding passes isKnown
+in-plan g s = rw (code-is s)
+
+from-small : (k : ℕ) → fromLink k ≡ true → k < 256
+unfolding fromLink
+from-small k h = go (decLt k 256)
+  where
+    go : Dec (k < 256) → k < 256
+    go (yes l) = l
+    go (no l) =
+        absurd
+        (false≢true
+        (rw (ne-eqb k 1 (λ e. omega arith), ne-eqb k 8 (λ e. omega arith), ne-eqb k 9 (λ e. omega arith), le-leb 11 k (omega arith), lt-leb k 14 (omega arith))
+        at h))
+
+-- what a message of the link side that passes has
+pub record Side (iid : List ℕ) (links : ℕ) (r : Reading) : Type 0 where
+  pub class : r .class ≡ 6
+  pub msgtype : r .msgtype < 256
+  pub there : known iid links (r .id) ≡ true
+
+pub side : (iid : List ℕ) (links : ℕ) (r : Reading) → passes iid links r ≡ true → Side iid links r
+unfolding passes
+side iid links r h =
+    let a = eqb (r .class) 6 in
+    let b = fromLink (r .msgtype) in
+    let d = known iid links (r .id) in
+    let x = and-right (eqb (r .code) 0) (a && (b && d)) h in
+    let y = and-right a (b && d) x in
+    record { class = eqb-true (r .class) 6 (and-left a (b && d) x); msgtype = from-small (r .msgtype) (and-left b d y); there = and-right b d y }

@@ -1,0 +1,91 @@
+-- What the reader keeps of the parameters passed: by slot, whether a tag of the slot is there, and the number of the first.
+-- The checks and the meaning, asked of that.
+-- Assumes nothing.
+use mathlib.Core.Path.{_≡_}
+use Prim.Native.Nat.{ℕ, _+_, _%_, _<_}
+use mathlib.Core.Bool.{Bool, true, false, cond, not, _&&_, _||_}
+use mathlib.Core.List.{List, [], _∷_}
+use lib.ListN.{length, getD}
+use lib.Dec.{ltb, eqb}
+use Rattle.laws.specs.Choice.{_orElse_, _if_}
+use Rattle.wire.specs.Number.{be}
+use Rattle.wire.specs.Walk.{Par, padded}
+use Rattle.parameter.specs.Table.{table, hasClass, rowIn}
+use Rattle.parameter.specs.Inner.Slot.{slot, allAsked}
+use Rattle.message.specs.Verdict.{head, exactly, getBsn, getMessages, most, lastChecks}
+use Rattle.message.specs.Meaning.{flag, refusal, outcome}
+use Rattle.message.specs.declared.Reading.{Reading}
+use Rattle.message.specs.declared.DataAt.{DataAt}
+
+-- a tag of the slot is there
+unfoldable pub there : ℕ → List Par → Bool
+there k [] = false
+there k (p ∷ ps) = eqb (slot (p .tag)) k || there k ps
+
+-- the number of the first tag of the slot
+unfoldable pub word : ℕ → List Par → ℕ
+word k [] = 0
+word k (p ∷ ps) = cond (eqb (slot (p .tag)) k) (head (p .body)) (word k ps)
+
+-- the two tables say so of the parameters
+pub record Seen (met : List Bool) (words : List ℕ) (ps : List Par) : Type 0 where
+  pub met-is : (k : ℕ) → k < 32 → getD met k false ≡ there k ps
+  pub words-is : (k : ℕ) → k < 32 → getD words k 0 ≡ word k ps
+
+-- the sequence number rules, of an action, a result, and whether there is a sequence number
+unfoldable pub sequenceAt : ℕ → ℕ → ℕ → ℕ → Bool → ℕ
+sequenceAt c t retrieval result given =
+    cond (eqb c 6)
+    (cond (eqb t 10) (exactly (eqb retrieval getMessages) given)
+    (cond (eqb t 11) (cond (eqb retrieval getBsn) (exactly (eqb result 0) given) (exactly false given))
+    0))
+    0
+
+-- check 8, of a row whose mandatory slots are packed
+unfoldable pub endAt : ℕ → ℕ → ℕ → List Bool → List ℕ → ℕ
+endAt musts c t met words =
+    (22 if not (allAsked musts met)) orElse sequenceAt c t (getD words (slot 0x306) 0) (getD words (slot 0x308) 0) (getD met (slot 0x307) false)
+
+-- the meaning of an accepted message
+unfoldable pub meaningAt : ℕ → ℕ → List Bool → List ℕ → Reading
+meaningAt c t met words =
+    record {
+      code = 0;
+      class = c;
+      msgtype = t;
+      ids = flag (getD met (slot 0x1) false || getD met (slot 0x8) false);
+      id = getD words (slot 0x1) 0;
+      mode = getD words (slot 0xb) 0;
+      identified = flag (getD met (slot 0x11) false);
+      aspid = getD words (slot 0x11) 0;
+      correlated = flag (getD met (slot 0x13) false);
+      correlation = getD words (slot 0x13) 0;
+      state = getD words (slot 0x302) 0;
+      retrieval = getD words (slot 0x306) 0;
+    }
+
+-- what a number hands back: the meaning, or the refusal
+unfoldable pub outcomeAt : ℕ → ℕ → ℕ → List Bool → List ℕ → Reading
+outcomeAt n c t met words = cond (eqb n 0) (meaningAt c t met words) (refusal n)
+
+-- where the value of the first parameter of a slot lies, if the first of the parameters stands at a position
+unfoldable pub placeAt : ℕ → ℕ → List Par → DataAt
+placeAt k at [] = record { start = 0; length = 0 }
+placeAt k at (p ∷ ps) = cond (eqb (slot (p .tag)) k) (record { start = at + 4; length = length (p .body) }) (placeAt k (at + padded (4 + length (p .body))) ps)
+
+-- The checks in the order in which the code asks: 3 to 8, of whether the class is listed, the row and the length field
+unfoldable pub rowOutcome : Bool → ℕ → ℕ → List ℕ → Reading
+rowOutcome listed i n s =
+    cond (not listed) (refusal 3)
+    (cond (eqb i 17) (refusal 4)
+    (cond (eqb n (length s)) (cond (eqb (length s % 4) 0) (outcome (lastChecks s) s) (refusal 7)) (refusal 7)))
+
+abbrev pub kindOutcome : List ℕ → Reading
+kindOutcome s = rowOutcome (hasClass table (getD s 2 0)) (rowIn table (getD s 2 0) (getD s 3 0)) (be 4 s 4) s
+
+-- and all of them
+unfoldable pub checksOutcome : List ℕ → Reading
+checksOutcome s =
+    cond (ltb (length s) 8) (refusal 7)
+    (cond (ltb most (length s)) (refusal 7)
+    (cond (eqb (getD s 0 0) 1) (kindOutcome s) (refusal 1)))

@@ -1,0 +1,4 @@
+pub mod Change
+pub mod Flag
+pub mod Notify
+pub mod Record

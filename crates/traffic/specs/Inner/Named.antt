@@ -1,0 +1,152 @@
+-- The identifiers that a message names (Rule 7.8), one parameter after the other, over what tells of one identifier whether it is refused (bad), and whether
+-- AS a owns it (good a).
+-- Assumes nothing.
+use mathlib.Core.Path.{_≡_, refl, ap, _∙_, sym}
+use mathlib.Core.Bool.{Bool, true, false, cond, _&&_, _||_, false≢true}
+use mathlib.Core.List.{List, [], _∷_}
+use Prim.Native.Nat.{ℕ, _<_}
+use lib.Dec.{eqb}
+use borrow.Author.Tests.{eqb-true}
+use lib.ListN.{length, replicate, getD-replicate}
+use Rattle.laws.specs.Columns.{flagAt, tabulate}
+use Rattle.laws.specs.Inner.Columns.{tabulate-ext, getD-tabulate, is-tabulate, length-tabulate}
+use Rattle.wire.specs.Walk.{Par}
+use Rattle.gateway.specs.declared.Gateway.{Gateway}
+use Rattle.ranges.specs.Named.{isRefused, isOwnedBy, nothing, refusedIn, someOf}
+use Rattle.ranges.specs.declared.Refused.{Refused}
+use Rattle.rules.specs.Identifiers.{isIds, firstRefused, ownsNamed, ownersNamed}
+
+-- the first refused identifier of one parameter
+unfoldable pub refusedPar : (ℕ → Bool) → ℕ → List ℕ → Refused
+refusedPar bad t v = cond (eqb t 0x1) (refusedIn bad false v) (cond (eqb t 0x8) (refusedIn bad true v) nothing)
+
+-- whether one parameter names a good identifier
+unfoldable pub ownsPar : (ℕ → Bool) → ℕ → List ℕ → Bool
+ownsPar good t v = cond (eqb t 0x1) (someOf good false v) (cond (eqb t 0x8) (someOf good true v) false)
+
+-- the flags set, with those of a parameter
+unfoldable pub withPar : List Bool → (ℕ → ℕ → Bool) → ℕ → List ℕ → List Bool
+withPar set good t v =
+    cond (eqb t 0x1) (tabulate 16 (λ a. flagAt set a || someOf (good a) false v))
+    (cond (eqb t 0x8) (tabulate 16 (λ a. flagAt set a || someOf (good a) true v)) set)
+
+-- the same of all parameters
+unfoldable pub refusedPars : (ℕ → Bool) → List Par → Refused
+refusedPars bad [] = nothing
+refusedPars bad (x ∷ ps) = cond (refusedPar bad (x .tag) (x .body) .found) (refusedPar bad (x .tag) (x .body)) (refusedPars bad ps)
+
+unfoldable pub ownsPars : (ℕ → Bool) → List Par → Bool
+ownsPars good [] = false
+ownsPars good (x ∷ ps) = ownsPar good (x .tag) (x .body) || ownsPars good ps
+
+unfoldable pub ownersPars : (ℕ → ℕ → Bool) → List Par → List Bool
+ownersPars good ps = tabulate 16 (λ a. ownsPars (good a) ps)
+
+-- ---- they are the rules'
+
+-- tag 0x1 is not tag 0x8
+one-only : (t : ℕ) → eqb t 0x1 ≡ true → eqb t 0x8 ≡ false
+one-only t e = let z : t ≡ 1 = eqb-true t 1 e in rw z
+
+refused-par : (bad : ℕ → Bool) (t : ℕ) (v : List ℕ) (rest : Refused)
+    → cond (isIds t) (cond (refusedIn bad (eqb t 0x8) v .found) (refusedIn bad (eqb t 0x8) v) rest) rest ≡ cond (refusedPar bad t v .found) (refusedPar bad t v) rest
+unfolding refusedPar
+refused-par bad t v rest = go (eqb t 0x1) refl (eqb t 0x8) refl
+  where
+    go : (u : Bool) → eqb t 0x1 ≡ u → (w : Bool) → eqb t 0x8 ≡ w
+        → cond (u || w) (cond (refusedIn bad w v .found) (refusedIn bad w v) rest) rest
+        ≡ cond (cond u (refusedIn bad false v) (cond w (refusedIn bad true v) nothing) .found) (cond u (refusedIn bad false v) (cond w (refusedIn bad true v) nothing)) rest
+    go true e true f = absurd (false≢true (sym (one-only t e) ∙ f))
+    go true e false f = refl
+    go false e true f = refl
+    go false e false f = refl
+
+owns-par : (good : ℕ → Bool) (t : ℕ) (v : List ℕ) → (isIds t && someOf good (eqb t 0x8) v) ≡ ownsPar good t v
+unfolding ownsPar
+owns-par good t v = go (eqb t 0x1) refl (eqb t 0x8) refl
+  where
+    go : (u : Bool) → eqb t 0x1 ≡ u → (w : Bool) → eqb t 0x8 ≡ w
+        → ((u || w) && someOf good w v) ≡ cond u (someOf good false v) (cond w (someOf good true v) false)
+    go true e true f = absurd (false≢true (sym (one-only t e) ∙ f))
+    go true e false f = refl
+    go false e true f = refl
+    go false e false f = refl
+
+module _ (g : Gateway) where
+  pub refused-is : (p : ℕ) (ps : List Par) → firstRefused g p ps ≡ refusedPars (isRefused (g .iid) (g .owner) (g .member) (g .links) p) ps
+  unfolding firstRefused refusedPars
+  refused-is p [] = refl
+  refused-is p (x ∷ ps) =
+      rw (refused-is p ps) (refused-par (isRefused (g .iid) (g .owner) (g .member) (g .links) p) (x .tag) (x .body) (refusedPars (isRefused (g .iid) (g .owner) (g .member) (g .links) p) ps))
+
+  owns-is : (a : ℕ) (ps : List Par) → ownsNamed g ps a ≡ ownsPars (isOwnedBy (g .iid) (g .owner) (g .links) a) ps
+  unfolding ownsNamed ownsPars
+  owns-is a [] = refl
+  owns-is a (x ∷ ps) = rw (owns-is a ps, owns-par (isOwnedBy (g .iid) (g .owner) (g .links) a) (x .tag) (x .body))
+
+  pub owners-is : (ps : List Par) → ownersNamed g ps ≡ ownersPars (isOwnedBy (g .iid) (g .owner) (g .links)) ps
+  unfolding ownersNamed ownersPars
+  owners-is ps = tabulate-ext false 16 (ownsNamed g ps) (λ a. ownsPars (isOwnedBy (g .iid) (g .owner) (g .links) a) ps) (λ a b. owns-is a ps)
+
+-- ---- the walk: parameters in received order
+
+module _ (bad : ℕ → Bool) (x : Par) (ps : List Par) (r : Refused) (e : r ≡ refusedPar bad (x .tag) (x .body)) where
+  -- the first that refuses decides
+  pub refused-here : r .found ≡ true → r ≡ refusedPars bad (x ∷ ps)
+  unfolding refusedPars
+  refused-here h = rw (← e, h)
+
+  pub refused-later : r .found ≡ false → refusedPars bad ps ≡ refusedPars bad (x ∷ ps)
+  unfolding refusedPars
+  refused-later h = rw (← e, h)
+
+-- The owners of the parameters passed are set, and with those of the rest they are those of the whole.
+pub record Owners (good : ℕ → ℕ → Bool) (ps all : List Par) (set : List Bool) : Type 0 where
+  pub long : length set ≡ 16
+  pub rest : (a : ℕ) → a < 16 → (flagAt set a || ownsPars (good a) ps) ≡ ownsPars (good a) all
+
+pub owners-none : (good : ℕ → ℕ → Bool) (all : List Par) → Owners good all all (replicate 16 false)
+owners-none good all = record { long = refl; rest = λ a b. rw (getD-replicate 16 a false false b) }
+
+or-none : (u : Bool) → u ≡ (u || false)
+or-none true = refl
+or-none false = refl
+
+at-with : (set : List Bool) (good : ℕ → ℕ → Bool) (t : ℕ) (v : List ℕ) (a : ℕ) → a < 16 → flagAt (withPar set good t v) a ≡ (flagAt set a || ownsPar (good a) t v)
+unfolding withPar ownsPar
+at-with set good t v a b = go (eqb t 0x1) (eqb t 0x8)
+  where
+    one : (w : Bool) → flagAt (tabulate 16 (λ a. flagAt set a || someOf (good a) w v)) a ≡ (flagAt set a || someOf (good a) w v)
+    one w = getD-tabulate 16 (λ a. flagAt set a || someOf (good a) w v) a false b
+
+    go : (u w : Bool)
+        → flagAt (cond u (tabulate 16 (λ a. flagAt set a || someOf (good a) false v)) (cond w (tabulate 16 (λ a. flagAt set a || someOf (good a) true v)) set)) a
+        ≡ (flagAt set a || cond u (someOf (good a) false v) (cond w (someOf (good a) true v) false))
+    go true w = one false
+    go false true = one true
+    go false false = or-none (flagAt set a)
+
+with-long : (set : List Bool) (good : ℕ → ℕ → Bool) (t : ℕ) (v : List ℕ) → length set ≡ 16 → length (withPar set good t v) ≡ 16
+unfolding withPar
+with-long set good t v e = go (eqb t 0x1) (eqb t 0x8)
+  where
+    go : (u w : Bool) → length (cond u (tabulate 16 (λ a. flagAt set a || someOf (good a) false v)) (cond w (tabulate 16 (λ a. flagAt set a || someOf (good a) true v)) set)) ≡ 16
+    go true w = length-tabulate 16 _
+    go false true = length-tabulate 16 _
+    go false false = e
+
+or-assoc : (u v w : Bool) → ((u || v) || w) ≡ (u || (v || w))
+or-assoc true v w = refl
+or-assoc false v w = refl
+
+pub owners-more : (good : ℕ → ℕ → Bool) (x : Par) (ps all : List Par) (set next : List Bool) → Owners good (x ∷ ps) all set → next ≡ withPar set good (x .tag) (x .body) → Owners good ps all next
+unfolding ownsPars
+owners-more good x ps all set next h e =
+    record {
+      long = ap length e ∙ with-long set good (x .tag) (x .body) (h .long);
+      rest = λ a b. rw (e, at-with set good (x .tag) (x .body) a b) (or-assoc (flagAt set a) (ownsPar (good a) (x .tag) (x .body)) (ownsPars (good a) ps) ∙ h .rest a b);
+    }
+
+pub owners-end : (good : ℕ → ℕ → Bool) (all : List Par) (set : List Bool) → Owners good [] all set → set ≡ ownersPars good all
+unfolding ownersPars ownsPars
+owners-end good all set h = is-tabulate false set 16 (λ a. ownsPars (good a) all) (h .long) (λ a b. or-none (flagAt set a) ∙ h .rest a b)
