@@ -6,9 +6,50 @@ ghost use Rattle.laws.specs.Below.{when};
 ghost use Rattle.action.specs.Words.{toAll};
 ghost use Rattle.action.specs.Inner.Words.{putAt, Written};
 
-// A Notify (0.1), and its status that another ASP has become active in an AS: type 2, information 2 (Rule 8.5).
-pub const NOTIFY: u32 = 1;
+// The messages that the code names, by class and type (Rule 8.1).
+pub const ERROR: u32 = 0 * 256 + 0;
 
+pub const NOTIFY: u32 = 0 * 256 + 1;
+
+pub const ASP_UP: u32 = 3 * 256 + 1;
+
+pub const ASP_DOWN: u32 = 3 * 256 + 2;
+
+pub const BEAT: u32 = 3 * 256 + 3;
+
+pub const ASP_UP_ACK: u32 = 3 * 256 + 4;
+
+pub const ASP_DOWN_ACK: u32 = 3 * 256 + 5;
+
+pub const BEAT_ACK: u32 = 3 * 256 + 6;
+
+pub const ASP_ACTIVE: u32 = 4 * 256 + 1;
+
+pub const ASP_INACTIVE: u32 = 4 * 256 + 2;
+
+pub const ASP_ACTIVE_ACK: u32 = 4 * 256 + 3;
+
+pub const ASP_INACTIVE_ACK: u32 = 4 * 256 + 4;
+
+pub const USER_DATA: u32 = 6 * 256 + 1;
+
+pub const ESTABLISH_REQUEST: u32 = 6 * 256 + 2;
+
+pub const ESTABLISH_CONFIRM: u32 = 6 * 256 + 3;
+
+pub const RELEASE_REQUEST: u32 = 6 * 256 + 4;
+
+pub const RELEASE_CONFIRM: u32 = 6 * 256 + 5;
+
+pub const RELEASE_INDICATION: u32 = 6 * 256 + 6;
+
+pub const STATE_REQUEST: u32 = 6 * 256 + 7;
+
+pub const RETRIEVAL_REQUEST: u32 = 6 * 256 + 10;
+
+pub const DATA_ACK: u32 = 6 * 256 + 15;
+
+// What a Notify says of an AS in which another ASP has become active: type 2, information 2 (Rule 8.5).
 pub const OTHER_ACTIVE: u32 = 2 * 65536 + 2;
 
 // To whom: the number of an ASP, or 255 for the link side. Which message: class * 256 + type. Its subject and its value.

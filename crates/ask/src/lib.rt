@@ -124,14 +124,14 @@ pub fn refused<'a>(
 fn ask_of(p: usize, t: u32, error: bool, read: Reading) -> Ask
     ensures { λ r. ⌜ r ≡ askOf p t error read ⌝ }
 {
-    if t == 769 {
+    if t == action::ASP_UP {
         return Ask::Up(p, read);
     }
-    if t == 770 {
+    if t == action::ASP_DOWN {
         return Ask::Down(p);
     }
-    if (t == 1025) | (t == 1026) {
-        return Ask::Traffic(t == 1025, p, read);
+    if (t == action::ASP_ACTIVE) | (t == action::ASP_INACTIVE) {
+        return Ask::Traffic(t == action::ASP_ACTIVE, p, read);
     }
     Ask::Other(p, error, read)
 }

@@ -17,6 +17,7 @@ ghost use Rattle.server.specs.declared.Change.the-variants.{AspUp, Recover};
 ghost use Rattle.rules.specs.Effect.{changeIn};
 ghost use Rattle.rules.specs.Asp.{upEffect, downEffect, lostEffect};
 ghost use Rattle.work.specs.Inner.Decides.{Decides, DecidesOn};
+ghost use Rattle.action.specs.Types.{aspUpAck};
 
 // AS a alone.
 pub fn only(a: usize) -> [bool; 16]
@@ -34,9 +35,9 @@ pub fn only(a: usize) -> [bool; 16]
 // Up that is taken (Rule 7.4): was says that p was active in some AS, mine are its ASes.
 fn rise(p: usize, was: bool, mine: [bool; 16]) -> Decision
     requires { ⌜ p < 16 ⌝ }
-    ensures { λ w. ⌜ Decides w (changeIn (action p 772 0 0 ∷ cond was (action p 0 0 6 ∷ []) []) (AspUp p) mine) ⌝ }
+    ensures { λ w. ⌜ Decides w (changeIn (action p aspUpAck 0 0 ∷ cond was (action p 0 0 6 ∷ []) []) (AspUp p) mine) ⌝ }
 {
-    let ack = work::to_asp(p, 772, 0, 0);
+    let ack = work::to_asp(p, action::ASP_UP_ACK, 0, 0);
     if was {
         let fault = work::to_asp(p, 0, 0, 6);
         return work::change_two(ack, fault, Change::AspUp(p), mine);
@@ -74,7 +75,7 @@ pub fn down_work(member: &[u8; 256], p: usize) -> Decision
     ensures { λ w. ⌜ DecidesOn (λ g. g .member ≡ now (member .entry)) (λ g. downEffect g p) w ⌝ }
 {
     work::change_one(
-        work::to_asp(p, 773, 0, 0),
+        work::to_asp(p, action::ASP_DOWN_ACK, 0, 0),
         Change::AspDown(p),
         column_of(member, p),
     )

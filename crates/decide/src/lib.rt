@@ -44,10 +44,10 @@ fn other_tree<'a>(
     ensures { λ w. ⌜ DecidesOn (SixColumns links (now (up .entry)) (now (member .entry)) (now (active .entry)) (now (iid .entry)) (now (owner .entry)) (now (state .entry))) (λ g. otherTree (classSixEffect g p r) p r six) w ⌝ }
 {
     let t = r.class * 256 + r.msgtype;
-    if t == 771 {
-        return work::reply(p, 774, 0, 0);
+    if t == action::BEAT {
+        return work::reply(p, action::BEAT_ACK, 0, 0);
     }
-    if t == 774 {
+    if t == action::BEAT_ACK {
         return work::nothing();
     }
     if r.class == 6 {

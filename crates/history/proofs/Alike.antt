@@ -26,6 +26,7 @@ use Rattle.lookup.specs.Servers.{receives, before}
 use Rattle.ranges.specs.declared.Refused.{Refused}
 use Rattle.server.specs.declared.Change.the-variants.{AspUp, Activate}
 use Rattle.action.specs.Words.{toAll}
+use Rattle.action.specs.Types.{aspActiveAck, aspUpAck, aspUp, aspDown, beat, beatAck, aspActive, aspInactive, establishConfirm, releaseConfirm, releaseIndication}
 use Rattle.server.specs.Record.{some, recordOf}
 use Rattle.rules.specs.Event.{EventKind, message, lost, recovery, linkUp, linkDown, linkMessage}
 use Rattle.rules.specs.Identifiers.{firstRefused, ownsNamed, ownersNamed, isKnown, linkOf, ownerAt, isMember, isActive}
@@ -82,7 +83,7 @@ module _ (g : Gateway) (u c w s : List ℕ) where
 
   active-plan : (p mode : ℕ) (n : List Bool) → activeEffect (dyn g u c w s) p mode n ≡ activeEffect g p mode n
   unfolding activeEffect
-  active-plan p mode n = ap (λ (t : Bool). cond t (send (error p 5)) (changeIn (oneAction p 1027 0 0) (Activate p) n)) (other-plan mode n)
+  active-plan p mode n = ap (λ (t : Bool). cond t (send (error p 5)) (changeIn (oneAction p aspActiveAck 0 0) (Activate p) n)) (other-plan mode n)
 
   pub in-plan : (k : EventKind) → inPlan (dyn g u c w s) k ≡ inPlan g k
   unfolding isKnown
@@ -166,7 +167,7 @@ module _ (g : Gateway) (u c w s : List ℕ) (ok : isSound g ≡ true) (ok′ : i
     unfolding upEffect
     up-alike R k h r =
         cond-same (eqb (r .identified) 1 && not (eqb (r .aspid) (numberAt (g .aspid) p))) (λ _. refl)
-        (λ _. ap (λ (t : Bool). changeIn (oneAction p 772 0 0 ++ cond t (error p 6) []) (AspUp p) (asesOf g p)) (active-alike R (eqb p) k p (asps-16 g ok p b) h))
+        (λ _. ap (λ (t : Bool). changeIn (oneAction p aspUpAck 0 0 ++ cond t (error p 6) []) (AspUp p) (asesOf g p)) (active-alike R (eqb p) k p (asps-16 g ok p b) h))
 
     mine-alike : (R : ℕ → Bool) → Alike g R (eqb p) u c w s → isSet u p ≡ isSet (g .up) p
     mine-alike R k = flag (k .mine p (asps-16 g ok p b) (eq-eqb p p refl))
@@ -194,18 +195,18 @@ module _ (g : Gateway) (u c w s : List ℕ) (ok : isSound g ≡ true) (ok′ : i
     read-alike : (m : List ℕ) (r : Reading) → Alike g (λ a. ltb a (g .ases) && readReach g p m r a) (eqb p) u c w s → readEffect (dyn g u c w s) p m r ≡ readEffect g p m r
     unfolding readEffect downEffect
     read-alike m r k =
-        cond-same (eqb (classTypeOf r) 769) (λ t. up-alike R k (λ a d e. and-both (ltb a (g .ases)) (readReach g p m r a) (member-in g ok p a b d e) (reach-up g ok p b m r a t e)) r)
-        (λ n₁. cond-same (eqb (classTypeOf r) 770) (λ _. refl)
-        (λ n₂. cond-same (eqb (classTypeOf r) 771) (λ _. refl)
-        (λ _. cond-same (eqb (classTypeOf r) 774) (λ _. refl)
-        (λ _. cond-same (eqb (classTypeOf r) 1025) (λ _. traffic-alike R k r (walk m 8 .pars) _ _ (active-plan g u c w s p (r .mode)))
-        (λ n₃. cond-same (eqb (classTypeOf r) 1026) (λ _. traffic-alike R k r (walk m 8 .pars) _ _ (λ n. refl))
+        cond-same (eqb (classTypeOf r) aspUp) (λ t. up-alike R k (λ a d e. and-both (ltb a (g .ases)) (readReach g p m r a) (member-in g ok p a b d e) (reach-up g ok p b m r a t e)) r)
+        (λ n₁. cond-same (eqb (classTypeOf r) aspDown) (λ _. refl)
+        (λ n₂. cond-same (eqb (classTypeOf r) beat) (λ _. refl)
+        (λ _. cond-same (eqb (classTypeOf r) beatAck) (λ _. refl)
+        (λ _. cond-same (eqb (classTypeOf r) aspActive) (λ _. traffic-alike R k r (walk m 8 .pars) _ _ (active-plan g u c w s p (r .mode)))
+        (λ n₃. cond-same (eqb (classTypeOf r) aspInactive) (λ _. traffic-alike R k r (walk m 8 .pars) _ _ (λ n. refl))
         (λ n₄. cond-same (eqb (r .class) 6 && fromAsp (r .msgtype))
         (λ t. six-alike R k r
         (λ y.
         let o = ownerAt g (linkOf g (r .id)) in
         and-both (ltb o (g .ases)) (readReach g p m r o) (owner-in g ok (linkOf g (r .id)) (known-below g ok (r .id) y))
-        (reach-six g ok p b m r o (neither (eqb (classTypeOf r) 769) (eqb (classTypeOf r) 770) n₁ n₂) (neither (eqb (classTypeOf r) 1025) (eqb (classTypeOf r) 1026) n₃ n₄) (and-left (eqb (r .class) 6) _ t) (owns-own g (r .id) y))))
+        (reach-six g ok p b m r o (neither (eqb (classTypeOf r) aspUp) (eqb (classTypeOf r) aspDown) n₁ n₂) (neither (eqb (classTypeOf r) aspActive) (eqb (classTypeOf r) aspInactive) n₃ n₄) (and-left (eqb (r .class) 6) _ t) (owns-own g (r .id) y))))
         (λ _. refl)))))))
       where
         R : ℕ → Bool
@@ -231,13 +232,13 @@ module _ (g : Gateway) (u c w s : List ℕ) (ok : isSound g ≡ true) (ok′ : i
   effect-alike (linkUp l) i h =
       let b = ltb-true l (g .links) i in
       cond-both (eqb (numberAt (g .state) l) starting) (ap (λ (x : ℕ). eqb x starting) (h .lines l (link-reached l b)))
-      (λ _. ap (setLink l inService) (told-alike (Reaches g (linkUp l)) (λ q. false) h l 1539 (owner-16 l b) (link-reached l b))) (λ _. refl)
+      (λ _. ap (setLink l inService) (told-alike (Reaches g (linkUp l)) (λ q. false) h l establishConfirm (owner-16 l b) (link-reached l b))) (λ _. refl)
   effect-alike (linkDown l) i h =
       let b = ltb-true l (g .links) i in
       let e = h .lines l (link-reached l b) in
       cond-both (eqb (numberAt (g .state) l) idle) (ap (λ (x : ℕ). eqb x idle) e) (λ _. refl)
-      (λ _. ap (λ (x : ℕ). setLink l idle (toRecipients (dyn g u c w s) l (cond (eqb x stopping) 1541 1542))) e
-      ∙ ap (setLink l idle) (told-alike (Reaches g (linkDown l)) (λ q. false) h l (cond (eqb (numberAt (g .state) l) stopping) 1541 1542) (owner-16 l b) (link-reached l b)))
+      (λ _. ap (λ (x : ℕ). setLink l idle (toRecipients (dyn g u c w s) l (cond (eqb x stopping) releaseConfirm releaseIndication))) e
+      ∙ ap (setLink l idle) (told-alike (Reaches g (linkDown l)) (λ q. false) h l (cond (eqb (numberAt (g .state) l) stopping) releaseConfirm releaseIndication) (owner-16 l b) (link-reached l b)))
   effect-alike (linkMessage m) i h =
       let x = readingOf m .id in
       let y = and-right (fromLink (readingOf m .msgtype)) (isKnown g x) (and-right (eqb (readingOf m .class) 6) _ (and-right (eqb (verdict m) 0) _ i)) in

@@ -16,6 +16,7 @@ use Rattle.action.specs.Inner.Words.{length-wordsOf}
 use Rattle.message.specs.Verdict.{verdict}
 use Rattle.message.specs.Meaning.{readingOf}
 use Rattle.gateway.specs.declared.Gateway.{Gateway}
+use Rattle.action.specs.Types.{aspUp}
 use Rattle.rules.specs.Event.{Event, message}
 use Rattle.rules.specs.Identifiers.{isMember}
 use Rattle.rules.specs.Rules.{isError, classTypeOf, refusal}
@@ -172,7 +173,7 @@ up-reach g p s n a r u = λ j. eq-eqb (refusal g (record { kind = message p s; r
     inside : messageReach g p s a ≡ isMember g a p
     inside =
         let x = not-true (isError s) (and-left (not (isError s)) _ u) in
-        let y = and-right (not (isError s)) (eqb (verdict s) 0 && eqb (classTypeOf (readingOf s)) 769) u in
-        let v = and-left (eqb (verdict s) 0) (eqb (classTypeOf (readingOf s)) 769) y in
-        let t = and-right (eqb (verdict s) 0) (eqb (classTypeOf (readingOf s)) 769) y in
+        let y = and-right (not (isError s)) (eqb (verdict s) 0 && eqb (classTypeOf (readingOf s)) aspUp) u in
+        let v = and-left (eqb (verdict s) 0) (eqb (classTypeOf (readingOf s)) aspUp) y in
+        let t = and-right (eqb (verdict s) 0) (eqb (classTypeOf (readingOf s)) aspUp) y in
         rw (x, v, t)

@@ -24,6 +24,7 @@ use Rattle.lookup.specs.Links.{indexOf, known}
 use Rattle.ranges.specs.Named.{ownerOf, isRefused, isOwnedBy, span, nothing, refusing, firstIn, someIn, startAt, stopAt, entries, firstOf, refusedEntry, refusedIn, someEntry, someOf}
 use Rattle.ranges.specs.declared.Refused.{Refused}
 use Rattle.action.specs.declared.Action.{Action}
+use Rattle.action.specs.Types.{aspUp, aspDown, aspActive, aspInactive, beat, beatAck}
 use Rattle.server.specs.declared.Change.{Change}
 use Rattle.server.specs.declared.Change.the-variants.{AspUp, AspDown, Deactivate, Activate, Recover}
 use Rattle.server.specs.Record.{some}
@@ -269,46 +270,46 @@ module _ (g : Gateway) (ok : isSound g ≡ true) where
     -- ---- what a readable message reaches, type by type
 
     module _ (s : List ℕ) (r : Reading) (a : ℕ) where
-      pub reach-up : eqb (classTypeOf r) 769 ≡ true → isMember g a p ≡ true → readReach g p s r a ≡ true
+      pub reach-up : eqb (classTypeOf r) aspUp ≡ true → isMember g a p ≡ true → readReach g p s r a ≡ true
       unfolding readReach
       reach-up t m = rw t m
 
-      reach-down : eqb (classTypeOf r) 769 ≡ false → eqb (classTypeOf r) 770 ≡ true → isMember g a p ≡ true → readReach g p s r a ≡ true
+      reach-down : eqb (classTypeOf r) aspUp ≡ false → eqb (classTypeOf r) aspDown ≡ true → isMember g a p ≡ true → readReach g p s r a ≡ true
       unfolding readReach
       reach-down u t m = rw (u, t) m
 
-      reach-ids : (eqb (classTypeOf r) 769 || eqb (classTypeOf r) 770) ≡ false → (eqb (classTypeOf r) 1025 || eqb (classTypeOf r) 1026) ≡ true → eqb (r .ids) 1 ≡ true → ownsNamed g (walk s 8 .pars) a ≡ true → readReach g p s r a ≡ true
+      reach-ids : (eqb (classTypeOf r) aspUp || eqb (classTypeOf r) aspDown) ≡ false → (eqb (classTypeOf r) aspActive || eqb (classTypeOf r) aspInactive) ≡ true → eqb (r .ids) 1 ≡ true → ownsNamed g (walk s 8 .pars) a ≡ true → readReach g p s r a ≡ true
       unfolding readReach
       reach-ids u v i m = rw (u, v, i) m
 
-      reach-all : (eqb (classTypeOf r) 769 || eqb (classTypeOf r) 770) ≡ false → (eqb (classTypeOf r) 1025 || eqb (classTypeOf r) 1026) ≡ true → eqb (r .ids) 1 ≡ false → isMember g a p ≡ true → readReach g p s r a ≡ true
+      reach-all : (eqb (classTypeOf r) aspUp || eqb (classTypeOf r) aspDown) ≡ false → (eqb (classTypeOf r) aspActive || eqb (classTypeOf r) aspInactive) ≡ true → eqb (r .ids) 1 ≡ false → isMember g a p ≡ true → readReach g p s r a ≡ true
       unfolding readReach
       reach-all u v i m = rw (u, v, i) m
 
-      pub reach-six : (eqb (classTypeOf r) 769 || eqb (classTypeOf r) 770) ≡ false → (eqb (classTypeOf r) 1025 || eqb (classTypeOf r) 1026) ≡ false → eqb (r .class) 6 ≡ true → ownsId g (r .id) a ≡ true → readReach g p s r a ≡ true
+      pub reach-six : (eqb (classTypeOf r) aspUp || eqb (classTypeOf r) aspDown) ≡ false → (eqb (classTypeOf r) aspActive || eqb (classTypeOf r) aspInactive) ≡ false → eqb (r .class) 6 ≡ true → ownsId g (r .id) a ≡ true → readReach g p s r a ≡ true
       unfolding readReach
       reach-six u v c m = rw (u, v, c) m
 
     read-in : (s : List ℕ) (r : Reading) → Within g (λ a. ltb a (g .ases) && readReach g p s r a) (eqb p) (readEffect g p s r)
     unfolding readEffect upEffect downEffect
     read-in s r =
-        by-cond (eqb (classTypeOf r) 769) W
+        by-cond (eqb (classTypeOf r) aspUp) W
         (λ t. by-cond (eqb (r .identified) 1 && not (eqb (r .aspid) (numberAt (g .aspid) p))) W (λ _. tt) (λ _. up-in K (λ a. reach-up s r a t)))
-        (λ n₁. by-cond (eqb (classTypeOf r) 770) W (λ t. down-in K (λ a. reach-down s r a n₁ t))
-        (λ n₂. by-cond (eqb (classTypeOf r) 771) W (λ _. tt)
-        (λ _. by-cond (eqb (classTypeOf r) 774) W (λ _. tt)
-        (λ _. by-cond (eqb (classTypeOf r) 1025) W
+        (λ n₁. by-cond (eqb (classTypeOf r) aspDown) W (λ t. down-in K (λ a. reach-down s r a n₁ t))
+        (λ n₂. by-cond (eqb (classTypeOf r) beat) W (λ _. tt)
+        (λ _. by-cond (eqb (classTypeOf r) beatAck) W (λ _. tt)
+        (λ _. by-cond (eqb (classTypeOf r) aspActive) W
         (λ t.
-        let u = neither (eqb (classTypeOf r) 769) (eqb (classTypeOf r) 770) n₁ n₂ in
-        let v = or-left (eqb (classTypeOf r) 1026) t in
+        let u = neither (eqb (classTypeOf r) aspUp) (eqb (classTypeOf r) aspDown) n₁ n₂ in
+        let v = or-left (eqb (classTypeOf r) aspInactive) t in
         traffic-in K r (walk s 8 .pars) (activeEffect g p (r .mode)) (active-in K (r .mode)) (λ i a. reach-ids s r a u v i) (λ i a. reach-all s r a u v i))
-        (λ n₃. by-cond (eqb (classTypeOf r) 1026) W
+        (λ n₃. by-cond (eqb (classTypeOf r) aspInactive) W
         (λ t.
-        let u = neither (eqb (classTypeOf r) 769) (eqb (classTypeOf r) 770) n₁ n₂ in
-        let v = or-right (eqb (classTypeOf r) 1025) t in
+        let u = neither (eqb (classTypeOf r) aspUp) (eqb (classTypeOf r) aspDown) n₁ n₂ in
+        let v = or-right (eqb (classTypeOf r) aspActive) t in
         traffic-in K r (walk s 8 .pars) (inactiveEffect p) (inactive-in K) (λ i a. reach-ids s r a u v i) (λ i a. reach-all s r a u v i))
         (λ n₄. by-cond (eqb (r .class) 6 && fromAsp (r .msgtype)) W
-        (λ t. six-in K r (λ a. reach-six s r a (neither (eqb (classTypeOf r) 769) (eqb (classTypeOf r) 770) n₁ n₂) (neither (eqb (classTypeOf r) 1025) (eqb (classTypeOf r) 1026) n₃ n₄) (and-left (eqb (r .class) 6) _ t)))
+        (λ t. six-in K r (λ a. reach-six s r a (neither (eqb (classTypeOf r) aspUp) (eqb (classTypeOf r) aspDown) n₁ n₂) (neither (eqb (classTypeOf r) aspActive) (eqb (classTypeOf r) aspInactive) n₃ n₄) (and-left (eqb (r .class) 6) _ t)))
         (λ _. tt)))))))
       where
         K : ℕ → Bool

@@ -13,6 +13,7 @@ use Rattle.gateway.specs.declared.Gateway.{Gateway}
 use Rattle.rules.specs.declared.Outcome.{Outcome}
 use Rattle.message.specs.Verdict.{verdict}
 use Rattle.message.specs.Meaning.{readingOf}
+use Rattle.action.specs.Types.{aspUp}
 use Rattle.rules.specs.Event.{Event, message}
 use Rattle.rules.specs.Identifiers.{isMember}
 use Rattle.rules.specs.Rules.{refusal, isError, classTypeOf}
@@ -108,7 +109,7 @@ Statement = (g c c′ : Gateway) (cs ds : List Call) (ts : List ℕ) → Calls g
 
 -- Stated beside it: a readable Up that is not refused reaches the ASes of its ASP, and no others (Rule 10.7).
 unfoldable pub isUp : List ℕ → Bool
-isUp s = not (isError s) && (eqb (verdict s) 0 && eqb (classTypeOf (readingOf s)) 769)
+isUp s = not (isError s) && (eqb (verdict s) 0 && eqb (classTypeOf (readingOf s)) aspUp)
 
 abbrev pub ReachOfUp : Type 0
 ReachOfUp = (g : Gateway) (p : ℕ) (s : List ℕ) (room a : ℕ) → refusal g (record { kind = message p s; room = room }) ≡ 0 → isUp s ≡ true

@@ -16,6 +16,7 @@ ghost use Rattle.work.specs.Inner.Decides.{Decides, DecidesOn};
 ghost use Rattle.links.specs.Inner.Recipients.{recipientsAt, SideColumns};
 ghost use Rattle.links.specs.Inner.Six.{dataTree, sixAt, SixColumns};
 ghost use Rattle.links.specs.Inner.Side.{passes, Side};
+ghost use Rattle.action.specs.Types.{establishConfirm, releaseConfirm, releaseIndication};
 
 // ---- class 6 of an ASP: p is the ASP, x the identifier, l the link's index, st its state
 
@@ -25,12 +26,12 @@ fn establish_work(p: usize, x: u32, l: usize, st: u8) -> Decision
     ensures { λ r. ⌜ Decides r (establish p x l st) ⌝ }
 {
     if st == 2 {
-        return work::reply(p, 1539, x, 0);
+        return work::reply(p, action::ESTABLISH_CONFIRM, x, 0);
     }
     if st == 1 {
         return work::nothing();
     }
-    work::turn_and_send(l, 1, 1538, x)
+    work::turn_and_send(l, 1, action::ESTABLISH_REQUEST, x)
 }
 
 // Release (Rule 7.16).
@@ -39,12 +40,12 @@ fn release_work(p: usize, x: u32, l: usize, st: u8) -> Decision
     ensures { λ r. ⌜ Decides r (release p x l st) ⌝ }
 {
     if st == 0 {
-        return work::reply(p, 1541, x, 0);
+        return work::reply(p, action::RELEASE_CONFIRM, x, 0);
     }
     if st == 3 {
         return work::nothing();
     }
-    work::turn_and_send(l, 3, 1540, x)
+    work::turn_and_send(l, 3, action::RELEASE_REQUEST, x)
 }
 
 // An order to the link side, then a reply to p.
@@ -65,9 +66,9 @@ fn data_tree(p: usize, x: u32, st: u8, r: Reading) -> Decision
 {
     if st == 2 {
         if r.correlated == 1 {
-            return send_and_reply(p, 1537, x, 1551, r.correlation);
+            return send_and_reply(p, action::USER_DATA, x, action::DATA_ACK, r.correlation);
         }
-        return work::order(1537, x, 0);
+        return work::order(action::USER_DATA, x, 0);
     }
     work::error(p, 6)
 }
@@ -94,10 +95,10 @@ fn link_work(p: usize, x: u32, l: usize, st: u8, r: Reading) -> Decision
         return release_work(p, x, l, st);
     }
     if r.msgtype == 7 {
-        return work::order(1543, x, r.state);
+        return work::order(action::STATE_REQUEST, x, r.state);
     }
     if r.msgtype == 10 {
-        return work::order(1546, x, r.retrieval);
+        return work::order(action::RETRIEVAL_REQUEST, x, r.retrieval);
     }
     work::nothing()
 }
@@ -174,22 +175,22 @@ fn recipients_at<'a>(
 // Link up, where they are given.
 fn up_at(l: usize, st: u8, who: [bool; 16], x: u32) -> Decision
     requires { ⌜ l < 128 ⌝ }
-    ensures { λ w. ⌜ Decides w (cond (eqb st 1) (setLink l 2 (toAll who 1539 x 0)) (send [])) ⌝ }
+    ensures { λ w. ⌜ Decides w (cond (eqb st 1) (setLink l 2 (toAll who establishConfirm x 0)) (send [])) ⌝ }
 {
     if st == 1 {
-        return work::turn_spread(l, 2, who, 1539, x);
+        return work::turn_spread(l, 2, who, action::ESTABLISH_CONFIRM, x);
     }
     work::nothing()
 }
 
 // The type that a link that goes down sends.
 fn down_type(st: u8) -> u32
-    ensures { λ r. ⌜ r ≡ cond (eqb st 3) 1541 1542 ⌝ }
+    ensures { λ r. ⌜ r ≡ cond (eqb st 3) releaseConfirm releaseIndication ⌝ }
 {
     if st == 3 {
-        return 1541;
+        return action::RELEASE_CONFIRM;
     }
-    1542
+    action::RELEASE_INDICATION
 }
 
 fn down_at(l: usize, st: u8, who: [bool; 16], classtype: u32, x: u32) -> Decision

@@ -10,6 +10,7 @@ use Rattle.wire.specs.Walk.{Par}
 use Rattle.message.specs.declared.Reading.{Reading}
 use Rattle.ranges.specs.declared.Refused.{Refused}
 use Rattle.gateway.specs.declared.Gateway.{Gateway}
+use Rattle.action.specs.Types.{aspUpAck, aspDownAck, aspActiveAck, aspInactiveAck}
 use Rattle.server.specs.declared.Change.the-variants.{AspUp, AspDown, Deactivate, Activate, Recover}
 use Rattle.server.specs.Record.{some}
 use Rattle.servers.specs.Changed.{columnOf}
@@ -27,11 +28,11 @@ activeIn g p = columnOf (g .active) p
 unfoldable pub upEffect : Gateway → ℕ → Reading → Effect
 upEffect g p r =
     cond (eqb (r .identified) 1 && not (eqb (r .aspid) (numberAt (g .aspid) p))) (send (error p 15))
-    (changeIn (oneAction p 772 0 0 ++ cond (some (activeIn g p)) (error p 6) []) (AspUp p) (asesOf g p))
+    (changeIn (oneAction p aspUpAck 0 0 ++ cond (some (activeIn g p)) (error p 6) []) (AspUp p) (asesOf g p))
 
 -- Rules 7.5 and 7.6: the loss of the association is a Down without an Ack
 unfoldable pub downEffect : Gateway → ℕ → Effect
-downEffect g p = changeIn (oneAction p 773 0 0) (AspDown p) (asesOf g p)
+downEffect g p = changeIn (oneAction p aspDownAck 0 0) (AspDown p) (asesOf g p)
 
 unfoldable pub lostEffect : Gateway → ℕ → Effect
 lostEffect g p = changeIn [] (AspDown p) (asesOf g p)
@@ -42,10 +43,10 @@ otherMode g mode named = not (eqb mode 0) && anyBelow (λ a. flagAt named a && n
 
 -- Rules 7.9 and 7.10: an Ack, and p is active, or no longer active, in the ASes named
 unfoldable pub activeEffect : Gateway → ℕ → ℕ → List Bool → Effect
-activeEffect g p mode named = cond (otherMode g mode named) (send (error p 5)) (changeIn (oneAction p 1027 0 0) (Activate p) named)
+activeEffect g p mode named = cond (otherMode g mode named) (send (error p 5)) (changeIn (oneAction p aspActiveAck 0 0) (Activate p) named)
 
 unfoldable pub inactiveEffect : ℕ → List Bool → Effect
-inactiveEffect p named = changeIn (oneAction p 1028 0 0) (Deactivate p) named
+inactiveEffect p named = changeIn (oneAction p aspInactiveAck 0 0) (Deactivate p) named
 
 -- Rule 7.8: the ASes that the message names, by identifiers or, without any, all of p's; what is done with them is given.
 unfoldable pub trafficEffect : Gateway → ℕ → Reading → List Par → (List Bool → Effect) → Effect

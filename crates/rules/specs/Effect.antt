@@ -4,6 +4,7 @@ use Prim.Native.Nat.{ℕ}
 use mathlib.Core.Bool.{Bool}
 use mathlib.Core.List.{List, [], _∷_, _++_}
 use Rattle.action.specs.declared.Action.{Action}
+use Rattle.action.specs.Types.{mgmtError}
 use Rattle.action.specs.Words.{action}
 use Rattle.gateway.specs.declared.Gateway.{Gateway}
 use Rattle.server.specs.declared.Change.{Change}
@@ -34,7 +35,7 @@ oneAction q k s v = action q k s v ∷ []
 
 -- An Error with its code; that of code 2 says which identifier was refused (Rule 8.4).
 abbrev pub error : ℕ → ℕ → List Action
-error p n = oneAction p 0 0 n
+error p n = oneAction p mgmtError 0 n
 
 abbrev pub error2 : ℕ → ℕ → List Action
-error2 p x = oneAction p 0 x 2
+error2 p x = oneAction p mgmtError x 2

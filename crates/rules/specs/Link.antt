@@ -9,6 +9,7 @@ use Rattle.message.specs.declared.Reading.{Reading}
 use Rattle.action.specs.declared.Action.{Action}
 use Rattle.action.specs.Words.{linkSide, toAll}
 use Rattle.gateway.specs.declared.Gateway.{Gateway}
+use Rattle.action.specs.Types.{establishConfirm, establishRequest, releaseConfirm, releaseRequest, userData, dataAck, stateRequest, retrievalRequest, releaseIndication}
 use Rattle.lookup.specs.Servers.{receives}
 use Rattle.rules.specs.Identifiers.{isKnown, linkOf, ownerAt, isMember, isActive}
 use Rattle.rules.specs.Effect.{Effect, send, setLink, oneAction, error, error2}
@@ -29,22 +30,22 @@ stopping = 3
 -- Rule 7.15: confirmed at once where the link is in service; an idle or stopping one starts, and the link side is told
 unfoldable pub establish : ℕ → ℕ → ℕ → ℕ → Effect
 establish p x l st =
-    cond (eqb st inService) (send (oneAction p 1539 x 0))
+    cond (eqb st inService) (send (oneAction p establishConfirm x 0))
     (cond (eqb st starting) (send [])
-    (setLink l starting (oneAction linkSide 1538 x 0)))
+    (setLink l starting (oneAction linkSide establishRequest x 0)))
 
 -- Rule 7.16: confirmed at once where the link is idle; a starting one, or one in service, stops, and the link side is told
 unfoldable pub release : ℕ → ℕ → ℕ → ℕ → Effect
 release p x l st =
-    cond (eqb st idle) (send (oneAction p 1541 x 0))
+    cond (eqb st idle) (send (oneAction p releaseConfirm x 0))
     (cond (eqb st stopping) (send [])
-    (setLink l stopping (oneAction linkSide 1540 x 0)))
+    (setLink l stopping (oneAction linkSide releaseRequest x 0)))
 
 -- Rule 7.17: to the link side, and behind that an acknowledgement to p where the message has a correlation id
 unfoldable pub dataEffect : ℕ → ℕ → ℕ → Reading → Effect
 dataEffect p x st r =
     cond (eqb st inService)
-    (send (oneAction linkSide 1537 x 0 ++ cond (eqb (r .correlated) 1) (oneAction p 1551 x (r .correlation)) []))
+    (send (oneAction linkSide userData x 0 ++ cond (eqb (r .correlated) 1) (oneAction p dataAck x (r .correlation)) []))
     (send (error p 6))
 
 -- by the type of the message; 6.7 and 6.10 pass their state or action on, 6.15 does nothing (Rules 7.18, 7.19)
@@ -53,8 +54,8 @@ linkEffect p x l st r =
     cond (eqb (r .msgtype) 1) (dataEffect p x st r)
     (cond (eqb (r .msgtype) 2) (establish p x l st)
     (cond (eqb (r .msgtype) 4) (release p x l st)
-    (cond (eqb (r .msgtype) 7) (send (oneAction linkSide 1543 x (r .state)))
-    (cond (eqb (r .msgtype) 10) (send (oneAction linkSide 1546 x (r .retrieval)))
+    (cond (eqb (r .msgtype) 7) (send (oneAction linkSide stateRequest x (r .state)))
+    (cond (eqb (r .msgtype) 10) (send (oneAction linkSide retrievalRequest x (r .retrieval)))
     (send [])))))
 
 -- Rule 7.14: what p must be before a message of class 6 is looked at: up, a member of the owner, active there
@@ -78,13 +79,13 @@ toRecipients g l k = toAll (recipientsOf g l) k (numberAt (g .iid) l) 0
 
 -- Rule 7.20
 unfoldable pub linkUpEffect : Gateway → ℕ → Effect
-linkUpEffect g l = cond (eqb (numberAt (g .state) l) starting) (setLink l inService (toRecipients g l 1539)) (send [])
+linkUpEffect g l = cond (eqb (numberAt (g .state) l) starting) (setLink l inService (toRecipients g l establishConfirm)) (send [])
 
 -- Rule 7.21: a stopping link was asked to stop, any other goes down unasked
 unfoldable pub linkDownEffect : Gateway → ℕ → Effect
 linkDownEffect g l =
     cond (eqb (numberAt (g .state) l) idle) (send [])
-    (setLink l idle (toRecipients g l (cond (eqb (numberAt (g .state) l) stopping) 1541 1542)))
+    (setLink l idle (toRecipients g l (cond (eqb (numberAt (g .state) l) stopping) releaseConfirm releaseIndication)))
 
 -- Rule 7.22
 unfoldable pub linkMessageEffect : Gateway → Reading → Effect

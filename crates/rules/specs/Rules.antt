@@ -13,6 +13,7 @@ use Rattle.message.specs.Meaning.{readingOf}
 use Rattle.message.specs.declared.Reading.{Reading}
 use Rattle.gateway.specs.Sound.{isSound}
 use Rattle.gateway.specs.declared.Gateway.{Gateway}
+use Rattle.action.specs.Types.{aspUp, aspDown, beat, beatAck, aspActive, aspInactive}
 use Rattle.server.specs.declared.Change.the-variants.{AspUp, AspDown, Deactivate, Activate, Recover}
 use Rattle.rules.specs.Event.{EventKind, message, lost, recovery, linkUp, linkDown, linkMessage, Event}
 use Rattle.rules.specs.Identifiers.{isKnown}
@@ -37,12 +38,12 @@ fromAsp k = eqb k 1 || eqb k 2 || eqb k 4 || eqb k 7 || eqb k 10 || eqb k 15
 -- a readable message, by class and type: Up, Down, Beat, Beat Ack, Active, Inactive, class 6; any other is Error 6 (Rules 7.4 to 7.23)
 unfoldable pub readEffect : Gateway → ℕ → List ℕ → Reading → Effect
 readEffect g p s r =
-    cond (eqb (classTypeOf r) 769) (upEffect g p r)
-    (cond (eqb (classTypeOf r) 770) (downEffect g p)
-    (cond (eqb (classTypeOf r) 771) (send (oneAction p 774 0 0))
-    (cond (eqb (classTypeOf r) 774) (send [])
-    (cond (eqb (classTypeOf r) 1025) (trafficEffect g p r (walk s 8 .pars) (activeEffect g p (r .mode)))
-    (cond (eqb (classTypeOf r) 1026) (trafficEffect g p r (walk s 8 .pars) (inactiveEffect p))
+    cond (eqb (classTypeOf r) aspUp) (upEffect g p r)
+    (cond (eqb (classTypeOf r) aspDown) (downEffect g p)
+    (cond (eqb (classTypeOf r) beat) (send (oneAction p beatAck 0 0))
+    (cond (eqb (classTypeOf r) beatAck) (send [])
+    (cond (eqb (classTypeOf r) aspActive) (trafficEffect g p r (walk s 8 .pars) (activeEffect g p (r .mode)))
+    (cond (eqb (classTypeOf r) aspInactive) (trafficEffect g p r (walk s 8 .pars) (inactiveEffect p))
     (cond (eqb (r .class) 6 && fromAsp (r .msgtype)) (classSixEffect g p r)
     (send (error p 6))))))))
 

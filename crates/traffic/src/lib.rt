@@ -23,6 +23,7 @@ ghost use Rattle.rules.specs.Asp.{activeEffect, inactiveEffect, trafficEffect};
 ghost use Rattle.work.specs.Inner.Decides.{Decides, DecidesOn, act};
 ghost use Rattle.traffic.specs.Inner.Aims.{TrafficColumns, otherModeIn, Aims};
 ghost use Rattle.traffic.specs.Inner.Named.{refusedPar, withPar, refusedPars, ownersPars};
+ghost use Rattle.action.specs.Types.{aspActiveAck};
 
 // ---- the identifiers of a message
 
@@ -104,12 +105,16 @@ fn other_mode(mode: &[u8; 16], m: u32, named: [bool; 16]) -> bool
 // Active (Rule 7.9): whether the mode is another is given.
 fn active_at(p: usize, other: bool, named: [bool; 16]) -> Decision
     requires { ⌜ p < 16 ⌝ }
-    ensures { λ w. ⌜ Decides w (cond other (send (action p 0 0 5 ∷ [])) (changeIn (action p 1027 0 0 ∷ []) (Activate p) named)) ⌝ }
+    ensures { λ w. ⌜ Decides w (cond other (send (action p 0 0 5 ∷ [])) (changeIn (action p aspActiveAck 0 0 ∷ []) (Activate p) named)) ⌝ }
 {
     if other {
         return work::error(p, 5);
     }
-    work::change_one(work::to_asp(p, 1027, 0, 0), Change::Activate(p), named)
+    work::change_one(
+        work::to_asp(p, action::ASP_ACTIVE_ACK, 0, 0),
+        Change::Activate(p),
+        named,
+    )
 }
 
 fn active_work(mode: &[u8; 16], p: usize, m: u32, named: [bool; 16]) -> Decision
@@ -123,7 +128,11 @@ fn inactive_work(p: usize, named: [bool; 16]) -> Decision
     requires { ⌜ p < 16 ⌝ }
     ensures { λ w. ⌜ Decides w (inactiveEffect p named) ⌝ }
 {
-    work::change_one(work::to_asp(p, 1028, 0, 0), Change::Deactivate(p), named)
+    work::change_one(
+        work::to_asp(p, action::ASP_INACTIVE_ACK, 0, 0),
+        Change::Deactivate(p),
+        named,
+    )
 }
 
 // Active where on holds, else Inactive, in the ASes named.

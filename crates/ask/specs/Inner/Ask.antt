@@ -16,6 +16,7 @@ use Rattle.server.specs.declared.Change.the-variants.{Recover}
 use Rattle.rules.specs.Event.{EventKind, message, lost, recovery, linkUp, linkDown, linkMessage}
 use Rattle.rules.specs.Effect.{Effect, changeIn}
 use Rattle.wire.specs.Walk.{walk}
+use Rattle.action.specs.Types.{aspUp, aspDown, aspActive, aspInactive}
 use Rattle.rules.specs.Asp.{upEffect, downEffect, lostEffect, trafficEffect}
 use Rattle.rules.specs.Link.{linkUpEffect, linkDownEffect, linkMessageEffect}
 use Rattle.rules.specs.Rules.{isError, effectOf, inPlan}
@@ -80,9 +81,9 @@ AskSmall (LinkMessage r) = _≡_ {A = ℕ} 0 0
 -- a message of ASP p by its class and type t; wrong says that it is an Error
 unfoldable pub askOf : ℕ → ℕ → Bool → Reading → Ask
 askOf p t wrong r =
-    cond (eqb t 769) (Up p r)
-    (cond (eqb t 770) (Down p)
-    (cond (eqb t 1025 || eqb t 1026) (Traffic (eqb t 1025) p r)
+    cond (eqb t aspUp) (Up p r)
+    (cond (eqb t aspDown) (Down p)
+    (cond (eqb t aspActive || eqb t aspInactive) (Traffic (eqb t aspActive) p r)
     (Other p wrong r)))
 
 -- what it names is within the tables, and class and type are bytes
@@ -131,18 +132,18 @@ pub asks-message : (p : ℕ) (s : List ℕ) → readingOf s .class < 256 → rea
 unfolding askOf act
 asks-message p s c k =
     let t = typeIn (isError s) (readingOf s) in
-    go t refl (eqb t 769) (eqb t 770) (eqb t 1025) (eqb t 1026) refl refl refl refl
+    go t refl (eqb t aspUp) (eqb t aspDown) (eqb t aspActive) (eqb t aspInactive) refl refl refl refl
   where
-    go : (t : ℕ) → typeIn (isError s) (readingOf s) ≡ t → (u v x y : Bool) → eqb t 769 ≡ u → eqb t 770 ≡ v → eqb t 1025 ≡ x → eqb t 1026 ≡ y
+    go : (t : ℕ) → typeIn (isError s) (readingOf s) ≡ t → (u v x y : Bool) → eqb t aspUp ≡ u → eqb t aspDown ≡ v → eqb t aspActive ≡ x → eqb t aspInactive ≡ y
         → AsksKind (message p s) s (cond u (Up p (readingOf s)) (cond v (Down p) (cond (x || y) (Traffic x p (readingOf s)) (Other p (isError s) (readingOf s)))))
-    go t e true v x y a b c₁ d = record { effect = λ g. sym (message-up g p s (e ∙ eqb-true t 769 a)); reach = λ g b. sym (reach-up g p s b (e ∙ eqb-true t 769 a)); known = λ g. refl; small = refl }
-    go t e false true x y a b c₁ d = record { effect = λ g. sym (message-down g p s (e ∙ eqb-true t 770 b)); reach = λ g a. sym (reach-down g p s a (e ∙ eqb-true t 770 b)); known = λ g. refl; small = refl }
-    go t e false false true y a b c₁ d = record { effect = λ g. sym (message-active g p s (e ∙ eqb-true t 1025 c₁)); reach = λ g a. sym (reach-active g p s a (e ∙ eqb-true t 1025 c₁)); known = λ g. refl; small = refl }
-    go t e false false false true a b c₁ d = record { effect = λ g. sym (message-inactive g p s (e ∙ eqb-true t 1026 d)); reach = λ g a. sym (reach-inactive g p s a (e ∙ eqb-true t 1026 d)); known = λ g. refl; small = refl }
+    go t e true v x y a b c₁ d = record { effect = λ g. sym (message-up g p s (e ∙ eqb-true t aspUp a)); reach = λ g b. sym (reach-up g p s b (e ∙ eqb-true t aspUp a)); known = λ g. refl; small = refl }
+    go t e false true x y a b c₁ d = record { effect = λ g. sym (message-down g p s (e ∙ eqb-true t aspDown b)); reach = λ g a. sym (reach-down g p s a (e ∙ eqb-true t aspDown b)); known = λ g. refl; small = refl }
+    go t e false false true y a b c₁ d = record { effect = λ g. sym (message-active g p s (e ∙ eqb-true t aspActive c₁)); reach = λ g a. sym (reach-active g p s a (e ∙ eqb-true t aspActive c₁)); known = λ g. refl; small = refl }
+    go t e false false false true a b c₁ d = record { effect = λ g. sym (message-inactive g p s (e ∙ eqb-true t aspInactive d)); reach = λ g a. sym (reach-inactive g p s a (e ∙ eqb-true t aspInactive d)); known = λ g. refl; small = refl }
     go t e false false false false a b c₁ d =
         record {
-          effect = λ g. sym (message-other g p s (λ z. eqb-false t 769 a (sym e ∙ z)) (λ z. eqb-false t 770 b (sym e ∙ z)) (λ z. eqb-false t 1025 c₁ (sym e ∙ z)) (λ z. eqb-false t 1026 d (sym e ∙ z)));
-          reach = λ g x. sym (reach-other g p s x (λ z. eqb-false t 769 a (sym e ∙ z)) (λ z. eqb-false t 770 b (sym e ∙ z)) (λ z. eqb-false t 1025 c₁ (sym e ∙ z)) (λ z. eqb-false t 1026 d (sym e ∙ z)));
+          effect = λ g. sym (message-other g p s (λ z. eqb-false t aspUp a (sym e ∙ z)) (λ z. eqb-false t aspDown b (sym e ∙ z)) (λ z. eqb-false t aspActive c₁ (sym e ∙ z)) (λ z. eqb-false t aspInactive d (sym e ∙ z)));
+          reach = λ g x. sym (reach-other g p s x (λ z. eqb-false t aspUp a (sym e ∙ z)) (λ z. eqb-false t aspDown b (sym e ∙ z)) (λ z. eqb-false t aspActive c₁ (sym e ∙ z)) (λ z. eqb-false t aspInactive d (sym e ∙ z)));
           known = λ g. refl;
           small = (c, k);
         }

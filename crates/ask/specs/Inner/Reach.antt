@@ -11,6 +11,7 @@ use Rattle.wire.specs.Walk.{walk}
 use Rattle.message.specs.Meaning.{readingOf}
 use Rattle.message.specs.declared.Reading.{Reading}
 use Rattle.gateway.specs.declared.Gateway.{Gateway}
+use Rattle.action.specs.Types.{aspUp, aspDown, aspActive, aspInactive}
 use Rattle.rules.specs.Identifiers.{ownsNamed, isMember}
 use Rattle.rules.specs.Rules.{isError, classTypeOf}
 use Rattle.rules.specs.Reach.{ownsId, readReach, messageReach}
@@ -31,30 +32,30 @@ module _ (g : Gateway) (p : ℕ) (s : List ℕ) (a : ℕ) where
   unfolding messageReach
   reach-read t e n = let y = typed (isError s) (readingOf s) t e n in rw (y .right, ← code-is s, eq-eqb (readingOf s .code) 0 (y .code))
 
-  pub reach-up : typeIn (isError s) (readingOf s) ≡ 769 → messageReach g p s a ≡ isMember g a p
+  pub reach-up : typeIn (isError s) (readingOf s) ≡ aspUp → messageReach g p s a ≡ isMember g a p
   unfolding readReach
-  reach-up e = reach-read 769 e (λ z. omega arith) ∙ rw (typed _ _ 769 e (λ z. omega arith) .type)
+  reach-up e = reach-read aspUp e (λ z. omega arith) ∙ rw (typed _ _ aspUp e (λ z. omega arith) .type)
 
-  pub reach-down : typeIn (isError s) (readingOf s) ≡ 770 → messageReach g p s a ≡ isMember g a p
+  pub reach-down : typeIn (isError s) (readingOf s) ≡ aspDown → messageReach g p s a ≡ isMember g a p
   unfolding readReach
-  reach-down e = reach-read 770 e (λ z. omega arith) ∙ rw (typed _ _ 770 e (λ z. omega arith) .type)
+  reach-down e = reach-read aspDown e (λ z. omega arith) ∙ rw (typed _ _ aspDown e (λ z. omega arith) .type)
 
   -- Active, Inactive
-  pub reach-active : typeIn (isError s) (readingOf s) ≡ 1025 → messageReach g p s a ≡ namedReach g p s (readingOf s .ids) a
+  pub reach-active : typeIn (isError s) (readingOf s) ≡ aspActive → messageReach g p s a ≡ namedReach g p s (readingOf s .ids) a
   unfolding readReach namedReach
-  reach-active e = reach-read 1025 e (λ z. omega arith) ∙ rw (typed _ _ 1025 e (λ z. omega arith) .type)
+  reach-active e = reach-read aspActive e (λ z. omega arith) ∙ rw (typed _ _ aspActive e (λ z. omega arith) .type)
 
-  pub reach-inactive : typeIn (isError s) (readingOf s) ≡ 1026 → messageReach g p s a ≡ namedReach g p s (readingOf s .ids) a
+  pub reach-inactive : typeIn (isError s) (readingOf s) ≡ aspInactive → messageReach g p s a ≡ namedReach g p s (readingOf s .ids) a
   unfolding readReach namedReach
-  reach-inactive e = reach-read 1026 e (λ z. omega arith) ∙ rw (typed _ _ 1026 e (λ z. omega arith) .type)
+  reach-inactive e = reach-read aspInactive e (λ z. omega arith) ∙ rw (typed _ _ aspInactive e (λ z. omega arith) .type)
 
-  pub reach-other : (typeIn (isError s) (readingOf s) ≡ 769 → ⊥) → (typeIn (isError s) (readingOf s) ≡ 770 → ⊥) → (typeIn (isError s) (readingOf s) ≡ 1025 → ⊥) → (typeIn (isError s) (readingOf s) ≡ 1026 → ⊥) → messageReach g p s a ≡ otherReach g (isError s) (readingOf s) a
+  pub reach-other : (typeIn (isError s) (readingOf s) ≡ aspUp → ⊥) → (typeIn (isError s) (readingOf s) ≡ aspDown → ⊥) → (typeIn (isError s) (readingOf s) ≡ aspActive → ⊥) → (typeIn (isError s) (readingOf s) ≡ aspInactive → ⊥) → messageReach g p s a ≡ otherReach g (isError s) (readingOf s) a
   unfolding messageReach readReach otherReach typeIn
   reach-other = rw (← code-is s) (go (isError s) (eqb (readingOf s .code) 0))
     where
-      go : (u v : Bool) → (cond u 0 (cond v (classTypeOf (readingOf s)) 0) ≡ 769 → ⊥) → (cond u 0 (cond v (classTypeOf (readingOf s)) 0) ≡ 770 → ⊥) → (cond u 0 (cond v (classTypeOf (readingOf s)) 0) ≡ 1025 → ⊥) → (cond u 0 (cond v (classTypeOf (readingOf s)) 0) ≡ 1026 → ⊥)
+      go : (u v : Bool) → (cond u 0 (cond v (classTypeOf (readingOf s)) 0) ≡ aspUp → ⊥) → (cond u 0 (cond v (classTypeOf (readingOf s)) 0) ≡ aspDown → ⊥) → (cond u 0 (cond v (classTypeOf (readingOf s)) 0) ≡ aspActive → ⊥) → (cond u 0 (cond v (classTypeOf (readingOf s)) 0) ≡ aspInactive → ⊥)
           → cond (u || not v) false (readReach g p s (readingOf s) a)
           ≡ cond u false (cond v (cond (eqb (readingOf s .class) 6) (ownsId g (readingOf s .id) a) false) false)
       go true v x y z w = refl
-      go false true x y z w = rw (ne-eqb (classTypeOf (readingOf s)) 769 x, ne-eqb (classTypeOf (readingOf s)) 770 y, ne-eqb (classTypeOf (readingOf s)) 1025 z, ne-eqb (classTypeOf (readingOf s)) 1026 w)
+      go false true x y z w = rw (ne-eqb (classTypeOf (readingOf s)) aspUp x, ne-eqb (classTypeOf (readingOf s)) aspDown y, ne-eqb (classTypeOf (readingOf s)) aspActive z, ne-eqb (classTypeOf (readingOf s)) aspInactive w)
       go false false x y z w = refl

@@ -13,6 +13,7 @@ use Rattle.message.specs.Verdict.{verdict}
 use Rattle.message.specs.Meaning.{meaning, outcome, refusal, readingOf}
 use Rattle.message.specs.declared.Reading.{Reading}
 use Rattle.gateway.specs.declared.Gateway.{Gateway}
+use Rattle.action.specs.Types.{beat, beatAck, aspUp, aspDown, aspActive, aspInactive}
 use Rattle.rules.specs.Effect.{Effect, send, error, oneAction}
 use Rattle.rules.specs.Asp.{upEffect, downEffect, trafficEffect, activeEffect, inactiveEffect}
 use Rattle.rules.specs.Link.{classSixEffect}
@@ -26,8 +27,8 @@ typeIn wrong r = cond wrong 0 (cond (eqb (r .code) 0) (classTypeOf r) 0)
 -- Beat, Beat Ack, class 6 and any other (Rules 7.7, 7.14, 7.23), as the code asks; six says that the type is one of class 6 that ASPs send, d what it does
 unfoldable pub otherTree : Effect → ℕ → Reading → Bool → Effect
 otherTree d p r six =
-    cond (eqb (classTypeOf r) 771) (send (oneAction p 774 0 0))
-    (cond (eqb (classTypeOf r) 774) (send [])
+    cond (eqb (classTypeOf r) beat) (send (oneAction p beatAck 0 0))
+    (cond (eqb (classTypeOf r) beatAck) (send [])
     (cond (eqb (r .class) 6) (cond six d (send (error p 6)))
     (send (error p 6))))
 
@@ -39,27 +40,27 @@ otherEffect g p wrong r =
 -- ---- a readable message, by its type
 
 module _ (g : Gateway) (p : ℕ) (s : List ℕ) (r : Reading) where
-  read-up : classTypeOf r ≡ 769 → readEffect g p s r ≡ upEffect g p r
+  read-up : classTypeOf r ≡ aspUp → readEffect g p s r ≡ upEffect g p r
   unfolding readEffect
   read-up e = rw e
 
-  read-down : classTypeOf r ≡ 770 → readEffect g p s r ≡ downEffect g p
+  read-down : classTypeOf r ≡ aspDown → readEffect g p s r ≡ downEffect g p
   unfolding readEffect
   read-down e = rw e
 
-  read-active : classTypeOf r ≡ 1025 → readEffect g p s r ≡ trafficEffect g p r (walk s 8 .pars) (activeEffect g p (r .mode))
+  read-active : classTypeOf r ≡ aspActive → readEffect g p s r ≡ trafficEffect g p r (walk s 8 .pars) (activeEffect g p (r .mode))
   unfolding readEffect
   read-active e = rw e
 
-  read-inactive : classTypeOf r ≡ 1026 → readEffect g p s r ≡ trafficEffect g p r (walk s 8 .pars) (inactiveEffect p)
+  read-inactive : classTypeOf r ≡ aspInactive → readEffect g p s r ≡ trafficEffect g p r (walk s 8 .pars) (inactiveEffect p)
   unfolding readEffect
   read-inactive e = rw e
 
-  read-other : (classTypeOf r ≡ 769 → ⊥) → (classTypeOf r ≡ 770 → ⊥) → (classTypeOf r ≡ 1025 → ⊥) → (classTypeOf r ≡ 1026 → ⊥) → readEffect g p s r ≡ otherTree (classSixEffect g p r) p r (fromAsp (r .msgtype))
+  read-other : (classTypeOf r ≡ aspUp → ⊥) → (classTypeOf r ≡ aspDown → ⊥) → (classTypeOf r ≡ aspActive → ⊥) → (classTypeOf r ≡ aspInactive → ⊥) → readEffect g p s r ≡ otherTree (classSixEffect g p r) p r (fromAsp (r .msgtype))
   unfolding readEffect otherTree
   read-other up down on off =
-      rw (ne-eqb (classTypeOf r) 769 up, ne-eqb (classTypeOf r) 770 down, ne-eqb (classTypeOf r) 1025 on, ne-eqb (classTypeOf r) 1026 off)
-      (ap (λ (d : Effect). cond (eqb (classTypeOf r) 771) (send (oneAction p 774 0 0)) (cond (eqb (classTypeOf r) 774) (send []) d)) (sym (last (eqb (r .class) 6) (fromAsp (r .msgtype)))))
+      rw (ne-eqb (classTypeOf r) aspUp up, ne-eqb (classTypeOf r) aspDown down, ne-eqb (classTypeOf r) aspActive on, ne-eqb (classTypeOf r) aspInactive off)
+      (ap (λ (d : Effect). cond (eqb (classTypeOf r) beat) (send (oneAction p beatAck 0 0)) (cond (eqb (classTypeOf r) beatAck) (send []) d)) (sym (last (eqb (r .class) 6) (fromAsp (r .msgtype)))))
     where
       last : (u v : Bool) → cond u (cond v (classSixEffect g p r) (send (error p 6))) (send (error p 6)) ≡ cond (u && v) (classSixEffect g p r) (send (error p 6))
       last true v = refl
@@ -87,23 +88,23 @@ module _ (g : Gateway) (p : ℕ) (s : List ℕ) where
   unfolding messageEffect
   message-read t e n = let y = typed (isError s) (readingOf s) t e n in rw (y .right, ← code-is s, eq-eqb (readingOf s .code) 0 (y .code))
 
-  pub message-up : typeIn (isError s) (readingOf s) ≡ 769 → messageEffect g p s ≡ upEffect g p (readingOf s)
-  message-up e = message-read 769 e (λ z. omega arith) ∙ read-up g p s (readingOf s) (typed _ _ 769 e (λ z. omega arith) .type)
+  pub message-up : typeIn (isError s) (readingOf s) ≡ aspUp → messageEffect g p s ≡ upEffect g p (readingOf s)
+  message-up e = message-read aspUp e (λ z. omega arith) ∙ read-up g p s (readingOf s) (typed _ _ aspUp e (λ z. omega arith) .type)
 
-  pub message-down : typeIn (isError s) (readingOf s) ≡ 770 → messageEffect g p s ≡ downEffect g p
-  message-down e = message-read 770 e (λ z. omega arith) ∙ read-down g p s (readingOf s) (typed _ _ 770 e (λ z. omega arith) .type)
+  pub message-down : typeIn (isError s) (readingOf s) ≡ aspDown → messageEffect g p s ≡ downEffect g p
+  message-down e = message-read aspDown e (λ z. omega arith) ∙ read-down g p s (readingOf s) (typed _ _ aspDown e (λ z. omega arith) .type)
 
-  pub message-active : typeIn (isError s) (readingOf s) ≡ 1025 → messageEffect g p s ≡ trafficEffect g p (readingOf s) (walk s 8 .pars) (activeEffect g p (readingOf s .mode))
-  message-active e = message-read 1025 e (λ z. omega arith) ∙ read-active g p s (readingOf s) (typed _ _ 1025 e (λ z. omega arith) .type)
+  pub message-active : typeIn (isError s) (readingOf s) ≡ aspActive → messageEffect g p s ≡ trafficEffect g p (readingOf s) (walk s 8 .pars) (activeEffect g p (readingOf s .mode))
+  message-active e = message-read aspActive e (λ z. omega arith) ∙ read-active g p s (readingOf s) (typed _ _ aspActive e (λ z. omega arith) .type)
 
-  pub message-inactive : typeIn (isError s) (readingOf s) ≡ 1026 → messageEffect g p s ≡ trafficEffect g p (readingOf s) (walk s 8 .pars) (inactiveEffect p)
-  message-inactive e = message-read 1026 e (λ z. omega arith) ∙ read-inactive g p s (readingOf s) (typed _ _ 1026 e (λ z. omega arith) .type)
+  pub message-inactive : typeIn (isError s) (readingOf s) ≡ aspInactive → messageEffect g p s ≡ trafficEffect g p (readingOf s) (walk s 8 .pars) (inactiveEffect p)
+  message-inactive e = message-read aspInactive e (λ z. omega arith) ∙ read-inactive g p s (readingOf s) (typed _ _ aspInactive e (λ z. omega arith) .type)
 
-  pub message-other : (typeIn (isError s) (readingOf s) ≡ 769 → ⊥) → (typeIn (isError s) (readingOf s) ≡ 770 → ⊥) → (typeIn (isError s) (readingOf s) ≡ 1025 → ⊥) → (typeIn (isError s) (readingOf s) ≡ 1026 → ⊥) → messageEffect g p s ≡ otherEffect g p (isError s) (readingOf s)
+  pub message-other : (typeIn (isError s) (readingOf s) ≡ aspUp → ⊥) → (typeIn (isError s) (readingOf s) ≡ aspDown → ⊥) → (typeIn (isError s) (readingOf s) ≡ aspActive → ⊥) → (typeIn (isError s) (readingOf s) ≡ aspInactive → ⊥) → messageEffect g p s ≡ otherEffect g p (isError s) (readingOf s)
   unfolding messageEffect otherEffect typeIn
   message-other = rw (← code-is s) (go (isError s) (eqb (readingOf s .code) 0))
     where
-      go : (u v : Bool) → (cond u 0 (cond v (classTypeOf (readingOf s)) 0) ≡ 769 → ⊥) → (cond u 0 (cond v (classTypeOf (readingOf s)) 0) ≡ 770 → ⊥) → (cond u 0 (cond v (classTypeOf (readingOf s)) 0) ≡ 1025 → ⊥) → (cond u 0 (cond v (classTypeOf (readingOf s)) 0) ≡ 1026 → ⊥)
+      go : (u v : Bool) → (cond u 0 (cond v (classTypeOf (readingOf s)) 0) ≡ aspUp → ⊥) → (cond u 0 (cond v (classTypeOf (readingOf s)) 0) ≡ aspDown → ⊥) → (cond u 0 (cond v (classTypeOf (readingOf s)) 0) ≡ aspActive → ⊥) → (cond u 0 (cond v (classTypeOf (readingOf s)) 0) ≡ aspInactive → ⊥)
           → cond u (send []) (cond v (readEffect g p s (readingOf s)) (send (error p (readingOf s .code)))) ≡ cond u (send []) (cond v (otherTree (classSixEffect g p (readingOf s)) p (readingOf s) (fromAsp (readingOf s .msgtype))) (send (error p (readingOf s .code))))
       go true v a b c d = refl
       go false true a b c d = read-other g p s (readingOf s) a b c d

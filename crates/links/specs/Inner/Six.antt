@@ -10,6 +10,7 @@ use Rattle.message.specs.declared.Reading.{Reading}
 use Rattle.action.specs.Words.{action, linkSide}
 use Rattle.gateway.specs.Sound.{pair}
 use Rattle.gateway.specs.declared.Gateway.{Gateway}
+use Rattle.action.specs.Types.{userData, dataAck}
 use Rattle.lookup.specs.Links.{indexOf, known}
 use Rattle.rules.specs.Effect.{Effect, send, error, error2}
 use Rattle.rules.specs.Identifiers.{isKnown, linkOf}
@@ -21,7 +22,7 @@ use Rattle.work.specs.Inner.Decides.{Decides, DecidesOn, decided}
 unfoldable pub dataTree : ℕ → ℕ → ℕ → Reading → Effect
 dataTree p x st r =
     cond (eqb st 2)
-    (cond (eqb (r .correlated) 1) (send (action linkSide 1537 x 0 ∷ action p 1551 x (r .correlation) ∷ [])) (send (action linkSide 1537 x 0 ∷ [])))
+    (cond (eqb (r .correlated) 1) (send (action linkSide userData x 0 ∷ action p dataAck x (r .correlation) ∷ [])) (send (action linkSide userData x 0 ∷ [])))
     (send (action p 0 0 6 ∷ []))
 
 pub data-tree : (p x st : ℕ) (r : Reading) → dataTree p x st r ≡ dataEffect p x st r
@@ -29,8 +30,8 @@ unfolding dataTree dataEffect
 data-tree p x st r = go (eqb st 2) (eqb (r .correlated) 1)
   where
     go : (u v : Bool)
-        → cond u (cond v (send (action linkSide 1537 x 0 ∷ action p 1551 x (r .correlation) ∷ [])) (send (action linkSide 1537 x 0 ∷ []))) (send (action p 0 0 6 ∷ []))
-        ≡ cond u (send (action linkSide 1537 x 0 ∷ cond v (action p 1551 x (r .correlation) ∷ []) [])) (send (action p 0 0 6 ∷ []))
+        → cond u (cond v (send (action linkSide userData x 0 ∷ action p dataAck x (r .correlation) ∷ [])) (send (action linkSide userData x 0 ∷ []))) (send (action p 0 0 6 ∷ []))
+        ≡ cond u (send (action linkSide userData x 0 ∷ cond v (action p dataAck x (r .correlation) ∷ []) [])) (send (action p 0 0 6 ∷ []))
     go true true = refl
     go true false = refl
     go false v = refl
