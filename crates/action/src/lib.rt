@@ -6,10 +6,10 @@ ghost use Rattle.laws.specs.Below.{when};
 ghost use Rattle.action.specs.Words.{toAll};
 ghost use Rattle.action.specs.Inner.Words.{putAt, Written};
 
-// The messages that the code names, by class and type (Rule 8.1).
-pub const ERROR: u32 = 0 * 256 + 0;
+// The messages that the events know, each as an action has it: class * 256 + type (Rules 2.10, 8.1).
+pub const MGMT_ERROR: u32 = 0;
 
-pub const NOTIFY: u32 = 0 * 256 + 1;
+pub const MGMT_NOTIFY: u32 = 1;
 
 pub const ASP_UP: u32 = 3 * 256 + 1;
 
@@ -49,7 +49,9 @@ pub const RETRIEVAL_REQUEST: u32 = 6 * 256 + 10;
 
 pub const DATA_ACK: u32 = 6 * 256 + 15;
 
-// What a Notify says of an AS in which another ASP has become active: type 2, information 2 (Rule 8.5).
+// The status of a Notify (Rule 8.5): the new state of an AS is type 1, and that another ASP has become active in one is type 2, information 2.
+pub const AS_STATE: u32 = 65536;
+
 pub const OTHER_ACTIVE: u32 = 2 * 65536 + 2;
 
 // To whom: the number of an ASP, or 255 for the link side. Which message: class * 256 + type. Its subject and its value.

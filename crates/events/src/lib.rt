@@ -18,7 +18,7 @@ ghost use Rattle.events.specs.Inner.Decision.{firstOf, AsesColumns, Enac
 
 // ---- what is done
 
-// What the event does, decided.
+// What the event does (Rule 7.1), decided.
 fn decided<'a>(
     ask: Ask,
     msg: &[u8],
@@ -121,8 +121,8 @@ fn settle(w: Decision, state: &mut [u8; 128])
 
 // ---- the entry
 
-// Every event: 0 message of ASP i, 1 association of ASP i lost, 2 recovery time of AS i over, 3 link i up, 4 link i down, 5 message of the link side;
-// any other number names nothing of the plan. The state is held here alone, and columns of it are lent: so it is copied twice, in and out.
+// Every event (Rule 6.2): the number of its kind (`ask::MESSAGE` ..), the index and the message that it has; any other number is refused (`happened`).
+// The state is held here alone, and columns of it are lent: so an accepted event copies it twice, in and out (tools/copies-check).
 #[no_mangle]
 pub extern "C" fn m2ua_event(
     g: Gateway,

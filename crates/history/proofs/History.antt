@@ -6,7 +6,7 @@ use mathlib.Core.List.{List, [], _∷_, _++_, map}
 use Prim.Native.Nat.{ℕ, zero, suc, _*_}
 use native.Mathlib.Omega.{arith}
 use lib.Dec.{eqb, ltb}
-use lib.ListN.{length, take, drop, replicate, length-replicate}
+use lib.ListN.{length, take, drop, length-replicate}
 use lib.Seq.{take-at}
 use borrow.Author.Tests.{not-true, eq-eqb, eqb-true, ltb-true}
 use Rattle.laws.specs.Inner.Every.{and-left, and-right}
@@ -27,7 +27,7 @@ use Rattle.rules.specs.Samples.{g₁, takes, comesUp}
 use Rattle.rules.proofs.Samples.{reach-apart}
 use Rattle.history.specs.Trade.{swaps, outs, last}
 use Rattle.history.specs.Inner.Trade.{Commute, traded-outs, traded-last}
-use Rattle.history.specs.History.{Call, events, Calls, none, call, answer, rulesAnswer, reaches, Independent, Untouched, Outside, Statement, isUp, ReachOfUp, Rooms, Made, TradesExist}
+use Rattle.history.specs.History.{Call, events, Calls, none, call, answer, rulesAnswer, reaches, Independent, Untouched, Outside, Statement, isUp, ReachOfUp, Rooms, blanks, Made, TradesExist}
 use Rattle.history.proofs.Frame.{Plan, planOf, plan, wait, act, line, up, untouched, not-mine, not-reached, reach-next, free-commute}
 use Rattle.history.proofs.Keeps.{keeps}
 
@@ -125,9 +125,6 @@ some-calls g (e ∷ h) (l ∷ ls) r =
     }
 
 -- there are such lists
-abbrev blanks : List Event → List (List ℕ)
-blanks h = map (λ (e : Event). replicate (e .room) 0) h
-
 pub some-rooms : (h : List Event) → Rooms h (blanks h)
 some-rooms [] = tt
 some-rooms (e ∷ h) = (length-replicate (e .room) 0, some-rooms h)

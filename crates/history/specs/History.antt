@@ -122,6 +122,10 @@ Rooms [] (l ∷ ls) = ⊥
 Rooms (e ∷ h) [] = ⊥
 Rooms (e ∷ h) (l ∷ ls) = (length l ≡ e .room) × Rooms h ls
 
+-- for instance lists of zeros
+abbrev pub blanks : List Event → List (List ℕ)
+blanks h = map (λ (e : Event). replicate (e .room) 0) h
+
 -- Such calls exist for every first state, every list of events and all lent lists of their lengths: the statement is about something.
 pub record Made (g : Gateway) (h : List Event) (ls : List (List ℕ)) : Type 0 where
   pub list : List Call

@@ -44,7 +44,7 @@ pub fn some_up<'a>(up: &'a [u8; 16], member: &'a [u8; 256], a: usize) -> bool
     found
 }
 
-// The state of AS a: 0 down, 2 inactive, 3 active, 4 pending.
+// The state of AS a (Rule 5.2): 0 down, 2 inactive, 3 active, 4 pending.
 pub fn as_state<'a>(
     up: &'a [u8; 16],
     member: &'a [u8; 256],
@@ -86,7 +86,7 @@ fn rest(x: u32, k: usize) -> usize
     n % k
 }
 
-// Who gets a message of a link of AS a: a flag for each ASP. x is the number that load-share goes by.
+// Who gets a message of a link of AS a: a flag for each ASP (Rule 5.15). x is the number that load-share goes by.
 pub fn recipients(active: &[u8; 256], mode: u8, a: usize, x: u32) -> [bool; 16]
     requires { ⌜ a < 16 ⌝ }
     ensures { λ r. ⌜ r ≡ tabulate 16 (receives (now (active .entry)) mode a x) ⌝ }

@@ -1,4 +1,4 @@
-// The identifiers that a message names, in a number of steps that the links bound and not the ranges.
+// The identifiers that a message names (Rule 2.11), in a number of steps that the links bound and not the ranges.
 ghost use mathlib.Core.Path.{_≡_};
 ghost use mathlib.Core.Bool.{_||_};
 ghost use Prim.Native.Nat.{_<_};

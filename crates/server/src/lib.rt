@@ -1,4 +1,4 @@
-// What one AS keeps, cut out of the gateway's columns: what an event does to it, and the Notifies that follow.
+// The record of one AS (Rule 5.3), cut out of the gateway's columns: what an event does to it, and the Notifies that follow.
 ghost use mathlib.Core.Path.{_≡_};
 ghost use Prim.Native.Nat.{_+_, _*_, _<_, _≤_};
 ghost use lib.ListN.{length};
@@ -171,7 +171,7 @@ fn overtake(x: [bool; 16], mode: u8, y: [bool; 16]) -> [bool; 16]
     [false; 16]
 }
 
-// The record with other members up and active: it waits if it lost its last active member.
+// The record with other members up and active: it waits if it lost its last active member (Rule 7.12).
 fn settled(s: AsRecord, ups: [bool; 16], acts: [bool; 16]) -> AsRecord
     ensures { λ r. ⌜ r ≡ recordWith s ups acts ⌝ }
 {
@@ -241,7 +241,7 @@ pub fn state_in(s: AsRecord) -> u32
     0
 }
 
-// The new state to every member that is up, if it is another and not down.
+// The new state to every member that is up, if it is another and not down (Rule 8.5).
 fn announce(s: AsRecord, t: AsRecord, a: usize, words: &mut [u32], n: usize) -> usize
     requires { ⌜ (a < 16) × (n * 4 + 64 ≤ length (now words)) ⌝ }
     ensures { λ r. ⌜ Written (now (words .entry)) n (announced s t a) (now (words .exit)) r ⌝ }
@@ -255,10 +255,17 @@ fn announce(s: AsRecord, t: AsRecord, a: usize, words: &mut [u32], n: usize) -> 
         return n;
     }
     let ups = t.ups;
-    action::to_all(ups, action::NOTIFY, a as u32, 65536 + y, words, n)
+    action::to_all(
+        ups,
+        action::MGMT_NOTIFY,
+        a as u32,
+        action::AS_STATE + y,
+        words,
+        n,
+    )
 }
 
-// Notify (2, 2) to those overtaken, or else the new state.
+// To those overtaken that another is active (Rule 7.11), or else the new state.
 pub fn speak(
     lost: [bool; 16],
     s: AsRecord,
@@ -273,7 +280,7 @@ pub fn speak(
     if has_some(lost) {
         return action::to_all(
             lost,
-            action::NOTIFY,
+            action::MGMT_NOTIFY,
             a as u32,
             action::OTHER_ACTIVE,
             words,

@@ -1,19 +1,17 @@
 -- From what the code does to what every entry promises.
 -- Assumes nothing.
-use Prim.Native.Nat.{ℕ, _+_, _*_, _≤_, _<_}
+use Prim.Native.Nat.{ℕ, _*_, _≤_}
 use mathlib.Core.Path.{_≡_, refl, _∙_, sym}
-use mathlib.Core.Bool.{Bool, true, false, cond, not}
+use mathlib.Core.Bool.{Bool, cond}
 use mathlib.Core.List.{List, [], _++_}
 use native.Mathlib.Omega.{arith}
 use native.Mathlib.Nat.{mul-comm}
-use lib.Dec.{eqb, ltb}
+use lib.Dec.{eqb}
 use lib.ListN.{length, drop}
-use borrow.Author.Tests.{ltb-true, ltb-false, eq-eqb, ne-eqb}
+use borrow.Author.Tests.{eq-eqb, ne-eqb}
 use Rattle.action.specs.Words.{wordsOf}
 use Rattle.action.specs.Inner.Words.{Written, place-first}
 use Rattle.gateway.specs.Sound.{isSound}
-use Rattle.gateway.specs.Laws.{Limits}
-use Rattle.gateway.specs.Inner.Laws.{counts-within}
 use Rattle.gateway.specs.declared.Gateway.{Gateway}
 use Rattle.rules.specs.declared.Outcome.{Outcome}
 use Rattle.rules.specs.Event.{EventKind}
@@ -22,7 +20,7 @@ use Rattle.rules.specs.Rules.{effectOf, inPlan, refusalOf, refusal}
 use Rattle.rules.specs.Entry.{actions, next, MeetsRules}
 use Rattle.rules.specs.Inner.Few.{few-count}
 use Rattle.ask.specs.Happened.{event}
-use Rattle.ask.specs.Inner.Refused.{Accepted, accepted}
+use Rattle.ask.specs.Inner.Refused.{accepted}
 
 -- what a function that does the effect d on the state g hands back, and leaves of the words ws
 pub record Performed (g : Gateway) (d : Effect) (ws ws′ : List ℕ) (r : Outcome) : Type 0 where
@@ -32,25 +30,13 @@ pub record Performed (g : Gateway) (d : Effect) (ws ws′ : List ℕ) (r : Outco
   pub few : length (actionsOf g d) ≤ 258
   pub state : r .gateway ≡ stateAfter g d
 
--- the same of an event that names the index i, where the configuration has n
-pub record Taken (g : Gateway) (i n room : ℕ) : Type 0 where
-  pub sound-yes : isSound g ≡ true
-  pub within : i < n
-  pub enough : 1032 ≤ room
-  pub counts : Limits (g .asps) (g .ases) (g .links)
-
-pub taken : (g : Gateway) (i n room : ℕ) {no : ℕ} → no ≡ refusalOf (isSound g) (ltb i n) room → no ≡ 0 → Taken g i n room
-taken g i n room e h =
-    let t = accepted (isSound g) (ltb i n) room (sym e ∙ h) in
-    record { sound-yes = t .sound-yes; within = ltb-true i n (t .known-yes); enough = t .enough; counts = counts-within g (t .sound-yes) }
-
--- ---- from both to what every method and every entry promises
+-- ---- from both to what every entry promises
 
 -- the refusal of an event on the state g, where known says that what it names is in the plan
 abbrev refusalIn : Gateway → Bool → List ℕ → ℕ
 refusalIn g known ws = refusalOf (isSound g) known (length ws)
 
--- What a method promises of the effect d: the equations of `MeetsRules`.
+-- what is promised of the effect d: the equations of `MeetsRules`
 pub record MeetsEffect (g : Gateway) (known : Bool) (d : Effect) (lent left : List ℕ) (r : Outcome) : Type 0 where
   pub refused : r .refusal ≡ refusalIn g known lent
   pub count : r .count ≡ length (cond (eqb (refusalIn g known lent) 0) (actionsOf g d) [])

@@ -30,7 +30,7 @@ refusal-is c =
     c .refused .ensures
     ∙ ap (λ (k : Bool). refusalOf (isSound (start (to-asked c) .args .t1)) k (start (to-asked c) .args .room)) (to-asked c .asked .ensures .known (start (to-asked c) .args .t1))
 
-taken : (c : tie.After-refused) → c .refused .result ≡ 0 → Accepted (isSound (start (to-asked c) .args .t1)) (inPlan (start (to-asked c) .args .t1) (happens (to-asked c) .msgtype)) (start (to-asked c) .args .room)
+taken : (c : tie.After-refused) → c .refused .result ≡ 0 → Accepted (isSound (start (to-asked c) .args .t1)) (inPlan (start (to-asked c) .args .t1) (happens (to-asked c) .kind)) (start (to-asked c) .args .room)
 taken c h = accepted _ _ _ (sym (refusal-is c) ∙ h)
 
 row-of-requires : tie.Need-row-of-requires
