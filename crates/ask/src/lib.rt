@@ -39,7 +39,7 @@ pub enum Ask {
 // ---- refusals
 
 // Rule 6.3: 105, then 102, then 101; known is that what the event names is in the plan.
-pub fn refusal(sound: bool, known: bool, room: usize) -> u32
+fn refusal(sound: bool, known: bool, room: usize) -> u32
     ensures { λ r. ⌜ r ≡ refusalOf sound known room ⌝ }
 {
     if sound {

@@ -65,7 +65,7 @@ fn stop_at(value: &[u8], pairs: bool, i: usize) -> u32
     if pairs {
         return wire::get32(value, 8 * i + 4);
     }
-    wire::get32(value, 4 * i)
+    start_at(value, pairs, i)
 }
 
 // The flags set, with those of the ASes that own a known identifier of the value.
