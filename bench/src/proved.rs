@@ -87,43 +87,45 @@ pub fn write(
     }
 }
 
-/// An event by the number of its kind (include/m2ua.h).
-#[inline(always)]
-fn event(g: Gateway, kind: u32, index: usize, msg: &[u8], words: &mut [u32]) -> Outcome {
-    // SAFETY: each pointer and length are those of one slice, any bytes are a state, and the entry has no `requires`.
-    unsafe {
-        m2ua_event(
-            g,
-            kind,
-            index,
-            msg.as_ptr(),
-            msg.len(),
-            words.as_mut_ptr(),
-            words.len(),
-        )
-    }
+/// An event by the number of its kind (include/m2ua.h). A macro: a function of ours would copy the state once more.
+macro_rules! event {
+    ($g:expr, $kind:expr, $index:expr, $msg:expr, $words:expr) => {{
+        let (msg, words): (&[u8], &mut [u32]) = ($msg, $words);
+        // SAFETY: each pointer and length are those of one slice, any bytes are a state, and the entry has no `requires`.
+        unsafe {
+            m2ua_event(
+                $g,
+                $kind,
+                $index,
+                msg.as_ptr(),
+                msg.len(),
+                words.as_mut_ptr(),
+                words.len(),
+            )
+        }
+    }};
 }
 
 pub fn message(g: Gateway, p: usize, msg: &[u8], words: &mut [u32]) -> Outcome {
-    event(g, 0, p, msg, words)
+    event!(g, 0, p, msg, words)
 }
 
 pub fn lost(g: Gateway, p: usize, words: &mut [u32]) -> Outcome {
-    event(g, 1, p, &[], words)
+    event!(g, 1, p, &[], words)
 }
 
 pub fn recovery(g: Gateway, a: usize, words: &mut [u32]) -> Outcome {
-    event(g, 2, a, &[], words)
+    event!(g, 2, a, &[], words)
 }
 
 pub fn link_up(g: Gateway, l: usize, words: &mut [u32]) -> Outcome {
-    event(g, 3, l, &[], words)
+    event!(g, 3, l, &[], words)
 }
 
 pub fn link_down(g: Gateway, l: usize, words: &mut [u32]) -> Outcome {
-    event(g, 4, l, &[], words)
+    event!(g, 4, l, &[], words)
 }
 
 pub fn link_message(g: Gateway, msg: &[u8], words: &mut [u32]) -> Outcome {
-    event(g, 5, 0, msg, words)
+    event!(g, 5, 0, msg, words)
 }
