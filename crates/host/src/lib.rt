@@ -1,5 +1,5 @@
 // The public entries for messages and plans over the C ABI, for hosts in C and Rust (include/m2ua.h). Thin: each calls the entry of its name and
-// promises the same. (The events are in host_events: in one archive with them the reader would not be compiled into its one caller.)
+// promises the same. (The events are exported by crate events: in one archive with them the reader would not be compiled into its one caller.)
 // A slice is passed as a pointer and a length, a struct by value.
 use config::Loaded;
 use encode::Written;

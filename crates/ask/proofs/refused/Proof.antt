@@ -3,7 +3,7 @@ use mathlib.Core.Path.{refl, sym, _∙_}
 use borrow.Author.Tests.{not-true, not-false}
 use Rattle.gateway.specs.declared.Gateway.{Gateway}
 use Rattle.ranges.specs.Inner.Laws.{table}
-use Rattle.ask.specs.Inner.Refused.{unsound}
+use Rattle.rules.specs.Inner.Accepted.{unsound}
 use borrow.Author.Needs.{needs}
 use Rattle.ask.proofs.refused.Statement.{statement}
 use Rattle.ask.proofs.refused.Tie as tie

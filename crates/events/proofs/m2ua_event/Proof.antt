@@ -14,7 +14,7 @@ use Rattle.work.specs.Inner.Decides.{Decides, decided}
 use Rattle.ask.specs.Happened.{happened}
 use Rattle.ask.specs.Inner.Ask.{ask-fits-at}
 use Rattle.events.specs.Inner.Decision.{performed}
-use Rattle.ask.specs.Inner.Refused.{Accepted, accepted}
+use Rattle.rules.specs.Inner.Accepted.{Accepted, accepted}
 use Rattle.events.specs.Inner.Perform.{meets-no, meets-yes}
 use borrow.Author.Needs.{needs}
 use Rattle.events.proofs.m2ua_event.Statement.{statement}

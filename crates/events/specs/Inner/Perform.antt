@@ -20,7 +20,7 @@ use Rattle.rules.specs.Rules.{effectOf, inPlan, refusalOf, refusal}
 use Rattle.rules.specs.Entry.{actions, next, MeetsRules}
 use Rattle.rules.specs.Inner.Few.{few-count}
 use Rattle.ask.specs.Happened.{event}
-use Rattle.ask.specs.Inner.Refused.{accepted}
+use Rattle.rules.specs.Inner.Accepted.{accepted}
 
 -- what a function that does the effect d on the state g hands back, and leaves of the words ws
 pub record Performed (g : Gateway) (d : Effect) (ws ws′ : List ℕ) (r : Outcome) : Type 0 where

@@ -19,10 +19,4 @@ returns-3 c = search decisions depth 9
 pub data-tree-spec : {M : Type 1} → statement M
 data-tree-spec =
     tie.close
-    (tie.spec
-    (λ c κs. search needs)
-    returns
-    (λ c κs. search needs)
-    returns-2
-    (λ c κs. search needs)
-    returns-3)
+    (tie.spec (λ c κs. search needs) returns (λ c κs. search needs) returns-2 (λ c κs. search needs) returns-3)

@@ -19,10 +19,4 @@ returns-3 c = search decisions depth 9
 pub establish-work-spec : {M : Type 1} → statement M
 establish-work-spec =
     tie.close
-    (tie.spec
-    (λ c κs. search needs)
-    returns
-    (λ c κs. search needs)
-    returns-2
-    (λ c κs. search needs)
-    returns-3)
+    (tie.spec (λ c κs. search needs) returns (λ c κs. search needs) returns-2 (λ c κs. search needs) returns-3)

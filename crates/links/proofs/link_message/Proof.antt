@@ -23,12 +23,7 @@ returns c =
 pub link-message-spec : {M : Type 1} → statement M
 link-message-spec =
     tie.close
-    (tie.spec
-    (λ c κs. search needs)
-    (λ c κs. (c .before .pre .0, there c))
-    (λ c. search needs)
-    (λ c. search needs)
+    (tie.spec (λ c κs. search needs) (λ c κs. (c .before .pre .0, there c)) (λ c. search needs) (λ c. search needs)
     (λ c. let i = c .before .before .before in omega (arith, there i, i .before .pre .0 .few))
-    (λ c. let i = c .before .before .before in omega (arith, there i, i .before .pre .0 .few))
-    (λ c κs. search needs)
+    (λ c. let i = c .before .before .before in omega (arith, there i, i .before .pre .0 .few)) (λ c κs. search needs)
     returns)

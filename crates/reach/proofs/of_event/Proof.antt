@@ -9,7 +9,7 @@ use Rattle.rules.specs.Event.{Event}
 use Rattle.rules.specs.Rules.{refusal, refusalOf, inPlan}
 use Rattle.ask.specs.Happened.{happened, eventOf}
 use Rattle.ask.specs.Inner.Ask.{ask-fits-at}
-use Rattle.ask.specs.Inner.Refused.{Accepted, accepted}
+use Rattle.rules.specs.Inner.Accepted.{Accepted, accepted}
 use Rattle.reach.specs.Inner.Rows.{row-is, reached-no, reached-yes}
 use Rattle.reach.proofs.of_event.Statement.{statement}
 use Rattle.reach.proofs.of_event.Tie as tie

@@ -1,4 +1,4 @@
--- What it says of an event that it is not refused.
+-- What follows where an event is refused, and where it is not.
 -- Assumes nothing.
 use Prim.Native.Nat.{ℕ, _≤_}
 use mathlib.Core.Path.{_≡_, refl}
@@ -9,6 +9,7 @@ use borrow.Author.Tests.{ltb-false}
 use Rattle.laws.specs.Choice.{_orElse_, _if_}
 use Rattle.rules.specs.Rules.{refusalOf, leastRoom}
 
+-- an event that is not refused
 pub record Accepted (sound known : Bool) (room : ℕ) : Type 0 where
   pub sound-yes : sound ≡ true
   pub known-yes : known ≡ true
@@ -23,3 +24,8 @@ accepted sound known room = go sound known (ltb room leastRoom) refl
     go true true false e h = record { sound-yes = refl; known-yes = refl; enough = ltb-false room leastRoom e }
     go true false w e h = let z : ⊥ = omega arith in absurd z
     go false v w e h = let z : ⊥ = omega arith in absurd z
+
+-- 105 comes before the others
+pub unsound : (sound known : Bool) (room : ℕ) → sound ≡ false → 105 ≡ refusalOf sound known room
+unfolding refusalOf
+unsound sound known room e = rw e

@@ -16,7 +16,7 @@ use Rattle.server.specs.Record.{recordOf}
 use Rattle.server.specs.Inner.Record.{withRow}
 use Rattle.server.specs.Change.{after}
 use Rattle.server.specs.Notify.{actionsIn}
-use Rattle.servers.specs.Changed.{newActive, newWaiting, actionsAt, allActions, upAfter, withChange}
+use Rattle.servers.specs.Changed.{newActive, newWaiting, actionsAt, allActions}
 
 -- what a step in AS a leaves of the columns and the words; s is the AS's record before it
 pub record Stepped (k : Change) (named : Bool) (a : ℕ) (s : AsRecord) (active waiting : List ℕ) (ws : List ℕ) (n : ℕ) (active′ waiting′ : List ℕ) (ws′ : List ℕ) (r : ℕ) : Type 0 where
@@ -36,42 +36,8 @@ pub record Running (k : Change) (named : List Bool) (records : ℕ → AsRecord)
   pub acts : HalfCol (newActive k named records active₀) (numberAt active₀) 256 (a * 16) active
   pub waits : HalfCol (newWaiting k named records waiting₀) (numberAt waiting₀) 16 a waiting
 
--- a caller that runs the loop and puts the columns into its state has the actions and the state of the rules
+-- a caller that runs the loop over its state has the actions of the rules
 module _ (g : Gateway) {k : Change} {named : List Bool} {ws : List ℕ} {n : ℕ} {active waiting : List ℕ} {ws′ : List ℕ} {r : ℕ} where
   pub ran-actions : Ran k named (recordOf g) (g .active) (g .waiting) ws n active waiting ws′ r → Written ws n (allActions g k named) ws′ r
   unfolding allActions
   ran-actions h = h .wrote
-
-  pub ran-change : Ran k named (recordOf g) (g .active) (g .waiting) ws n active waiting ws′ r → {up : List ℕ} → up ≡ upAfter k (g .up)
-      → _≡_ {A = Gateway}
-      (record {
-        asps = g .asps;
-        ases = g .ases;
-        links = g .links;
-        aspid = g .aspid;
-        up = up;
-        member = g .member;
-        active = active;
-        mode = g .mode;
-        waiting = waiting;
-        iid = g .iid;
-        owner = g .owner;
-        state = g .state;
-      })
-      (withChange g k named)
-  unfolding withChange
-  ran-change h e =
-      λ i. record {
-        asps = g .asps;
-        ases = g .ases;
-        links = g .links;
-        aspid = g .aspid;
-        up = e i;
-        member = g .member;
-        active = h .acts i;
-        mode = g .mode;
-        waiting = h .waits i;
-        iid = g .iid;
-        owner = g .owner;
-        state = g .state;
-      }

@@ -43,21 +43,10 @@ loop-again c = let k = c .before .before .before .before .before in let i = k .b
 pub named-of-spec : {M : Type 1} → statement M
 named-of-spec =
     tie.close
-    (tie.spec
-    Inv-loop
-    μ-loop
-    (λ c. (refl, owners-none _ _, c .before .pre .0, c .before .pre .1))
-    (λ c κs. search needs)
-    (λ c. search needs)
-    (λ c κs. search needs)
-    returns
+    (tie.spec Inv-loop μ-loop (λ c. (refl, owners-none _ _, c .before .pre .0, c .before .pre .1))
+    (λ c κs. search needs) (λ c. search needs) (λ c κs. search needs) returns (λ c. let k = next-at c in omega arith)
+    (λ c. let k = next-at c in omega arith) (λ c. let k = next-at c in omega arith)
+    (λ c. let k = next-at c in omega arith) (λ c. let k = next-at c in omega arith)
     (λ c. let k = next-at c in omega arith)
-    (λ c. let k = next-at c in omega arith)
-    (λ c. let k = next-at c in omega arith)
-    (λ c. let k = next-at c in omega arith)
-    (λ c. let k = next-at c in omega arith)
-    (λ c. let k = next-at c in omega arith)
-    (λ c κs. let i = c .before .before .before .before .before .loop .inv in (i .2, i .3))
-    returns-2
-    (λ c. let k = next-at (c .before .before .before .before .before) in omega arith)
-    loop-again)
+    (λ c κs. let i = c .before .before .before .before .before .loop .inv in (i .2, i .3)) returns-2
+    (λ c. let k = next-at (c .before .before .before .before .before) in omega arith) loop-again)

@@ -21,10 +21,4 @@ returns-3 c = rw (ne-eqb _ 1 (c .before .before .if1 .left), ne-eqb _ 8 (c .befo
 pub named-par-spec : {M : Type 1} → statement M
 named-par-spec =
     tie.close
-    (tie.spec
-    (λ c κs. search needs)
-    returns
-    (λ c κs. search needs)
-    returns-2
-    (λ c κs. search needs)
-    returns-3)
+    (tie.spec (λ c κs. search needs) returns (λ c κs. search needs) returns-2 (λ c κs. search needs) returns-3)
