@@ -1,5 +1,5 @@
-/* The M2UA gateway library (what it does is in docs/RULES.md): the entries that `rt staticlib host` and `rt staticlib events` export (crates/host,
- * crates/events). Link target/staticlib/libhost.a and libevents.a.
+/* The M2UA gateway library (what it does is in docs/RULES.md): the entries that the crates host, host_write and events export.
+ * tools/archives makes target/staticlib/libhost.a (reading, plans, soundness), libhost_write.a (writing) and libevents.a: link those that you call.
  * Nothing checks this header against the Rattle source; examples/c tries each entry. */
 #ifndef M2UA_H
 #define M2UA_H
