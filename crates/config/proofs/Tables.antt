@@ -7,9 +7,8 @@ use native.Mathlib.Omega.{arith}
 use native.Mathlib.Nat.{not-suc-le-zero}
 use lib.ListN.{replicate, length-replicate, getD-replicate}
 use Rattle.laws.specs.Columns.{numberAt}
-use Rattle.laws.specs.Inner.Columns.{HalfCol, getD-tabulate}
-use Rattle.config.specs.Plan.{bit, high}
-use Rattle.config.specs.Inner.Tables.{highs}
+use Rattle.laws.specs.Inner.Columns.{HalfCol}
+use Rattle.config.specs.Plan.{bit}
 
 pub column-none : (places : ℕ) (f : ℕ → ℕ) → HalfCol f (λ i. 0) places 0 (replicate places 0)
 column-none places f =
@@ -20,9 +19,8 @@ column-none places f =
     }
 
 -- the bit of pair (a, q) stands at its index
-pub bit-at : (second : List ℕ) (a q : ℕ) → q < 16 → bit (high (numberAt second q)) a ≡ bit (numberAt (highs second) ((a * 16 + q) % 16)) ((a * 16 + q) / 16)
-unfolding highs
-bit-at second a q h =
+pub bit-at : (mask : List ℕ) (a q : ℕ) → q < 16 → bit (numberAt mask q) a ≡ bit (numberAt mask ((a * 16 + q) % 16)) ((a * 16 + q) / 16)
+bit-at mask a q h =
     let d : (a * 16 + q) / 16 ≡ a = omega arith in
     let m : (a * 16 + q) % 16 ≡ q = omega arith in
-    rw (d, m, getD-tabulate 16 (λ p. high (numberAt second p)) q 0 h)
+    rw (d, m)

@@ -167,36 +167,44 @@ fn rows_ok<'a>(
 
 // ---- the fresh state (Rule 4.6)
 
-fn bit_of(word: u32, a: u32) -> u8
+fn bit_of(mask: u16, a: u16) -> u8
     requires { ⌜ a < 16 ⌝ }
-    ensures { λ r. ⌜ r ≡ bit (high word) a ⌝ }
+    ensures { λ r. ⌜ r ≡ bit mask a ⌝ }
 {
-    (((word / 65536) >> a) % 2) as u8
+    ((mask >> a) % 2) as u8
 }
 
-fn members_of(second: &[u32; 16]) -> [u8; 256]
-    ensures { λ r. ⌜ r ≡ members (highs (now (second .entry))) ⌝ }
+// The masks of n rows: the upper halves of the words from a position on. They are read from the file once more, since
+// the table of members is made in fewer steps from 16 bits, and halves of a table of words are compiled as words.
+fn masks_of(s: &[u8], at: usize, n: usize) -> [u16; 16]
+    requires { ⌜ (n ≤ 16) × RowsIn (length (now s)) at 8 n ⌝ }
+    ensures { λ r. ⌜ r ≡ column 16 n (λ p. high (wordOf (now (s .entry)) at 8 p)) ⌝ }
+{
+    let mut r = [0u16; 16];
+    for p in 0..n {
+        r[p] = (wire::get32(s, at + ASP_ROW * p) / 65536) as u16;
+    }
+    r
+}
+
+fn members_of(mask: &[u16; 16]) -> [u8; 256]
+    ensures { λ r. ⌜ r ≡ members (now (mask .entry)) ⌝ }
 {
     let mut r = [0u8; 256];
-    for a in 0..16u32 {
+    for a in 0..16u16 {
         for q in 0..16usize {
-            r[(a as usize) * 16 + q] = bit_of(second[q], a);
+            r[(a as usize) * 16 + q] = bit_of(mask[q], a);
         }
     }
     r
 }
 
-fn build<'a>(
-    s: &[u8],
-    t: Places,
-    aspid: &'a [u32; 16],
-    second: &'a [u32; 16],
-    iid: &'a [u32; 128],
-) -> Loaded
+fn build<'a>(s: &[u8], t: Places, aspid: &'a [u32; 16], iid: &'a [u32; 128]) -> Loaded
     requires { ⌜ Inside t (length (now s)) × AllIn (wordOf (now s) (t .y) 4) (t .ases) 256 × AllIn (wordOf (now s) (t .z + 4) 8) (t .links) 256 ⌝ }
-    ensures { λ r. ⌜ r ≡ accepted (fresh (t .asps) (t .ases) (t .links) (now (aspid .entry)) (highs (now (second .entry))) (asWords (now (s .entry)) (t .y) (t .ases)) (now (iid .entry)) (linkWords (now (s .entry)) (t .z + 4) (t .links))) ⌝ }
+    ensures { λ r. ⌜ r ≡ accepted (fresh (t .asps) (t .ases) (t .links) (now (aspid .entry)) (column 16 (t .asps) (λ p. high (wordOf (now (s .entry)) (t .x + 4) 8 p))) (asWords (now (s .entry)) (t .y) (t .ases)) (now (iid .entry)) (linkWords (now (s .entry)) (t .z + 4) (t .links))) ⌝ }
 {
-    let member = members_of(second);
+    let mask = masks_of(s, t.x + 4, t.asps);
+    let member = members_of(&mask);
     let mut modes = [0u8; 16];
     fill_bytes(s, t.y, AS_ROW, t.ases, &mut modes);
     let mut owners = [0u8; 128];
@@ -230,7 +238,7 @@ fn answer<'a>(
     second: &'a [u32; 16],
     iid: &'a [u32; 128],
 ) -> Loaded
-    requires { ⌜ Inside t (length (now s)) ⌝ }
+    requires { ⌜ Inside t (length (now s)) × (now second ≡ column 16 (t .asps) (wordOf (now s) (t .x + 4) 8)) ⌝ }
     ensures { λ r. ⌜ r ≡ built (t .asps) (t .ases) (t .links) (now (aspid .entry)) (highs (now (second .entry))) (lows (now (second .entry))) (asWords (now (s .entry)) (t .y) (t .ases)) (now (iid .entry)) (linkWords (now (s .entry)) (t .z + 4) (t .links)) ⌝ }
 {
     if !rows_ok(s, t, aspid, second, iid) {
@@ -239,7 +247,7 @@ fn answer<'a>(
             gateway: Gateway::zeros(),
         };
     }
-    build(s, t, aspid, second, iid)
+    build(s, t, aspid, iid)
 }
 
 fn places_of(s: &[u8]) -> Places

@@ -5,7 +5,6 @@ use native.Mathlib.Omega.{arith}
 use borrow.Author.Needs.{needs}
 use denote.Ref.{now}
 use Rattle.config.specs.Plan.{bit, members}
-use Rattle.config.specs.Inner.Tables.{highs}
 use Rattle.laws.specs.Columns.{flagAt, numberAt}
 use Rattle.laws.specs.Inner.Columns.{HalfCol, half-more, half-end, half-at}
 use Rattle.config.proofs.Tables.{column-none, bit-at}
@@ -13,16 +12,16 @@ use Rattle.config.proofs.members_of.Statement.{statement}
 use Rattle.config.proofs.members_of.Tie as tie
 
 abbrev Inv-loop2 : tie.InvT-loop2
-Inv-loop2 second r₀ a q₀ r q = HalfCol (λ i. bit (numberAt (highs second) (i % 16)) (i / 16)) (λ i. 0) 256 (a * 16 + q) r × (q ≤ 16) × (a < 16)
+Inv-loop2 mask r₀ a q₀ r q = HalfCol (λ i. bit (numberAt mask (i % 16)) (i / 16)) (λ i. 0) 256 (a * 16 + q) r × (q ≤ 16) × (a < 16)
 
 abbrev μ-loop2 : tie.MeasureT-loop2
-μ-loop2 second r₀ a q₀ r q = 16 - q
+μ-loop2 mask r₀ a q₀ r q = 16 - q
 
 abbrev Inv-loop : tie.InvT-loop
-Inv-loop second r₀ a₀ r a = HalfCol (λ i. bit (numberAt (highs second) (i % 16)) (i / 16)) (λ i. 0) 256 (a * 16) r × (a ≤ 16)
+Inv-loop mask r₀ a₀ r a = HalfCol (λ i. bit (numberAt mask (i % 16)) (i / 16)) (λ i. 0) 256 (a * 16) r × (a ≤ 16)
 
 abbrev μ-loop : tie.MeasureT-loop
-μ-loop second r₀ a₀ r a = 16 - a
+μ-loop mask r₀ a₀ r a = 16 - a
 
 loop-holds : tie.Need-loop-holds Inv-loop2 μ-loop2 Inv-loop μ-loop
 loop-holds c = (column-none 256 _, search needs)
@@ -31,7 +30,7 @@ loop2-holds : tie.Need-loop2-holds Inv-loop2 μ-loop2 Inv-loop μ-loop
 loop2-holds c = (half-at (omega arith) (c .before .loop .inv .0), search needs, search needs)
 
 loop2-again : tie.Need-loop2-again Inv-loop2 μ-loop2 Inv-loop μ-loop
-loop2-again c = let at = c .before .before .before in (half-at (omega arith) (half-more _ (at .loop2 .inv .0) (omega arith) (c .bit-of .ensures ∙ bit-at (now (at .before .before .before .args .second)) (at .before .before .loop .a) (at .loop2 .q) (omega arith))), search needs, search needs)
+loop2-again c = let at = c .before .before .before in (half-at (omega arith) (half-more _ (at .loop2 .inv .0) (omega arith) (c .bit-of .ensures ∙ bit-at (now (at .before .before .before .args .mask)) (at .before .before .loop .a) (at .loop2 .q) (omega arith))), search needs, search needs)
 
 loop-again : tie.Need-loop-again Inv-loop2 μ-loop2 Inv-loop μ-loop
 loop-again c = (half-at (omega arith) (c .before .loop2 .inv .0), search needs)

@@ -23,7 +23,7 @@ words-128-requires : tie.Need-words-128-requires
 words-128-requires c κs = let i = inside-of _ _ (c .before .before .before .before .before .pre) (c .before .before .before .places-of .ensures) in (i .links, λ k b. omega (arith, i .inLinks))
 
 answer-requires : tie.Need-answer-requires
-answer-requires c κs = inside-of _ _ (c .before .before .before .before .before .before .before .before .before .pre) (c .before .before .before .before .before .before .before .places-of .ensures)
+answer-requires c κs = (inside-of _ _ (c .before .before .before .before .before .before .before .before .before .pre) (c .before .before .before .before .before .before .before .places-of .ensures), c .before .before .before .before .words-162 .ensures)
 
 returns : tie.Need-returns
 unfolding loadOf aspIds masks spares modes linkIds owners placesOf highs lows
