@@ -1,10 +1,12 @@
 // The gateway's state (Rule 5.1), by value, as columns; and whether it is sound (Rule 5.4), asked group of columns by group of columns.
 ghost use mathlib.Core.Path.{_≡_};
-ghost use mathlib.Core.Bool.{true};
+ghost use mathlib.Core.Bool.{true, cond};
 ghost use Prim.Native.Nat.{_<_, _≤_};
 ghost use lib.ListN.{length};
+ghost use lib.Dec.{ltb};
 ghost use Rattle.laws.specs.Below.{one, allBelow};
-ghost use Rattle.gateway.specs.Inner.Rows.{rowIf};
+ghost use Rattle.gateway.specs.Inner.Limits.{places, limit, limitsTo, flagsOf, Flags};
+ghost use Rattle.gateway.specs.Inner.Rows.{rowFails, soundMarks};
 ghost use Rattle.gateway.specs.Sound.{countsIn, blankFrom, differs, upAt, soundAsps, soundRow, activeIn, modeAt, waitingAt, overrideAt, soundAs, soundAses, ascends, allUnder, soundLinks, isSound, zeros};
 ghost use Rattle.gateway.specs.Inner.Sound.{isSoundOf};
 
@@ -44,6 +46,37 @@ fn within(n: u8, most: usize) -> usize
 {
     let x = wide(n);
     if x < most { x } else { most }
+}
+
+// A flag as a number.
+fn flag(t: bool) -> u8
+    ensures { λ r. ⌜ r ≡ one t ⌝ }
+{
+    if t { 1 } else { 0 }
+}
+
+fn word(x: u8) -> u32
+    ensures { λ r. ⌜ (r ≡ x) × (r ≤ 255) ⌝ }
+{
+    x as u32
+}
+
+// The limit of a place: what it holds is below it. Beyond the count only 0 is.
+fn limit(inside: bool, most: u8) -> u8
+    ensures { λ r. ⌜ r ≡ limit inside most ⌝ }
+{
+    if inside { most } else { 1 }
+}
+
+// Each place holds its index, so that 16 places are compared with a count at once.
+fn places() -> [u8; 128]
+    ensures { λ r. ⌜ r ≡ places ⌝ }
+{
+    let mut r = [0u8; 128];
+    for i in 0..128usize {
+        r[i] = i as u8;
+    }
+    r
 }
 
 pub fn counts_ok(asps: u8, ases: u8, links: u8) -> bool
@@ -119,28 +152,6 @@ pub fn asps_ok<'a>(asps: u8, aspid: &'a [u32; 16], up: &'a [u8; 16]) -> bool
     (differ & beyond) & flags
 }
 
-fn row_ok<'a>(
-    up: &'a [u8; 16],
-    member: &'a [u8; 256],
-    active: &'a [u8; 256],
-    asps: usize,
-    inside: bool,
-    a: usize,
-) -> bool
-    requires { ⌜ a < 16 ⌝ }
-    ensures { λ r. ⌜ r ≡ rowIf (now (up .entry)) (now (member .entry)) (now (active .entry)) asps inside a ⌝ }
-{
-    let mut ok = true;
-    for q in 0..16usize {
-        let m = member[a * 16 + q];
-        let x = active[a * 16 + q];
-        ok = ok
-            & (((m == 0) | ((m == 1) & ((q < asps) & inside)))
-                & ((x == 0) | ((x == 1) & ((m == 1) & (up[q] == 1)))));
-    }
-    ok
-}
-
 // How many members of AS a are active.
 pub fn count_active(active: &[u8; 256], a: usize) -> usize
     requires { ⌜ a < 16 ⌝ }
@@ -153,49 +164,104 @@ pub fn count_active(active: &[u8; 256], a: usize) -> usize
     n
 }
 
+fn least(x: u8, y: u8) -> u8
+    ensures { λ r. ⌜ r ≡ cond (ltb x y) x y ⌝ }
+{
+    if x < y { x } else { y }
+}
+
+// The limits of the first 16 places of a column.
+fn limits(place: &[u8; 128], n: u8, most: u8) -> [u8; 16]
+    requires { ⌜ now place ≡ places ⌝ }
+    ensures { λ r. ⌜ r ≡ limitsTo n most ⌝ }
+{
+    let mut r = [0u8; 16];
+    for q in 0..16usize {
+        r[q] = limit(place[q] < n, most);
+    }
+    r
+}
+
+// The flags of a column, and 0 for what is no flag.
+fn flags(c: &[u8; 16]) -> [u8; 16]
+    ensures { λ r. ⌜ r ≡ flagsOf (now (c .entry)) ⌝ }
+{
+    let mut r = [0u8; 16];
+    for q in 0..16usize {
+        r[q] = flag(c[q] == 1);
+    }
+    r
+}
+
+// How many members of AS a are active, or 17 where a pair of its row is not as Rules 5.8 and 5.9 ask. The loop has no branch, so that it
+// becomes one operation on 16 bytes; and it sums bytes, for that is one operation too.
+fn row_count<'a>(
+    top: &'a [u8; 16],
+    up: &'a [u8; 16],
+    member: &'a [u8; 256],
+    active: &'a [u8; 256],
+    a: usize,
+) -> u32
+    requires { ⌜ (a < 16) × Flags (now up) ⌝ }
+    ensures { λ r. ⌜ r ≡ cond (rowFails (now (top .entry)) (now (up .entry)) (now (member .entry)) (now (active .entry)) a) 17 (activeIn (now (active .entry)) a) ⌝ }
+{
+    let mut bad = false;
+    let mut n: u32 = 0;
+    for q in 0..16usize {
+        let m = member[a * 16 + q];
+        let x = active[a * 16 + q];
+        bad = bad | ((top[q] <= m) | (least(m, up[q]) < x));
+        n = n + word(x);
+    }
+    if bad {
+        return 17;
+    }
+    n
+}
+
 fn mode_ok(mode: u8, inside: bool) -> bool
     ensures { λ r. ⌜ r ≡ modeAt mode inside ⌝ }
 {
     (inside & ((1 <= mode) & (mode <= 3))) | (!inside & (mode == 0))
 }
 
-fn waiting_ok(waiting: u8, n: usize, inside: bool) -> bool
+fn waiting_ok(waiting: u8, n: u8, inside: bool) -> bool
     ensures { λ r. ⌜ r ≡ waitingAt waiting n inside ⌝ }
 {
     (waiting == 0) | ((waiting == 1) & (inside & (n == 0)))
 }
 
-fn override_ok(mode: u8, n: usize) -> bool
+fn override_ok(mode: u8, n: u8) -> bool
     ensures { λ r. ⌜ r ≡ overrideAt mode n ⌝ }
 {
     (mode != 1) | (n <= 1)
 }
 
-// An AS of the plan has a mode: so whether it has one stands for that. (With a test of a the compiler makes slower code.)
-fn as_ok<'a>(
-    up: &'a [u8; 16],
-    member: &'a [u8; 256],
-    active: &'a [u8; 256],
+// Mode and recovery time of every place, by the number of active members.
+fn marks_ok<'a>(
+    place: &'a [u8; 128],
+    count: &'a [u8; 16],
     mode: &'a [u8; 16],
     waiting: &'a [u8; 16],
-    asps: usize,
-    ases: usize,
-    a: usize,
+    ases: u8,
 ) -> bool
-    requires { ⌜ (a < 16) × (a < ases) ⌝ }
-    ensures { λ r. ⌜ r ≡ soundAs (now (up .entry)) (now (member .entry)) (now (active .entry)) (now (mode .entry)) (now (waiting .entry)) asps ases a ⌝ }
+    requires { ⌜ now place ≡ places ⌝ }
+    ensures { λ r. ⌜ r ≡ soundMarks (now (count .entry)) (now (mode .entry)) (now (waiting .entry)) ases 16 ⌝ }
 {
-    let inside = mode[a] != 0;
-    let n = count_active(active, a);
-    let row = row_ok(up, member, active, asps, inside, a);
-    let traffic = mode_ok(mode[a], a < ases);
-    let wait = waiting_ok(waiting[a], n, inside);
-    let alone = override_ok(mode[a], n);
-    row & ((traffic & wait) & alone)
+    let mut ok = true;
+    for a in 0..16usize {
+        let inside = place[a] < ases;
+        let traffic = mode_ok(mode[a], inside);
+        let wait = waiting_ok(waiting[a], count[a], inside);
+        let alone = override_ok(mode[a], count[a]);
+        ok = ok & ((traffic & wait) & alone);
+    }
+    ok
 }
 
-// The rows of the plan's ASes, and zeros beyond them.
-pub fn ases_ok<'a>(
+// The rows of the plan's ASes, and zeros beyond them. A row that fails ends the loop: without that exit the compiler makes slower code.
+fn ases_ok<'a>(
+    place: &'a [u8; 128],
     asps: u8,
     ases: u8,
     up: &'a [u8; 16],
@@ -204,19 +270,24 @@ pub fn ases_ok<'a>(
     mode: &'a [u8; 16],
     waiting: &'a [u8; 16],
 ) -> bool
+    requires { ⌜ now place ≡ places ⌝ }
     ensures { λ r. ⌜ (ases ≤ 16 → r ≡ soundAses (now (up .entry)) (now (member .entry)) (now (active .entry)) (now (mode .entry)) (now (waiting .entry)) asps ases) ⌝ }
 {
-    let n = wide(asps);
     let m = within(ases, 16);
-    let mut ok = true;
+    let top = limits(place, asps, 2);
+    let on = flags(up);
+    let mut count = [0u8; 16];
     for a in 0..m {
-        ok = ok & as_ok(up, member, active, mode, waiting, n, m, a);
+        let c = row_count(&top, &on, member, active, a);
+        if 16 < c {
+            return false;
+        }
+        count[a] = c as u8;
     }
     let x = blank(member, m * 16, 256);
     let y = blank(active, m * 16, 256);
-    let z = blank(mode, m, 16);
-    let w = blank(waiting, m, 16);
-    ok & ((x & y) & (z & w))
+    let z = marks_ok(place, &count, mode, waiting, ases);
+    (x & y) & z
 }
 
 pub fn ascending(iid: &[u32; 128], n: usize) -> bool
@@ -281,8 +352,9 @@ pub fn sound_of<'a>(
     ensures { λ r. ⌜ r ≡ isSoundOf asps ases links (now (aspid .entry)) (now (up .entry)) (now (member .entry)) (now (active .entry)) (now (mode .entry)) (now (waiting .entry)) (now (iid .entry)) (now (owner .entry)) (now (state .entry)) ⌝ }
 {
     let c = counts_ok(asps, ases, links);
+    let place = places();
     let x = asps_ok(asps, aspid, up);
-    let y = ases_ok(asps, ases, up, member, active, mode, waiting);
+    let y = ases_ok(&place, asps, ases, up, member, active, mode, waiting);
     let z = links_ok(ases, links, iid, owner, state);
     c & (x & (y & z))
 }

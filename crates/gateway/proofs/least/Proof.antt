@@ -1,0 +1,14 @@
+-- `gateway::least`: by cases of the test. Assumes nothing.
+use mathlib.Core.Path.{refl}
+use Rattle.laws.specs.Inner.Choice.{choices}
+use Rattle.gateway.proofs.least.Statement.{statement}
+use Rattle.gateway.proofs.least.Tie as tie
+
+returns : tie.Need-returns
+returns c = search choices
+
+returns-2 : tie.Need-returns-2
+returns-2 c = search choices
+
+pub least-spec : {M : Type 1} → statement M
+least-spec = tie.close (tie.spec returns returns-2)
