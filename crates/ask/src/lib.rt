@@ -1,8 +1,9 @@
 // What an event asks of the gateway, its message read, and whether it is refused: for the events and for reach alike.
 use message::Reading;
 ghost use mathlib.Core.Path.{_≡_};
-ghost use mathlib.Core.Bool.{true};
+ghost use mathlib.Core.Bool.{true, _||_};
 ghost use Prim.Native.Nat.{_≤_};
+ghost use lib.Dec.{eqb};
 ghost use Rattle.gateway.specs.Sound.{ascends};
 ghost use Rattle.gateway.specs.Inner.Sound.{isSoundOf};
 ghost use Rattle.rules.specs.Rules.{refusalOf};
@@ -136,11 +137,15 @@ fn ask_of(p: usize, t: u32, error: bool, read: Reading) -> Ask
     Ask::Other(p, error, read)
 }
 
-// A message of ASP p.
-fn ask_message(p: usize, msg: &[u8]) -> Ask
-    ensures { λ r. ⌜ Asks 0 p (now (msg .entry)) r ⌝ }
+// An event that has a message: of ASP p, or of the link side. Read in this one place, the reader is compiled into it.
+fn ask_message(kind: u32, p: usize, msg: &[u8]) -> Ask
+    requires { ⌜ (eqb kind 0 || eqb kind 5) ≡ true ⌝ }
+    ensures { λ r. ⌜ Asks kind p (now (msg .entry)) r ⌝ }
 {
     let read = message::read(msg);
+    if kind == LINK_MESSAGE {
+        return Ask::LinkMessage(read);
+    }
     let error = decide::is_error(msg);
     let t = decide::type_of(error, read);
     ask_of(p, t, error, read)
@@ -150,8 +155,8 @@ fn ask_message(p: usize, msg: &[u8]) -> Ask
 pub fn asked(kind: u32, i: usize, msg: &[u8]) -> Ask
     ensures { λ r. ⌜ Asks kind i (now (msg .entry)) r ⌝ }
 {
-    if kind == MESSAGE {
-        return ask_message(i, msg);
+    if (kind == MESSAGE) | (kind == LINK_MESSAGE) {
+        return ask_message(kind, i, msg);
     }
     if kind == LOST {
         return Ask::Lost(i);
@@ -164,9 +169,6 @@ pub fn asked(kind: u32, i: usize, msg: &[u8]) -> Ask
     }
     if kind == LINK_DOWN {
         return Ask::LinkDown(i);
-    }
-    if kind == LINK_MESSAGE {
-        return Ask::LinkMessage(message::read(msg));
     }
     Ask::Lost(65536)
 }

@@ -4,7 +4,7 @@ use gateway::Gateway;
 use rules::Decision;
 use rules::Outcome;
 ghost use mathlib.Core.Path.{_≡_};
-ghost use Prim.Native.Nat.{_<_, _≤_};
+ghost use Prim.Native.Nat.{_+_, _*_, _<_, _≤_};
 ghost use lib.ListN.{length};
 ghost use Rattle.action.specs.Inner.Words.{Written};
 ghost use Rattle.ranges.specs.Inner.Laws.{Table};
@@ -14,7 +14,7 @@ ghost use Rattle.work.specs.Inner.Decides.{aspOf, DecidesOn};
 ghost use Rattle.ask.specs.Happened.{happened, event};
 ghost use Rattle.ask.specs.Inner.Ask.{askEffect, AskFits};
 ghost use Rattle.events.specs.Inner.Columns.{AskColumns};
-ghost use Rattle.events.specs.Inner.Decision.{firstOf, AsesColumns, EnactedOn, linkAfter};
+ghost use Rattle.events.specs.Inner.Decision.{firstOf, Changed, linkAfter};
 
 // ---- what is done
 
@@ -84,7 +84,7 @@ fn first(w: Decision, words: &mut [u32]) -> usize
     spread(w, words)
 }
 
-// The actions are written, and the columns of ASPs and ASes are those after it.
+// The change in its ASes, behind n actions; and who is up after it.
 fn enact<'a>(
     w: Decision,
     up: &mut [u8; 16],
@@ -93,19 +93,16 @@ fn enact<'a>(
     active: &mut [u8; 256],
     waiting: &mut [u8; 16],
     words: &mut [u32],
+    n: usize,
 ) -> usize
-    requires { ⌜ (1032 ≤ length (now words)) × (aspOf (w .change) < 16) × (length (now up) ≡ 16) × (length (now active) ≡ 256) × (length (now waiting) ≡ 16) ⌝ }
-    ensures { λ r. ⌜ EnactedOn (AsesColumns (now (up .entry)) (now (member .entry)) (now (active .entry)) (now (mode .entry)) (now (waiting .entry))) (effectIn w) (now (words .entry)) (now (up .exit)) (now (active .exit)) (now (waiting .exit)) (now (words .exit)) r ⌝ }
+    requires { ⌜ (n * 4 + 1024 ≤ length (now words)) × (aspOf (w .change) < 16) × (length (now up) ≡ 16) × (length (now active) ≡ 256) × (length (now waiting) ≡ 16) ⌝ }
+    ensures { λ r. ⌜ Changed w (now (up .entry)) (now (member .entry)) (now (mode .entry)) (now (active .entry)) (now (waiting .entry)) (now (words .entry)) n (now (up .exit)) (now (active .exit)) (now (waiting .exit)) (now (words .exit)) r ⌝ }
 {
-    let n = first(w, words);
-    if w.what == 2 {
-        let k = w.change;
-        let named = w.who;
-        let m = servers::run(up, member, mode, active, waiting, k, named, words, n);
-        servers::mark(up, k);
-        return m;
-    }
-    n
+    let k = w.change;
+    let named = w.who;
+    let m = servers::run(up, member, mode, active, waiting, k, named, words, n);
+    servers::mark(up, k);
+    m
 }
 
 // The links' states are those after it.
@@ -122,7 +119,8 @@ fn settle(w: Decision, state: &mut [u8; 128])
 // ---- the entry
 
 // Every event (Rule 6.2): the number of its kind (`ask::MESSAGE` ..), the index and the message that it has; any other number is refused (`happened`).
-// The state is held here alone, and columns of it are lent: so an accepted event copies it twice, in and out (tools/copies-check).
+// The state is held here alone, and columns of it are lent: so an accepted event copies it twice, in and out (tools/copies-check). Columns are copied out of it
+// only where ASes change.
 #[no_mangle]
 pub extern "C" fn m2ua_event(
     g: Gateway,
@@ -174,22 +172,31 @@ pub extern "C" fn m2ua_event(
         &g.owner,
         &g.state,
     );
-    let mut up = g.up;
-    let mut waiting = g.waiting;
-    let member = g.member;
-    let mode = g.mode;
-    let n = enact(
-        w,
-        &mut up,
-        &member,
-        &mode,
-        &mut g.active,
-        &mut waiting,
-        words,
-    );
-    g.up = up;
-    g.waiting = waiting;
     settle(w, &mut g.state);
+    let n = first(w, words);
+    if w.what == 2 {
+        let mut up = g.up;
+        let mut waiting = g.waiting;
+        let member = g.member;
+        let mode = g.mode;
+        let m = enact(
+            w,
+            &mut up,
+            &member,
+            &mode,
+            &mut g.active,
+            &mut waiting,
+            words,
+            n,
+        );
+        g.up = up;
+        g.waiting = waiting;
+        return Outcome {
+            refusal: 0,
+            count: m,
+            gateway: g,
+        };
+    }
     Outcome {
         refusal: 0,
         count: n,

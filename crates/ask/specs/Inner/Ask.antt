@@ -2,7 +2,7 @@
 -- Assumes nothing.
 use Prim.Native.Nat.{ℕ, _<_}
 use mathlib.Core.Path.{_≡_, refl, sym, ap, _∙_}
-use mathlib.Core.Bool.{Bool, true, false, cond, _||_}
+use mathlib.Core.Bool.{Bool, true, false, cond, _||_, false≢true}
 use mathlib.Core.List.{List, []}
 use native.Mathlib.Omega.{arith}
 use lib.Dec.{eqb, ltb}
@@ -147,6 +147,17 @@ asks-message p s c k =
           known = λ g. refl;
           small = (c, k);
         }
+
+-- the kinds that have a message
+pub message-kind : (k : ℕ) → (eqb k 0 || eqb k 5) ≡ true → (k ≡ 5 → ⊥) → k ≡ 0
+message-kind k h n = go (eqb k 0) refl h
+  where
+    go : (u : Bool) → eqb k 0 ≡ u → (u || eqb k 5) ≡ true → k ≡ 0
+    go true e h = eqb-true k 0 e
+    go false e h = absurd (n (eqb-true k 5 h))
+
+pub not-message : (k : ℕ) → (eqb k 0 || eqb k 5) ≡ false → (k ≡ 0 → ⊥) × (k ≡ 5 → ⊥)
+not-message k h = (λ e. false≢true (sym h ∙ rw e), λ e. false≢true (sym h ∙ rw e))
 
 module _ (k i : ℕ) (s : List ℕ) where
   pub asks-0 : k ≡ 0 → (p : ℕ) → p ≡ i → readingOf s .class < 256 → readingOf s .msgtype < 256 → Asks k i s (askOf p (typeIn (isError s) (readingOf s)) (isError s) (readingOf s))

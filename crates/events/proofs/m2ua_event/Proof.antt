@@ -2,6 +2,7 @@
 use mathlib.Core.Path.{_≡_, refl, ap, sym, _∙_}
 use mathlib.Core.Bool.{Bool}
 use mathlib.Core.List.{List}
+use native.Mathlib.Omega.{arith}
 use Prim.Native.Nat.{ℕ}
 use lib.ListN.{length}
 use Rattle.gateway.specs.Sound.{isSound}
@@ -13,7 +14,7 @@ use Rattle.rules.specs.Rules.{refusalOf, inPlan, effectOf}
 use Rattle.work.specs.Inner.Decides.{Decides, decided}
 use Rattle.ask.specs.Happened.{happened}
 use Rattle.ask.specs.Inner.Ask.{ask-fits-at}
-use Rattle.events.specs.Inner.Decision.{performed}
+use Rattle.events.specs.Inner.Decision.{change-room, enacted-first, enacted-change, performed}
 use Rattle.rules.specs.Inner.Accepted.{Accepted, accepted}
 use Rattle.events.specs.Inner.Perform.{meets-no, meets-yes}
 use borrow.Author.Needs.{needs}
@@ -30,8 +31,14 @@ start c = c .before .before .before
 abbrev to-refused : tie.After-decided → tie.After-refused
 to-refused c = c .before .before .before .before .before .before .before .before .before .before .before .before
 
-abbrev to-decided : tie.After-enact → tie.After-decided
-to-decided c = c .before .before .before .before .before .before .before .before .before .before .before
+abbrev to-settle : tie.After-first → tie.After-settle
+to-settle c = c .before .before
+
+abbrev to-decided : tie.After-first → tie.After-decided
+to-decided c = to-settle c .before .before
+
+abbrev to-change : tie.After-enact → tie.Then2
+to-change c = c .before .before .before .before .before .before .before .before .before .before .before
 
 -- the event
 abbrev happens : tie.After-asked → EventKind
@@ -74,17 +81,34 @@ decided-requires c κs =
     let t = taken r (c .before .before .before .before .before .before .before .before .before .before .if1 .left) in
     (rw (c .before .before .before .before .before .before .before .before .before .wide .ensures) (table g (t .sound-yes)), ask-fits-at g (to-asked r .asked .result) (c .before .before .before .before .before .before .before .before .before .wide .ensures) (counts-within g (t .sound-yes)) (a .known g ∙ t .known-yes) (a .small))
 
+accepted-at : (c : tie.After-decided) → Accepted (isSound (start (to-asked (to-refused c)) .args .g)) (inPlan (start (to-asked (to-refused c)) .args .g) (happens (to-asked (to-refused c)))) (length (start (to-asked (to-refused c)) .args .words .now))
+accepted-at c = taken (to-refused c) (c .before .before .before .before .before .before .before .before .before .before .before .if1 .left)
+
 enact-requires : tie.Need-enact-requires
 enact-requires c κs =
-    let d = c .before .before .before .before .before .before .before .before .before .before in
+    let f = c .before .before .before .before .before .before .before .before .before .before .before .before .before .before in
+    let d = to-decided f in
     let z = start (to-asked (to-refused d)) in
-    (taken (to-refused d) (d .before .before .before .before .before .before .before .before .before .before .before .if1 .left) .enough, decides d .asp, up-long z, active-long z, waiting-long z)
+    (change-room (d .decided .result) (c .before .before .before .before .before .before .before .before .before .before .if2 .taken) (accepted-at d .enough) (f .first .ensures), decides d .asp, up-long z, active-long z, waiting-long z)
 
+-- ASes change
 returns-2 : tie.Need-returns-2
 returns-2 c =
-    let d = to-decided (c .before .before .before .before) in
+    let t = to-change (c .before .before) in
+    let f = t .before .before .before .before in
+    let d = to-decided f in
     let r = to-refused d in
-    meets-yes _ (happens (to-asked r)) (refusal-is r) (d .before .before .before .before .before .before .before .before .before .before .before .if1 .left) (decides d .is) (performed (start (to-asked r) .args .g) _ (c .before .before .before .before .enact .ensures .on _ (record { up-is = refl; member-is = refl; active-is = refl; mode-is = refl; waiting-is = refl })) (c .settle .ensures))
+    let g = start (to-asked r) .args .g in
+    meets-yes _ (happens (to-asked r)) (refusal-is r) (d .before .before .before .before .before .before .before .before .before .before .before .if1 .left) (decides d .is) (performed g _ (enacted-change g (d .decided .result) (t .if2 .taken) (decides d .asp) (f .first .ensures) (c .before .before .enact .ensures)) (to-settle f .settle .ensures))
+
+-- no AS changes
+returns-3 : tie.Need-returns-3
+returns-3 c =
+    let f = c .before .before .before .before in
+    let d = to-decided f in
+    let r = to-refused d in
+    let g = start (to-asked r) .args .g in
+    meets-yes _ (happens (to-asked r)) (refusal-is r) (d .before .before .before .before .before .before .before .before .before .before .before .if1 .left) (decides d .is) (performed g _ (enacted-first g (d .decided .result) (c .if2 .left) (f .first .ensures)) (to-settle f .settle .ensures))
 
 pub m2ua-event-spec : {M : Type 1} → statement M
 m2ua-event-spec =
@@ -95,7 +119,10 @@ m2ua-event-spec =
     (λ c. meets-no _ (happens (to-asked (c .before))) (refusal-is (c .before)) (c .if1 .taken))
     (λ c κs. search needs)
     decided-requires
+    (λ c κs. let d = c .before in (decides d .place, state-long (start (to-asked (to-refused d)))))
+    (λ c κs. omega (arith, accepted-at (c .before .before .before) .enough))
     enact-requires
-    (λ c κs. let d = to-decided (c .before .before .before) in (decides d .place, state-long (start (to-asked (to-refused d)))))
     (λ c. search needs)
-    returns-2)
+    returns-2
+    (λ c. search needs)
+    returns-3)

@@ -1,6 +1,6 @@
 -- What the parts of a `Decision` are, by `what`.
 -- Assumes nothing.
-use Prim.Native.Nat.{ℕ, _+_, _≤_}
+use Prim.Native.Nat.{ℕ, _+_, _*_, _<_, _≤_}
 use mathlib.Core.Path.{_≡_, refl, ap, _∙_, sym}
 use mathlib.Core.Bool.{Bool, true, false, cond, not, _&&_, _||_, false≢true}
 use mathlib.Core.List.{List, [], _∷_, _++_}
@@ -10,9 +10,8 @@ use lib.ListN.{length, set, length-append}
 use borrow.Author.Tests.{ne-eqb, eqb-true, eqb-false, le-ltb, ltb-true, ltb-false}
 use Rattle.laws.specs.Below.{when}
 use Rattle.action.specs.declared.Action.{Action}
-use Rattle.action.specs.Inner.Words.{Written, toAll-short, written-append}
+use Rattle.action.specs.Inner.Words.{Written, toAll-short, written-append, written-length}
 use Rattle.gateway.specs.declared.Gateway.{Gateway}
-use Rattle.server.specs.Inner.Change.{fits}
 use Rattle.server.specs.Record.{recordFrom}
 use Rattle.servers.specs.Changed.{withChange, upAfter, allActions}
 use Rattle.servers.specs.Inner.Changed.{allActions-short}
@@ -20,25 +19,18 @@ use Rattle.servers.specs.Inner.Run.{Ran, ran-actions}
 use Rattle.rules.specs.declared.Decision.{Decision}
 use Rattle.rules.specs.Effect.{Effect, send, setLink, changeIn, actionsOf, stateAfter}
 use Rattle.rules.specs.Inner.Decision.{firstActions, spread, effectIn}
+use Rattle.work.specs.Inner.Decides.{aspOf, fits-asp}
 use Rattle.events.specs.Inner.Perform.{Performed}
 
 -- the actions that are written before a change in ASes
 unfoldable pub firstOf : Decision → List Action
 firstOf w = cond (ltb (w .what) 3) (firstActions w) (spread w)
 
--- the links' states after a effect
+-- the links' states after an effect
 unfoldable pub linkAfter : Effect → List ℕ → List ℕ
 linkAfter (send os) state = state
 linkAfter (setLink l v os) state = set state l v
 linkAfter (changeIn os k named) state = state
-
--- the state g has these columns
-pub record AsesColumns (up member active mode waiting : List ℕ) (g : Gateway) : Type 0 where
-  pub up-is : g .up ≡ up
-  pub member-is : g .member ≡ member
-  pub active-is : g .active ≡ active
-  pub mode-is : g .mode ≡ mode
-  pub waiting-is : g .waiting ≡ waiting
 
 -- the effect d done on the state g: the words, and the columns of ASPs and ASes after it
 pub record Enacted (g : Gateway) (d : Effect) (ws up active waiting ws′ : List ℕ) (n : ℕ) : Type 0 where
@@ -48,9 +40,10 @@ pub record Enacted (g : Gateway) (d : Effect) (ws up active waiting ws′ : List
   pub active-is : active ≡ stateAfter g d .active
   pub waiting-is : waiting ≡ stateAfter g d .waiting
 
--- the same of every state for which P holds
-pub record EnactedOn (P : Gateway → Type 0) (d : Effect) (ws up active waiting ws′ : List ℕ) (n : ℕ) : Type 0 where
-  pub on : (g : Gateway) → P g → Enacted g d ws up active waiting ws′ n
+-- what the change of w in its ASes leaves of columns and words, behind n actions
+pub record Changed (w : Decision) (up member mode active waiting ws : List ℕ) (n : ℕ) (up′ active′ waiting′ ws′ : List ℕ) (r : ℕ) : Type 0 where
+  pub ran : Ran (w .change) (w .who) (recordFrom up member active waiting mode) active waiting ws n active′ waiting′ ws′ r
+  pub marked : up′ ≡ upAfter (w .change) up
 
 -- ---- laws
 
@@ -91,7 +84,7 @@ effect-change : (w : Decision) → w .what ≡ 2 → effectIn w ≡ changeIn (fi
 unfolding effectIn
 effect-change w e = rw e
 
-pub first-change : (w : Decision) → w .what ≡ 2 → firstOf w ≡ firstActions w
+first-change : (w : Decision) → w .what ≡ 2 → firstOf w ≡ firstActions w
 unfolding firstOf
 first-change w e = rw e
 
@@ -116,34 +109,34 @@ effect-set w n h = go (eqb (w .what) 0) (eqb (w .what) 1) (eqb (w .what) 3) refl
         let z : 3 ≤ w .what = omega (arith, eqb-false (w .what) 0 e, eqb-false (w .what) 1 f) in
         rw (e, f, ne-eqb (w .what) 2 n, q, le-ltb (w .what) 3 z)
 
--- ---- over columns
+-- ---- the effect done
 
-module _ (up member active mode waiting : List ℕ) (w : Decision) {ws ws′ : List ℕ} {n : ℕ} where
+-- room for the change behind the first actions
+pub change-room : (w : Decision) {ws ws′ : List ℕ} {n : ℕ} → w .what ≡ 2 → 1032 ≤ length ws → Written ws 0 (firstOf w) ws′ n → n * 4 + 1024 ≤ length ws′
+change-room w q h x = omega (arith, x .next, written-length x, ap length (first-change w q), given-short w, h)
+
+module _ (g : Gateway) (w : Decision) {ws ws′ : List ℕ} {n : ℕ} where
   -- no change in ASes
-  pub enacted-first : (w .what ≡ 2 → ⊥) → Written ws 0 (firstOf w) ws′ n → EnactedOn (AsesColumns up member active mode waiting) (effectIn w) ws up active waiting ws′ n
-  enacted-first q x = record { on = λ g h. go g h (eqb (w .what) 0 || eqb (w .what) 3) refl }
+  pub enacted-first : (w .what ≡ 2 → ⊥) → Written ws 0 (firstOf w) ws′ n → Enacted g (effectIn w) ws (g .up) (g .active) (g .waiting) ws′ n
+  enacted-first q x = go (eqb (w .what) 0 || eqb (w .what) 3) refl
     where
-      go : (g : Gateway) → AsesColumns up member active mode waiting g → (u : Bool) → (eqb (w .what) 0 || eqb (w .what) 3) ≡ u → Enacted g (effectIn w) ws up active waiting ws′ n
-      go g h true e = rw (effect-send w e) (record { wrote = x; few = omega (arith, first-short w); up-is = sym (h .up-is); active-is = sym (h .active-is); waiting-is = sym (h .waiting-is) })
-      go g h false e = rw (effect-set w q e) (record { wrote = x; few = omega (arith, first-short w); up-is = sym (h .up-is); active-is = sym (h .active-is); waiting-is = sym (h .waiting-is) })
+      go : (u : Bool) → (eqb (w .what) 0 || eqb (w .what) 3) ≡ u → Enacted g (effectIn w) ws (g .up) (g .active) (g .waiting) ws′ n
+      go true e = rw (effect-send w e) (record { wrote = x; few = omega (arith, first-short w); up-is = refl; active-is = refl; waiting-is = refl })
+      go false e = rw (effect-set w q e) (record { wrote = x; few = omega (arith, first-short w); up-is = refl; active-is = refl; waiting-is = refl })
 
-  pub enacted-change : {ws″ up′ active′ waiting′ : List ℕ} {m : ℕ} → w .what ≡ 2 → fits (w .change) ≡ true → Written ws 0 (firstOf w) ws′ n
-      → Ran (w .change) (w .who) (recordFrom up member active waiting mode) active waiting ws′ n active′ waiting′ ws″ m → up′ ≡ upAfter (w .change) up
-      → EnactedOn (AsesColumns up member active mode waiting) (effectIn w) ws up′ active′ waiting′ ws″ m
+  pub enacted-change : {ws″ up′ active′ waiting′ : List ℕ} {m : ℕ} → w .what ≡ 2 → aspOf (w .change) < 16 → Written ws 0 (firstOf w) ws′ n
+      → Changed w (g .up) (g .member) (g .mode) (g .active) (g .waiting) ws′ n up′ active′ waiting′ ws″ m
+      → Enacted g (effectIn w) ws up′ active′ waiting′ ws″ m
   unfolding withChange allActions
-  enacted-change q f x y e =
-      record {
-        on = λ g h.
-            let r = rw (← h .up-is, ← h .member-is, ← h .active-is, ← h .mode-is, ← h .waiting-is) at y in
-            rw (effect-change w q)
-            (record {
-              wrote = written-append (rw (first-change w q) at x) (ran-actions g r);
-              few = rw length-append (omega (arith, given-short w, allActions-short g (w .change) (w .who) f));
-              up-is = rw (h .up-is) e;
-              active-is = r .acts;
-              waiting-is = r .waits;
-            });
-      }
+  enacted-change q f x y =
+      rw (effect-change w q)
+      (record {
+        wrote = written-append (rw (first-change w q) at x) (ran-actions g (y .ran));
+        few = rw length-append (omega (arith, given-short w, allActions-short g (w .change) (w .who) (fits-asp (w .change) f)));
+        up-is = y .marked;
+        active-is = y .ran .acts;
+        waiting-is = y .ran .waits;
+      })
 
 -- the links' states, by `what`
 pub settled : (w : Decision) (state : List ℕ) → (eqb (w .what) 1 || ltb 3 (w .what)) ≡ true → set state (w .link) (w .state) ≡ linkAfter (effectIn w) state
