@@ -1,8 +1,5 @@
 -- `gateway::sound_of`: the groups together. Assumes nothing.
-use mathlib.Core.Path.{_≡_, refl, sym, _∙_}
-use mathlib.Core.Bool.{Bool, true, false, _&&_}
 use borrow.Author.Needs.{needs}
-use Rattle.gateway.specs.Sound.{isSound}
 use Rattle.gateway.specs.Inner.Laws.{joined}
 use Rattle.gateway.proofs.sound_of.Statement.{statement}
 use Rattle.gateway.proofs.sound_of.Tie as tie
