@@ -134,24 +134,27 @@ pub fn all_new(aspid: &[u32; 16], n: usize) -> bool
     true
 }
 
-fn ups_ok(up: &[u8; 16], n: usize) -> bool
+// Only an ASP of the plan is up (Rule 5.7): the flags are below their limits.
+fn ups_ok<'a>(place: &'a [u8; 128], up: &'a [u8; 16], n: u8) -> bool
+    requires { ⌜ now place ≡ places ⌝ }
     ensures { λ r. ⌜ r ≡ allBelow (upAt (now (up .entry)) n) 16 ⌝ }
 {
     let mut ok = true;
     for q in 0..16usize {
-        ok = ok & ((up[q] == 0) | ((up[q] == 1) & (q < n)));
+        ok = ok & (up[q] < limit(place[q] < n, 2));
     }
     ok
 }
 
 // The groups of columns. Each answers for counts that are within the tables, and reads no place beyond them for any other.
-pub fn asps_ok<'a>(asps: u8, aspid: &'a [u32; 16], up: &'a [u8; 16]) -> bool
+fn asps_ok<'a>(place: &'a [u8; 128], asps: u8, aspid: &'a [u32; 16], up: &'a [u8; 16]) -> bool
+    requires { ⌜ now place ≡ places ⌝ }
     ensures { λ r. ⌜ (asps ≤ 16 → r ≡ soundAsps (now (aspid .entry)) (now (up .entry)) asps) ⌝ }
 {
     let n = within(asps, 16);
     let differ = all_new(aspid, n);
     let beyond = blank_wide(aspid, n, 16);
-    let flags = ups_ok(up, n);
+    let flags = ups_ok(place, up, asps);
     (differ & beyond) & flags
 }
 
@@ -353,7 +356,7 @@ pub fn sound_of<'a>(
 {
     let c = counts_ok(asps, ases, links);
     let place = places();
-    let x = asps_ok(asps, aspid, up);
+    let x = asps_ok(&place, asps, aspid, up);
     let y = ases_ok(&place, asps, ases, up, member, active, mode, waiting);
     let z = links_ok(ases, links, iid, owner, state);
     c & (x & (y & z))
