@@ -1,13 +1,13 @@
 // The gateway's state (Rule 5.1), by value, as columns; and whether it is sound (Rule 5.4), asked group of columns by group of columns.
 ghost use mathlib.Core.Path.{_≡_};
-ghost use mathlib.Core.Bool.{true, cond};
+ghost use mathlib.Core.Bool.{true, cond, _&&_};
 ghost use Prim.Native.Nat.{_<_, _≤_};
 ghost use lib.ListN.{length};
 ghost use lib.Dec.{ltb};
 ghost use Rattle.laws.specs.Below.{one, allBelow};
 ghost use Rattle.gateway.specs.Inner.Limits.{places, limit, limitsTo, flagsOf, Flags};
 ghost use Rattle.gateway.specs.Inner.Rows.{rowFails, soundMarks};
-ghost use Rattle.gateway.specs.Sound.{countsIn, blankFrom, differs, upAt, soundAsps, soundRow, activeIn, modeAt, waitingAt, overrideAt, soundAs, soundAses, ascends, allUnder, soundLinks, isSound, zeros};
+ghost use Rattle.gateway.specs.Sound.{countsIn, blankFrom, differs, upAt, soundAsps, activeIn, modeAt, waitingAt, overrideAt, soundAses, ascends, allUnder, soundLinks, isSound, zeros};
 ghost use Rattle.gateway.specs.Inner.Sound.{isSoundOf};
 
 // Index of a pair: as * 16 + asp. Flags are 0 or 1. Traffic modes: 1 override, 2 load-share, 3 broadcast. States of a link:
@@ -68,7 +68,8 @@ fn limit(inside: bool, most: u8) -> u8
     if inside { most } else { 1 }
 }
 
-// Each place holds its index, so that 16 places are compared with a count at once.
+// Each place holds its index, so that 16 places are compared with a count at once. (More places than are read: of a shorter column the compiler
+// makes slower code.)
 fn places() -> [u8; 128]
     ensures { λ r. ⌜ r ≡ places ⌝ }
 {
@@ -85,14 +86,15 @@ pub fn counts_ok(asps: u8, ases: u8, links: u8) -> bool
     (((1 <= asps) & (asps <= 16)) & ((1 <= ases) & (ases <= 16))) & (links <= 128)
 }
 
-// The places of a column from n up to an end are zero.
-fn blank(c: &[u8], n: usize, end: usize) -> bool
-    requires { ⌜ (n ≤ end) × (end ≤ length (now c)) ⌝ }
-    ensures { λ r. ⌜ r ≡ blankFrom (now (c .entry)) n end ⌝ }
+// The places of two columns from n up to an end are zero. Two columns in one loop: the places that are left over by operations on 16 bytes
+// are passed one by one, and so once.
+fn blank<'a>(c: &'a [u8], d: &'a [u8], n: usize, end: usize) -> bool
+    requires { ⌜ (n ≤ end) × (end ≤ length (now c)) × (end ≤ length (now d)) ⌝ }
+    ensures { λ r. ⌜ r ≡ (blankFrom (now (c .entry)) n end && blankFrom (now (d .entry)) n end) ⌝ }
 {
     let mut ok = true;
     for i in n..end {
-        ok = ok & (c[i] == 0);
+        ok = ok & ((c[i] == 0) & (d[i] == 0));
     }
     ok
 }
@@ -124,31 +126,35 @@ pub fn all_new(aspid: &[u32; 16], n: usize) -> bool
     requires { ⌜ n ≤ 16 ⌝ }
     ensures { λ r. ⌜ r ≡ allBelow (differs (now (aspid .entry))) n ⌝ }
 {
-    let mut ok = true;
     for p in 0..n {
-        ok = ok & is_new(aspid, p);
+        if !is_new(aspid, p) {
+            return false;
+        }
     }
-    ok
+    true
 }
 
-fn ups_ok(up: &[u8; 16], n: usize) -> bool
+// Only an ASP of the plan is up (Rule 5.7): the flags are below their limits.
+fn ups_ok<'a>(place: &'a [u8; 128], up: &'a [u8; 16], n: u8) -> bool
+    requires { ⌜ now place ≡ places ⌝ }
     ensures { λ r. ⌜ r ≡ allBelow (upAt (now (up .entry)) n) 16 ⌝ }
 {
     let mut ok = true;
     for q in 0..16usize {
-        ok = ok & ((up[q] == 0) | ((up[q] == 1) & (q < n)));
+        ok = ok & (up[q] < limit(place[q] < n, 2));
     }
     ok
 }
 
 // The groups of columns. Each answers for counts that are within the tables, and reads no place beyond them for any other.
-pub fn asps_ok<'a>(asps: u8, aspid: &'a [u32; 16], up: &'a [u8; 16]) -> bool
+fn asps_ok<'a>(place: &'a [u8; 128], asps: u8, aspid: &'a [u32; 16], up: &'a [u8; 16]) -> bool
+    requires { ⌜ now place ≡ places ⌝ }
     ensures { λ r. ⌜ (asps ≤ 16 → r ≡ soundAsps (now (aspid .entry)) (now (up .entry)) asps) ⌝ }
 {
     let n = within(asps, 16);
     let differ = all_new(aspid, n);
     let beyond = blank_wide(aspid, n, 16);
-    let flags = ups_ok(up, n);
+    let flags = ups_ok(place, up, asps);
     (differ & beyond) & flags
 }
 
@@ -284,10 +290,9 @@ fn ases_ok<'a>(
         }
         count[a] = c as u8;
     }
-    let x = blank(member, m * 16, 256);
-    let y = blank(active, m * 16, 256);
-    let z = marks_ok(place, &count, mode, waiting, ases);
-    (x & y) & z
+    let beyond = blank(member, active, m * 16, 256);
+    let marks = marks_ok(place, &count, mode, waiting, ases);
+    beyond & marks
 }
 
 pub fn ascending(iid: &[u32; 128], n: usize) -> bool
@@ -303,14 +308,14 @@ pub fn ascending(iid: &[u32; 128], n: usize) -> bool
     ok
 }
 
-// The first n places of a column are below most.
-fn all_under(c: &[u8; 128], most: u8, n: usize) -> bool
+// The first n places of two columns are below their bounds.
+fn all_under<'a>(c: &'a [u8; 128], most: u8, d: &'a [u8; 128], limit: u8, n: usize) -> bool
     requires { ⌜ n ≤ 128 ⌝ }
-    ensures { λ r. ⌜ r ≡ allUnder (now (c .entry)) most n ⌝ }
+    ensures { λ r. ⌜ r ≡ (allUnder (now (c .entry)) most n && allUnder (now (d .entry)) limit n) ⌝ }
 {
     let mut ok = true;
     for l in 0..n {
-        ok = ok & (c[l] < most);
+        ok = ok & ((c[l] < most) & (d[l] < limit));
     }
     ok
 }
@@ -326,12 +331,10 @@ pub fn links_ok<'a>(
 {
     let n = within(links, 128);
     let order = ascending(iid, n);
-    let owners = all_under(owner, ases, n);
-    let states = all_under(state, 4, n);
+    let known = all_under(owner, ases, state, 4, n);
     let x = blank_wide(iid, n, 128);
-    let y = blank(owner, n, 128);
-    let z = blank(state, n, 128);
-    ((order & owners) & states) & ((x & y) & z)
+    let y = blank(owner, state, n, 128);
+    (order & known) & (x & y)
 }
 
 // The whole of lent columns, for callers that hold the state and would copy it by a call.
@@ -353,7 +356,7 @@ pub fn sound_of<'a>(
 {
     let c = counts_ok(asps, ases, links);
     let place = places();
-    let x = asps_ok(asps, aspid, up);
+    let x = asps_ok(&place, asps, aspid, up);
     let y = ases_ok(&place, asps, ases, up, member, active, mode, waiting);
     let z = links_ok(ases, links, iid, owner, state);
     c & (x & (y & z))

@@ -6,7 +6,7 @@ use native.Mathlib.Omega.{arith}
 use borrow.Author.Needs.{needs}
 use denote.Ref.{now}
 use Rattle.laws.specs.Below.{allBelow}
-use Rattle.laws.specs.Inner.Below.{all-none, all-next, at-end}
+use Rattle.laws.specs.Inner.Below.{all-none, all-next}
 use Rattle.laws.specs.Inner.Columns.{HalfCol, half-more, half-at}
 use Rattle.gateway.specs.Sound.{soundRow, activeIn}
 use Rattle.gateway.specs.Inner.Limits.{places, limitsTo, flagsOf, flags-small, half-zeros}
@@ -46,17 +46,16 @@ loop-again c =
     (all-next _ _ (c .before .before .before .before .before .loop .inv .0) (r .0), half-more _ (c .before .before .before .before .before .loop .inv .1) (omega arith) (r .1), search needs, search needs, search needs, search needs, search needs)
 
 marks-ok-requires : tie.Need-marks-ok-requires Inv-loop μ-loop
-marks-ok-requires c κs = c .before .before .before .before .before .before .before .before .before .before .pre
+marks-ok-requires c κs = c .before .before .before .before .before .before .before .before .before .pre
 
 returns-2 : tie.Need-returns-2 Inv-loop μ-loop
 returns-2 c h =
-    let e : c .before .before .before .before .before .before .before .loop .a ≡ c .before .before .before .before .before .before .before .before .before .before .within .result = omega arith in
-    rw (c .marks-ok .ensures, c .before .before .blank2 .ensures, c .before .before .before .before .blank .ensures, ← c .before .before .before .before .before .before .before .before .before .before .within .ensures .1 h)
-    (rows-whole (now (c .before .before .before .before .before .before .before .before .before .before .before .args .up)) (now (c .before .before .before .before .before .before .before .before .before .before .before .args .member)) (now (c .before .before .before .before .before .before .before .before .before .before .before .args .active)) (now (c .before .before .before .before .before .before .before .before .before .before .before .args .mode)) (now (c .before .before .before .before .before .before .before .before .before .before .before .args .waiting)) (c .before .before .before .before .before .before .before .before .before .before .before .args .asps) (c .before .before .before .before .before .before .before .before .before .before .within .result) (c .before .before .before .before .before .before .before .loop .count) (half-at e (c .before .before .before .before .before .before .before .loop .inv .1)) (c .before .before .before .before .before .before .before .before .before .before .within .ensures .0) (rw e at (c .before .before .before .before .before .before .before .loop .inv .0)))
+    let e : c .before .before .before .before .before .before .loop .a ≡ c .before .before .before .before .before .before .before .before .before .within .result = omega arith in
+    rw (c .marks-ok .ensures, c .before .before .blank .ensures, ← c .before .before .before .before .before .before .before .before .before .within .ensures .1 h)
+    (rows-whole (now (c .before .before .before .before .before .before .before .before .before .before .args .up)) (now (c .before .before .before .before .before .before .before .before .before .before .args .member)) (now (c .before .before .before .before .before .before .before .before .before .before .args .active)) (now (c .before .before .before .before .before .before .before .before .before .before .args .mode)) (now (c .before .before .before .before .before .before .before .before .before .before .args .waiting)) (c .before .before .before .before .before .before .before .before .before .before .args .asps) (c .before .before .before .before .before .before .before .before .before .within .result) (c .before .before .before .before .before .before .loop .count) (half-at e (c .before .before .before .before .before .before .loop .inv .1)) (c .before .before .before .before .before .before .before .before .before .within .ensures .0) (rw e at (c .before .before .before .before .before .before .loop .inv .0)))
 
 pub ases-ok-spec : {M : Type 1} → statement M
 ases-ok-spec =
     tie.close
     (tie.spec Inv-loop μ-loop (search needs) limits-requires (search needs) loop-holds row-count-requires returns cast-count
-    array-write-count (search needs) (search needs) loop-again (search needs) (search needs) (search needs) (search needs)
-    marks-ok-requires returns-2)
+    array-write-count (search needs) (search needs) loop-again (search needs) (search needs) marks-ok-requires returns-2)

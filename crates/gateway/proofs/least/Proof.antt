@@ -1,5 +1,4 @@
 -- `gateway::least`: by cases of the test. Assumes nothing.
-use mathlib.Core.Path.{refl}
 use Rattle.laws.specs.Inner.Choice.{choices}
 use Rattle.gateway.proofs.least.Statement.{statement}
 use Rattle.gateway.proofs.least.Tie as tie

@@ -1,5 +1,5 @@
 -- `gateway::row_count`: whether a pair passed fails; if none does, as many are active as the flags passed add up to. Assumes nothing.
-use Prim.Native.Nat.{_≤_, _<_, _-_, _+_, _*_}
+use Prim.Native.Nat.{_≤_, _<_, _-_, _*_}
 use mathlib.Core.Path.{_≡_, sym, refl, _∙_}
 use mathlib.Core.Bool.{false}
 use native.Mathlib.Omega.{arith}

@@ -1,17 +1,17 @@
 -- `gateway::sound_of`: the groups together. Assumes nothing.
-use mathlib.Core.Path.{_≡_, refl, sym, _∙_}
-use mathlib.Core.Bool.{Bool, true, false, _&&_}
 use borrow.Author.Needs.{needs}
-use Rattle.gateway.specs.Sound.{isSound}
 use Rattle.gateway.specs.Inner.Laws.{joined}
 use Rattle.gateway.proofs.sound_of.Statement.{statement}
 use Rattle.gateway.proofs.sound_of.Tie as tie
 
+asps-ok-requires : tie.Need-asps-ok-requires
+asps-ok-requires c κs = c .before .places .ensures
+
 ases-ok-requires : tie.Need-ases-ok-requires
-ases-ok-requires c κs = c .before .before .places .ensures
+ases-ok-requires c κs = c .before .before .before .places .ensures
 
 returns : tie.Need-returns
-returns c = joined _ _ _ _ _ (c .before .before .before .before .before .counts-ok .ensures) (c .before .before .before .asps-ok .ensures) (c .before .ases-ok .ensures) (c .links-ok .ensures)
+returns c = joined _ _ _ _ _ (c .before .before .before .before .before .before .counts-ok .ensures) (c .before .before .before .asps-ok .ensures) (c .before .ases-ok .ensures) (c .links-ok .ensures)
 
 pub sound-of-spec : {M : Type 1} → statement M
-sound-of-spec = tie.close (tie.spec (search needs) (search needs) (search needs) ases-ok-requires (search needs) returns)
+sound-of-spec = tie.close (tie.spec (search needs) (search needs) asps-ok-requires ases-ok-requires (search needs) returns)

@@ -1,22 +1,20 @@
--- Columns with a limit by place: below the count a bound of the column's own, beyond it 1, under which only 0 is. Each column of a table
--- has such limits, so what they mean is said once, of any column.
+-- Limits by place: inside the count a bound of the column's own, beyond it 1, under which only 0 is. What they mean is said once, of any
+-- column of flags.
 -- Assumes nothing.
-use Prim.Native.Nat.{ℕ, zero, suc, _+_, _<_, _≤_}
-use mathlib.Core.Path.{_≡_, refl, _∙_, sym}
+use Prim.Native.Nat.{ℕ, zero, suc, _<_, _≤_}
+use mathlib.Core.Path.{_≡_, refl}
 use mathlib.Core.Bool.{Bool, true, false, _||_, _&&_, cond, not}
 use mathlib.Core.List.{List}
 use native.Mathlib.Omega.{arith}
 use native.Mathlib.Decide.{decLt}
 use native.Mathlib.Nat.{not-suc-le-zero}
 use lib.ListN.{replicate}
-use lib.Dec.{eqb, leb, ltb}
-use borrow.Author.Tests.{lt-ltb, le-ltb, lt-leb, le-leb, ne-eqb, eqb-true}
+use lib.Dec.{leb, ltb}
+use borrow.Author.Tests.{lt-ltb, le-ltb, lt-leb, le-leb, ne-eqb}
 use Rattle.laws.specs.Below.{allBelow, anyBelow, one}
-use Rattle.laws.specs.Inner.Below.{all-at, all-of}
 use Rattle.laws.specs.Columns.{numberAt, isSet, tabulate}
 use Rattle.laws.specs.Inner.Columns.{HalfCol, getD-tabulate}
-use Rattle.laws.specs.Inner.Every.{and-left, and-right, and-both, same-truth}
-use Rattle.gateway.specs.Sound.{blankFrom, flagIf, allUnder}
+use Rattle.gateway.specs.Sound.{flagIf}
 
 -- the column whose places hold their own index, as long as the longest table
 unfoldable pub places : List ℕ
@@ -25,10 +23,6 @@ places = tabulate 128 (λ i. i)
 -- the limit of a place, which is inside the count or not
 abbrev pub limit : Bool → ℕ → ℕ
 limit inside most = cond inside most 1
-
--- the first places of a column are under their limits
-unfoldable pub underLimits : List ℕ → ℕ → ℕ → ℕ → Bool
-underLimits c most n end = allBelow (λ i. ltb (numberAt c i) (limit (ltb i n) most)) end
 
 -- the limits of a column of 16 places, and its flags
 unfoldable pub limitsTo : ℕ → ℕ → List ℕ
@@ -71,11 +65,6 @@ pub place-at : (i : ℕ) → i < 128 → numberAt places i ≡ i
 unfolding places
 place-at i b = getD-tabulate 128 (λ i. i) i 0 b
 
--- only 0 is under 1
-under-one : (x : ℕ) → ltb x 1 ≡ eqb x 0
-under-one zero = refl
-under-one (suc x) = le-ltb (suc x) 1 (omega arith) ∙ sym (ne-eqb (suc x) 0 (λ e. omega arith))
-
 -- a flag is under its limit
 pub flag-limit : (x : ℕ) (b : Bool) → ltb x (limit b 2) ≡ flagIf x b
 flag-limit zero true = refl
@@ -84,32 +73,6 @@ flag-limit (suc zero) true = refl
 flag-limit (suc zero) false = refl
 flag-limit (suc (suc x)) true = rw (le-ltb (suc (suc x)) 2 (omega arith), ne-eqb (suc (suc x)) 0 (λ e. omega arith), ne-eqb (suc (suc x)) 1 (λ e. omega arith))
 flag-limit (suc (suc x)) false = rw (le-ltb (suc (suc x)) 1 (omega arith), ne-eqb (suc (suc x)) 0 (λ e. omega arith), ne-eqb (suc (suc x)) 1 (λ e. omega arith))
-
-module _ (c : List ℕ) (most n end : ℕ) where
-  abbrev under : ℕ → Bool
-  under i = ltb (numberAt c i) most
-
-  abbrev blank : ℕ → Bool
-  blank i = ltb i n || eqb (numberAt c i) 0
-
-  abbrev limited : ℕ → Bool
-  limited i = ltb (numberAt c i) (limit (ltb i n) most)
-
-  beyond : (i : ℕ) → Dec (i < n) → limited i ≡ true → blank i ≡ true
-  beyond i (yes z) h = rw (lt-ltb i n z)
-  beyond i (no z) h = let e : ltb i n ≡ false = le-ltb i n (omega arith) in rw e (sym (under-one (numberAt c i)) ∙ (rw e at h))
-
-  inside : (i : ℕ) → Dec (i < n) → (i < n → under i ≡ true) → blank i ≡ true → limited i ≡ true
-  inside i (yes z) h k = rw (lt-ltb i n z) (h z)
-  inside i (no z) h k = let e : ltb i n ≡ false = le-ltb i n (omega arith) in rw e (under-one (numberAt c i) ∙ (rw e at k))
-
-  -- a column under its limits: under the bound up to the count, and zeros beyond
-  pub limits-blank : n ≤ end → underLimits c most n end ≡ (allUnder c most n && blankFrom c n end)
-  unfolding underLimits allUnder blankFrom
-  limits-blank w =
-      same-truth (allBelow limited end) (allBelow under n && allBelow blank end)
-      (λ h. and-both (allBelow under n) (allBelow blank end) (all-of under n (λ i b. rw (lt-ltb i n b) at (all-at limited end h i (omega arith)))) (all-of blank end (λ i b. beyond i (decLt i n) (all-at limited end h i b))))
-      (λ h. all-of limited end (λ i b. inside i (decLt i n) (all-at under n (and-left (allBelow under n) (allBelow blank end) h) i) (all-at blank end (and-right (allBelow under n) (allBelow blank end) h) i b)))
 
 -- not below is at least
 pub le-not : (x y : ℕ) → leb y x ≡ not (ltb x y)
