@@ -1,3 +1,4 @@
+pub mod Differ
 pub mod Laws
 pub mod Limits
 pub mod Rows

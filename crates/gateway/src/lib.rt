@@ -6,6 +6,7 @@ ghost use lib.ListN.{length};
 ghost use lib.Dec.{ltb};
 ghost use Rattle.laws.specs.Below.{one, allBelow};
 ghost use Rattle.gateway.specs.Inner.Limits.{places, limit, limitsTo, flagsOf, Flags};
+ghost use Rattle.gateway.specs.Inner.Differ.{padWith, lacksFrom};
 ghost use Rattle.gateway.specs.Inner.Rows.{rowFails, soundMarks};
 ghost use Rattle.gateway.specs.Sound.{countsIn, blankFrom, differs, upAt, soundAsps, activeIn, modeAt, waitingAt, overrideAt, soundAses, ascends, allUnder, soundLinks, isSound, zeros};
 ghost use Rattle.gateway.specs.Inner.Sound.{isSoundOf};
@@ -122,7 +123,7 @@ fn is_new(aspid: &[u32; 16], p: usize) -> bool
     ok
 }
 
-pub fn all_new(aspid: &[u32; 16], n: usize) -> bool
+fn few_new(aspid: &[u32; 16], n: usize) -> bool
     requires { ⌜ n ≤ 16 ⌝ }
     ensures { λ r. ⌜ r ≡ allBelow (differs (now (aspid .entry))) n ⌝ }
 {
@@ -132,6 +133,54 @@ pub fn all_new(aspid: &[u32; 16], n: usize) -> bool
         }
     }
     true
+}
+
+// The column after 16 places that hold x: so the 16 places before that of p are x and what comes before p.
+fn padded(aspid: &[u32; 16], x: u32) -> [u32; 32]
+    ensures { λ r. ⌜ r ≡ padWith (now (aspid .entry)) x ⌝ }
+{
+    let mut r = [x; 32];
+    for q in 0..16usize {
+        r[q + 16] = aspid[q];
+    }
+    r
+}
+
+// None of the 16 places from p on holds x.
+fn lacks(c: &[u32; 32], p: usize, x: u32) -> bool
+    requires { ⌜ p ≤ 16 ⌝ }
+    ensures { λ r. ⌜ r ≡ lacksFrom (now (c .entry)) p x 16 ⌝ }
+{
+    let mut ok = true;
+    for q in 0..16usize {
+        ok = ok & (c[p + q] != x);
+    }
+    ok
+}
+
+// Each identifier but the last differs from those before it and from the last, at 16 places at once.
+fn many_new(aspid: &[u32; 16], n: usize) -> bool
+    requires { ⌜ (1 ≤ n) × (n ≤ 16) ⌝ }
+    ensures { λ r. ⌜ r ≡ allBelow (differs (now (aspid .entry))) n ⌝ }
+{
+    let before = padded(aspid, aspid[n - 1]);
+    for p in 0..n - 1 {
+        if !lacks(&before, p, aspid[p]) {
+            return false;
+        }
+    }
+    true
+}
+
+// For few identifiers the column to compare with costs more than it gains.
+pub fn all_new(aspid: &[u32; 16], n: usize) -> bool
+    requires { ⌜ n ≤ 16 ⌝ }
+    ensures { λ r. ⌜ r ≡ allBelow (differs (now (aspid .entry))) n ⌝ }
+{
+    if n < 8 {
+        return few_new(aspid, n);
+    }
+    many_new(aspid, n)
 }
 
 // Only an ASP of the plan is up (Rule 5.7): the flags are below their limits.
