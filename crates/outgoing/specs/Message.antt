@@ -1,0 +1,73 @@
+-- The message that an action to an ASP goes out as (Rules 8.8 to 8.14).
+-- Assumes nothing.
+use Prim.Native.Nat.{ℕ, _/_, _%_}
+use mathlib.Core.Bool.{Bool, cond, _||_}
+use mathlib.Core.List.{List, [], _∷_, _++_}
+use lib.ListN.{length}
+use lib.Dec.{eqb}
+use Rattle.laws.specs.Below.{concatBelow}
+use Rattle.laws.specs.Columns.{numberAt}
+use Rattle.wire.specs.Walk.{Par, walk}
+use Rattle.put.specs.Bytes.{par, bytes32}
+use Rattle.encode.specs.Encode.{encode}
+use Rattle.select.specs.Only.{only}
+use Rattle.gateway.specs.declared.Gateway.{Gateway}
+use Rattle.action.specs.declared.Action.{Action}
+use Rattle.action.specs.Types.{mgmtError, mgmtNotify, beatAck, aspUpAck, aspDownAck, aspActiveAck, aspInactiveAck, dataAck}
+use Rattle.rules.specs.Event.{EventKind, message, lost, recovery, linkUp, linkDown, linkMessage}
+use Rattle.rules.specs.Identifiers.{isIds, ownerAt}
+
+-- a parameter that holds one number
+abbrev pub numberPar : ℕ → ℕ → Par
+numberPar t n = par t (bytes32 n)
+
+-- the interface identifiers of AS a's links, ascending as the links' places do (Rule 5.13), as bytes
+unfoldable pub idsOf : Gateway → ℕ → List ℕ
+idsOf g a = concatBelow (λ l. cond (eqb (ownerAt g l) a) (bytes32 (numberAt (g .iid) l)) []) (g .links)
+
+-- all of them in one parameter; none where the AS has no links
+unfoldable pub idsPar : Gateway → ℕ → List Par
+idsPar g a = cond (eqb (length (idsOf g a)) 0) [] (par 0x1 (idsOf g a) ∷ [])
+
+-- Rule 8.9: its code; code 2 also says which identifier was refused
+unfoldable pub errorPars : Action → List Par
+errorPars o = numberPar 0xc (o .value) ∷ cond (eqb (o .value) 2) (numberPar 0x1 (o .subject) ∷ []) []
+
+-- Rule 8.10: the status, and the AS by the identifiers of its links
+unfoldable pub notifyPars : Gateway → Action → List Par
+notifyPars g o = numberPar 0xd (o .value) ∷ idsPar g (o .subject)
+
+-- Rule 8.11: the Acks of class 4 repeat the traffic mode, then what names identifiers; ps are the parameters of the message that they answer
+unfoldable pub trafficAckPars : List Par → List Par
+trafficAckPars ps = only (λ t. eqb t 0xb) ps ++ only isIds ps
+
+-- Rule 8.12: a Beat Ack repeats the heartbeat data
+unfoldable pub beatAckPars : List Par → List Par
+beatAckPars ps = only (λ t. eqb t 0x9) ps
+
+-- Rule 8.13: class 6 says the interface identifier; a Data Ack also the correlation id
+unfoldable pub linkPars : Action → List Par
+linkPars o = numberPar 0x1 (o .subject) ∷ cond (eqb (o .classtype) dataAck) (numberPar 0x13 (o .value) ∷ []) []
+
+-- by class and type: Up Ack and Down Ack have no parameters, and what is left is of class 6
+unfoldable pub replyPars : Gateway → List Par → Action → List Par
+replyPars g ps o =
+    cond (eqb (o .classtype) mgmtError) (errorPars o)
+    (cond (eqb (o .classtype) mgmtNotify) (notifyPars g o)
+    (cond (eqb (o .classtype) aspUpAck || eqb (o .classtype) aspDownAck) []
+    (cond (eqb (o .classtype) beatAck) (beatAckPars ps)
+    (cond (eqb (o .classtype) aspActiveAck || eqb (o .classtype) aspInactiveAck) (trafficAckPars ps)
+    (linkPars o)))))
+
+-- Rule 8.14: what the link side sends is passed on with all that it has. An event without a message has no parameters to repeat.
+abbrev pub sentPars : Gateway → EventKind → Action → List Par
+sentPars g (message p s) o = replyPars g (walk s 8 .pars) o
+sentPars g (lost p) o = replyPars g [] o
+sentPars g (recovery a) o = replyPars g [] o
+sentPars g (linkUp l) o = replyPars g [] o
+sentPars g (linkDown l) o = replyPars g [] o
+sentPars g (linkMessage s) o = walk s 8 .pars
+
+-- the message (Rule 3.1)
+unfoldable pub sentBytes : Gateway → EventKind → Action → List ℕ
+sentBytes g k o = encode (o .classtype / 256) (o .classtype % 256) (sentPars g k o)

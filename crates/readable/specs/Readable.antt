@@ -1,0 +1,34 @@
+-- Every action to an ASP goes out as a message that a peer reads (Rule 8.17).
+-- Assumes nothing.
+use mathlib.Core.Path.{_≡_}
+use Prim.Native.Nat.{ℕ, _/_, _%_, _≤_}
+use mathlib.Core.Bool.{Bool, true}
+use mathlib.Core.List.{List}
+use lib.ListN.{length, take}
+use Rattle.message.specs.Verdict.{most}
+use Rattle.encode.specs.RoundTrip.{ReadsBack}
+use Rattle.encode.specs.declared.Written.{Written}
+use Rattle.gateway.specs.Sound.{isSound}
+use Rattle.gateway.specs.declared.Gateway.{Gateway}
+use Rattle.action.specs.declared.Action.{Action}
+use Rattle.rules.specs.Event.{EventKind}
+use Rattle.rules.specs.Rules.{inPlan}
+use Rattle.outgoing.specs.Message.{sentPars, sentBytes}
+use Rattle.outgoing.specs.Send.{actionsOn, actionAt, isSent, Sends}
+
+-- the message of an action reads: no verdict but 0, the action's class and type, exactly the parameters that it is said to have; and it is no longer than a message may be
+pub record Reads (g : Gateway) (k : EventKind) (o : Action) (s : List ℕ) : Type 0 where
+  pub back : ReadsBack (o .classtype / 256) (o .classtype % 256) (sentPars g k o) s
+  pub small : length s ≤ most
+
+-- of every sound state, every event that its plan allows and every place of an action to an ASP
+abbrev pub EveryReads : Type 0
+EveryReads =
+    (g : Gateway) (k : EventKind) (n : ℕ) → isSound g ≡ true → inPlan g k ≡ true → isSent (actionsOn g k) n ≡ true
+    → Reads g k (actionAt (actionsOn g k) n) (sentBytes g k (actionAt (actionsOn g k) n))
+
+-- so what a call has put into the buffer reads, unless it was refused
+abbrev pub SentReads : Type 0
+SentReads =
+    (g : Gateway) (k : EventKind) (n : ℕ) (out : List ℕ) (r : Written) (out′ : List ℕ) → Sends g k n out r out′ → r .code ≡ 0
+    → Reads g k (actionAt (actionsOn g k) n) (take (r .length) out′)

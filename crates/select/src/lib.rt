@@ -1,0 +1,1 @@
+// The parameters of a received message that go out again.
