@@ -10,3 +10,4 @@ pub mod Effects
 pub mod Events
 pub mod Passed
 pub mod Readable
+pub mod Samples
