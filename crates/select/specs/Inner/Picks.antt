@@ -21,10 +21,14 @@ picks Mode t = eqb t 0xb
 picks Ids t = eqb t 0x1 || eqb t 0x8
 picks Heartbeat t = eqb t 0x9
 
--- the parameters ps are written over out at a position: the position after them, and the whole buffer
-pub record PutPars (out : List ℕ) (at : ℕ) (ps : List Par) (r : ℕ) (out′ : List ℕ) : Type 0 where
-  pub next : r ≡ at + length (parsBytes ps)
-  pub bytes : out′ ≡ overlay out at (parsBytes ps)
+-- the bytes bs are written over out at a position: the position after them, and the whole buffer
+pub record PutBytes (out : List ℕ) (at : ℕ) (bs : List ℕ) (r : ℕ) (out′ : List ℕ) : Type 0 where
+  pub next : r ≡ at + length bs
+  pub bytes : out′ ≡ overlay out at bs
+
+-- the same of parameters
+abbrev pub PutPars : List ℕ → ℕ → List Par → ℕ → List ℕ → Type 0
+PutPars out at ps r out′ = PutBytes out at (parsBytes ps) r out′
 
 module _ (f : ℕ → Bool) (p : Par) (ps : List Par) where
   pub only-yes : f (p .tag) ≡ true → only f (p ∷ ps) ≡ p ∷ only f ps
