@@ -3,15 +3,18 @@ use action::Action;
 use encode::Written;
 use events::m2ua_event;
 use gateway::Gateway;
+use outgoing::Batch;
 ghost use mathlib.Core.Path.{_≡_};
-ghost use Prim.Native.Nat.{_+_, _<_, _≤_};
+ghost use Prim.Native.Nat.{ℕ, _+_, _<_, _≤_};
+ghost use lib.Dec.{leb};
 ghost use lib.ListN.{length};
 ghost use Rattle.put.specs.Bytes.{overlay};
 ghost use Rattle.ask.specs.Happened.{happened};
-ghost use Rattle.outgoing.specs.Send.{Sends};
+ghost use Rattle.outgoing.specs.Send.{Sends, SendsMany};
 ghost use Rattle.outgoing.specs.Inner.Kinds.{lentBy};
 ghost use Rattle.sending.specs.Inner.Words.{actionIn};
-ghost use Rattle.sending.specs.Inner.Part.{partOf};
+ghost use Rattle.sending.specs.Inner.Part.{partOf, partIn};
+ghost use Rattle.sending.specs.Inner.Batch.{Filled, Ended};
 
 // A buffer that is short; no action at the place that goes to an ASP.
 const SHORT_BUFFER: u32 = 103;
@@ -142,5 +145,58 @@ pub extern "C" fn m2ua_order(
     Written {
         code: 0,
         length: size,
+    }
+}
+
+// How far a batch came: actions gone through, bytes written.
+struct Reached {
+    count: usize,
+    length: usize,
+}
+
+// From a place on what is written for each action, one behind the other, and its length: up to the last action, the last length of the list, or the first message
+// that does not go in.
+fn put_many<'a>(
+    words: &[u32; 1032],
+    count: usize,
+    place: usize,
+    passed: bool,
+    msg: &[u8],
+    iid: &'a [u32; 128],
+    owner: &'a [u8; 128],
+    links: usize,
+    lens: &mut [u32],
+    out: &mut [u8],
+) -> Reached
+    requires { ⌜ (count ≤ 258) × (place < count) × (links ≤ 128) × ((j : ℕ) → length (partIn (now iid) (now owner) links (now msg) passed (now words) count j) ≤ 2048) ⌝ }
+    ensures { λ r. ⌜ Ended (λ j. partIn (now (iid .entry)) (now (owner .entry)) links (now (msg .entry)) passed (now (words .entry)) count (place + j)) (λ m. leb count (place + m)) (now (lens .entry)) (now (out .entry)) (r .count) (r .length) (now (lens .exit)) (now (out .exit)) ⌝ }
+{
+    let mut n: usize = 0;
+    let mut at: usize = 0;
+    loop {
+        if count <= place + n {
+            return Reached {
+                count: n,
+                length: at,
+            };
+        }
+        if lens.len() <= n {
+            return Reached {
+                count: n,
+                length: at,
+            };
+        }
+        let o = action_at(words, place + n);
+        let size = part_size(o, passed, msg, iid, owner, links);
+        if out.len() - at < size {
+            return Reached {
+                count: n,
+                length: at,
+            };
+        }
+        put_part(o, size, passed, msg, iid, owner, links, out, at);
+        lens[n] = size as u32;
+        at += size;
+        n += 1;
     }
 }
