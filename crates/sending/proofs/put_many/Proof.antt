@@ -53,7 +53,7 @@ same-length-2 : tie.Need-same-length-2 Inv-loop μ-loop
 same-length-2 c = filled-out (c .before .loop .inv .1)
 
 returns : tie.Need-returns Inv-loop μ-loop
-returns c = let h = c .before .loop .inv .1 in record { filled = h; ends-there = ends-all h (le-leb _ _ (c .if1 .taken)) }
+returns c = let h = c .before .loop .inv .1 in (c .before .loop .inv .0, record { filled = h; ends-there = ends-all h (le-leb _ _ (c .if1 .taken)) })
 
 same-length-3 : tie.Need-same-length-3 Inv-loop μ-loop
 same-length-3 c = filled-lens (c .before .before .loop .inv .1)
@@ -62,7 +62,7 @@ same-length-4 : tie.Need-same-length-4 Inv-loop μ-loop
 same-length-4 c = filled-out (c .before .before .loop .inv .1)
 
 returns-2 : tie.Need-returns-2 Inv-loop μ-loop
-returns-2 c = let h = c .before .before .loop .inv .1 in record { filled = h; ends-there = ends-slots h (omega (arith, c .if2 .taken, filled-lens h)) }
+returns-2 c = let h = c .before .before .loop .inv .1 in (c .before .before .loop .inv .0, record { filled = h; ends-there = ends-slots h (omega (arith, c .if2 .taken, filled-lens h)) })
 
 add-action-at : tie.Need-add-action-at Inv-loop μ-loop
 add-action-at c = search needs
@@ -83,7 +83,7 @@ same-length-6 : tie.Need-same-length-6 Inv-loop μ-loop
 same-length-6 c = filled-out (c .before .before .before .before .before .loop .inv .1)
 
 returns-3 : tie.Need-returns-3 Inv-loop μ-loop
-returns-3 c = let h = c .before .before .before .before .before .loop .inv .1 in record { filled = h; ends-there = ends-room h (omega (arith, c .if3 .taken, size-now (c .before), filled-out h)) }
+returns-3 c = let h = c .before .before .before .before .before .loop .inv .1 in (c .before .before .before .before .before .loop .inv .0, record { filled = h; ends-there = ends-room h (omega (arith, c .if3 .taken, size-now (c .before), filled-out h)) })
 
 put-part-requires : tie.Need-put-part-requires Inv-loop μ-loop
 put-part-requires c κs = let s = size-now (c .before .before) in let l = small-now (c .before .before .before .before .before .before) in let h = c .before .before .before .before .before .before .loop .inv .1 in (start (c .before .before .before .before .before .before) .pre .2, c .before .before .part-size .ensures, omega (arith, s, l), omega (arith, c .before .if3 .left, h .goes-in, filled-out h))
