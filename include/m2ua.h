@@ -1,5 +1,6 @@
-/* The M2UA gateway library (what it does is in docs/RULES.md): the entries that the crates host, host_write and events export.
- * tools/archives makes target/staticlib/libhost.a (reading, plans, soundness), libhost_write.a (writing) and libevents.a: link those that you call.
+/* The M2UA gateway library (what it does is in docs/RULES.md): the entries that the crates host, host_write, events and sending export.
+ * tools/archives makes target/staticlib/libhost.a (reading, plans, soundness), libhost_write.a (writing), libevents.a and libsending.a (actions as bytes): link those
+ * that you call.
  * Nothing checks this header against the Rattle source; examples/c tries each entry. */
 #ifndef M2UA_H
 #define M2UA_H
@@ -105,6 +106,92 @@ static inline m2ua_outcome m2ua_link_down(m2ua_gateway g, size_t link, uint32_t 
 
 static inline m2ua_outcome m2ua_link_message(m2ua_gateway g, const uint8_t *msg, size_t len, uint32_t *words, size_t count) {
     return m2ua_event(g, M2UA_LINK_MESSAGE, 0, msg, len, words, count);
+}
+
+/* ---- Actions as bytes
+ * An event's actions are first had as words: its call hands back how many there are and, four words each, to whom each one goes. The bytes to send come from the state
+ * BEFORE that event, with the same event. The list of words plays no part here, so nothing is refused with 101. */
+
+/* The action at a place, from 0, as the message that goes to its ASP (Rule 8.15): 0 and its length. Bytes behind the message are left alone; a buffer of 2,048 bytes holds
+ * every message. Refused, in this order: 105 the state is not sound; 102 the event is refused so; 104 a place beyond the actions, or an action to the link side; 103 `out` is
+ * short. A refused call hands back length 0 and changes no byte of `out`. */
+m2ua_written m2ua_order(m2ua_gateway g, uint32_t kind, size_t index, const uint8_t *msg, size_t len, size_t place, uint8_t *out, size_t out_bytes);
+
+/* What writing several did: 0, how many actions and how many bytes; or the number of the refusal and zeros. */
+typedef struct {
+    uint32_t code;
+    size_t count;
+    size_t length;
+} m2ua_batch;
+
+/* From a place on, the messages of as many actions as go into `out` and have a place in `lens`, one behind the other (Rule 8.16): lens[j] is the length of the j-th, 0 for an
+ * action to the link side, which goes in wherever there is a place in `lens`. The bytes behind the messages and the lengths behind theirs are left alone. Each message is
+ * the one that m2ua_order writes. Refused: 105 and 102 as there; 104 a place beyond the actions; 103 not one goes in. A refused call changes nothing.
+ * With 2,048 bytes and one length or more at least one goes in, so this sends all:
+ *     for (place = 0; place < count; place += b.count) b = m2ua_orders(.., place, ..); */
+m2ua_batch m2ua_orders(m2ua_gateway g, uint32_t kind, size_t index, const uint8_t *msg, size_t len, size_t place, uint32_t *lens, size_t len_count, uint8_t *out,
+                       size_t out_bytes);
+
+/* Both by the name of the event. */
+static inline m2ua_written m2ua_message_order(m2ua_gateway g, size_t asp, const uint8_t *msg, size_t len, size_t place, uint8_t *out, size_t out_bytes) {
+    return m2ua_order(g, M2UA_MESSAGE, asp, msg, len, place, out, out_bytes);
+}
+
+static inline m2ua_written m2ua_without_message_order(m2ua_gateway g, uint32_t kind, size_t index, size_t place, uint8_t *out, size_t out_bytes) {
+    const uint8_t none = 0;
+    return m2ua_order(g, kind, index, &none, 0, place, out, out_bytes);
+}
+
+static inline m2ua_written m2ua_lost_order(m2ua_gateway g, size_t asp, size_t place, uint8_t *out, size_t out_bytes) {
+    return m2ua_without_message_order(g, M2UA_LOST, asp, place, out, out_bytes);
+}
+
+static inline m2ua_written m2ua_recovery_order(m2ua_gateway g, size_t as, size_t place, uint8_t *out, size_t out_bytes) {
+    return m2ua_without_message_order(g, M2UA_RECOVERY, as, place, out, out_bytes);
+}
+
+static inline m2ua_written m2ua_link_up_order(m2ua_gateway g, size_t link, size_t place, uint8_t *out, size_t out_bytes) {
+    return m2ua_without_message_order(g, M2UA_LINK_UP, link, place, out, out_bytes);
+}
+
+static inline m2ua_written m2ua_link_down_order(m2ua_gateway g, size_t link, size_t place, uint8_t *out, size_t out_bytes) {
+    return m2ua_without_message_order(g, M2UA_LINK_DOWN, link, place, out, out_bytes);
+}
+
+static inline m2ua_written m2ua_link_message_order(m2ua_gateway g, const uint8_t *msg, size_t len, size_t place, uint8_t *out, size_t out_bytes) {
+    return m2ua_order(g, M2UA_LINK_MESSAGE, 0, msg, len, place, out, out_bytes);
+}
+
+static inline m2ua_batch m2ua_message_orders(m2ua_gateway g, size_t asp, const uint8_t *msg, size_t len, size_t place, uint32_t *lens, size_t len_count, uint8_t *out,
+                                             size_t out_bytes) {
+    return m2ua_orders(g, M2UA_MESSAGE, asp, msg, len, place, lens, len_count, out, out_bytes);
+}
+
+static inline m2ua_batch m2ua_without_message_orders(m2ua_gateway g, uint32_t kind, size_t index, size_t place, uint32_t *lens, size_t len_count, uint8_t *out,
+                                                     size_t out_bytes) {
+    const uint8_t none = 0;
+    return m2ua_orders(g, kind, index, &none, 0, place, lens, len_count, out, out_bytes);
+}
+
+static inline m2ua_batch m2ua_lost_orders(m2ua_gateway g, size_t asp, size_t place, uint32_t *lens, size_t len_count, uint8_t *out, size_t out_bytes) {
+    return m2ua_without_message_orders(g, M2UA_LOST, asp, place, lens, len_count, out, out_bytes);
+}
+
+static inline m2ua_batch m2ua_recovery_orders(m2ua_gateway g, size_t as, size_t place, uint32_t *lens, size_t len_count, uint8_t *out, size_t out_bytes) {
+    return m2ua_without_message_orders(g, M2UA_RECOVERY, as, place, lens, len_count, out, out_bytes);
+}
+
+static inline m2ua_batch m2ua_link_up_orders(m2ua_gateway g, size_t link, size_t place, uint32_t *lens, size_t len_count, uint8_t *out, size_t out_bytes) {
+    return m2ua_without_message_orders(g, M2UA_LINK_UP, link, place, lens, len_count, out, out_bytes);
+}
+
+static inline m2ua_batch m2ua_link_down_orders(m2ua_gateway g, size_t link, size_t place, uint32_t *lens, size_t len_count, uint8_t *out, size_t out_bytes) {
+    return m2ua_without_message_orders(g, M2UA_LINK_DOWN, link, place, lens, len_count, out, out_bytes);
+}
+
+static inline m2ua_batch m2ua_link_message_orders(m2ua_gateway g, const uint8_t *msg, size_t len, size_t place, uint32_t *lens, size_t len_count, uint8_t *out,
+                                                  size_t out_bytes) {
+    return m2ua_orders(g, M2UA_LINK_MESSAGE, 0, msg, len, place, lens, len_count, out, out_bytes);
 }
 
 #endif
