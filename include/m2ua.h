@@ -323,6 +323,94 @@ static inline m2ua_outcome m2ua_link_message(m2ua_gateway g, const uint8_t *msg,
     return m2ua_event(g, M2UA_LINK_MESSAGE, 0, msg, len, words, count);
 }
 
+/* ---- Orders as bytes ---- */
+
+/* An event's orders are first had as words: m2ua_event hands back how many there are and who gets each. The bytes to send come from the state BEFORE that
+ * event, with the same kind, index and message. No list of words is lent, so nothing is refused with M2UA_REFUSED_LIST. */
+
+/* Writes the order at a place, from 0, as the message that goes to its ASP (Rule 8.15). M2UA_MAX_MESSAGE bytes of `out` are always enough.
+ * Answers: `code` 0 and the message's length, the bytes behind it unchanged; or, in this order: M2UA_REFUSED_STATE; M2UA_REFUSED_PLACE, as the event itself;
+ * M2UA_REFUSED_ORDER, a place beyond the orders, or an order to the link side; M2UA_REFUSED_BUFFER. Refused: length 0, `out` unchanged. */
+m2ua_written m2ua_order(m2ua_gateway g, uint32_t kind, size_t index, const uint8_t *msg, size_t len, size_t place, uint8_t *out, size_t out_bytes);
+
+/* What writing several did: 0, how many orders and how many bytes; or the number of the refusal and zeros. */
+typedef struct {
+    uint32_t code;
+    size_t count;
+    size_t length;
+} m2ua_batch;
+
+/* Writes the messages of as many orders, from a place on, as go into `out` and have a place in `lens`, one behind the other (Rule 8.16): lens[j] is the length
+ * of the j-th, 0 for an order to the link side, which goes in wherever there is a place in `lens`. Each message is the one that m2ua_order writes.
+ * Answers: `code` 0, the number of orders and of bytes, what lies behind them in `lens` and `out` unchanged; or, in this order: M2UA_REFUSED_STATE and
+ * M2UA_REFUSED_PLACE as above; M2UA_REFUSED_ORDER, a place beyond the orders; M2UA_REFUSED_BUFFER, not one goes in. Refused: zeros, nothing changed.
+ * With M2UA_MAX_MESSAGE bytes and one length or more at least one goes in, so that this sends all:
+ *     for (place = 0; place < count; place += b.count) b = m2ua_orders(.., place, ..); */
+m2ua_batch m2ua_orders(m2ua_gateway g, uint32_t kind, size_t index, const uint8_t *msg, size_t len, size_t place, uint32_t *lens, size_t len_count, uint8_t *out,
+                       size_t out_bytes);
+
+/* Both by the name of the event. */
+static inline m2ua_written m2ua_message_order(m2ua_gateway g, size_t asp, const uint8_t *msg, size_t len, size_t place, uint8_t *out, size_t out_bytes) {
+    return m2ua_order(g, M2UA_MESSAGE, asp, msg, len, place, out, out_bytes);
+}
+
+static inline m2ua_written m2ua_without_message_order(m2ua_gateway g, uint32_t kind, size_t index, size_t place, uint8_t *out, size_t out_bytes) {
+    const uint8_t none = 0;
+    return m2ua_order(g, kind, index, &none, 0, place, out, out_bytes);
+}
+
+static inline m2ua_written m2ua_lost_order(m2ua_gateway g, size_t asp, size_t place, uint8_t *out, size_t out_bytes) {
+    return m2ua_without_message_order(g, M2UA_LOST, asp, place, out, out_bytes);
+}
+
+static inline m2ua_written m2ua_recovery_order(m2ua_gateway g, size_t as, size_t place, uint8_t *out, size_t out_bytes) {
+    return m2ua_without_message_order(g, M2UA_RECOVERY, as, place, out, out_bytes);
+}
+
+static inline m2ua_written m2ua_link_up_order(m2ua_gateway g, size_t link, size_t place, uint8_t *out, size_t out_bytes) {
+    return m2ua_without_message_order(g, M2UA_LINK_UP, link, place, out, out_bytes);
+}
+
+static inline m2ua_written m2ua_link_down_order(m2ua_gateway g, size_t link, size_t place, uint8_t *out, size_t out_bytes) {
+    return m2ua_without_message_order(g, M2UA_LINK_DOWN, link, place, out, out_bytes);
+}
+
+static inline m2ua_written m2ua_link_message_order(m2ua_gateway g, const uint8_t *msg, size_t len, size_t place, uint8_t *out, size_t out_bytes) {
+    return m2ua_order(g, M2UA_LINK_MESSAGE, 0, msg, len, place, out, out_bytes);
+}
+
+static inline m2ua_batch m2ua_message_orders(m2ua_gateway g, size_t asp, const uint8_t *msg, size_t len, size_t place, uint32_t *lens, size_t len_count, uint8_t *out,
+                                             size_t out_bytes) {
+    return m2ua_orders(g, M2UA_MESSAGE, asp, msg, len, place, lens, len_count, out, out_bytes);
+}
+
+static inline m2ua_batch m2ua_without_message_orders(m2ua_gateway g, uint32_t kind, size_t index, size_t place, uint32_t *lens, size_t len_count, uint8_t *out,
+                                                     size_t out_bytes) {
+    const uint8_t none = 0;
+    return m2ua_orders(g, kind, index, &none, 0, place, lens, len_count, out, out_bytes);
+}
+
+static inline m2ua_batch m2ua_lost_orders(m2ua_gateway g, size_t asp, size_t place, uint32_t *lens, size_t len_count, uint8_t *out, size_t out_bytes) {
+    return m2ua_without_message_orders(g, M2UA_LOST, asp, place, lens, len_count, out, out_bytes);
+}
+
+static inline m2ua_batch m2ua_recovery_orders(m2ua_gateway g, size_t as, size_t place, uint32_t *lens, size_t len_count, uint8_t *out, size_t out_bytes) {
+    return m2ua_without_message_orders(g, M2UA_RECOVERY, as, place, lens, len_count, out, out_bytes);
+}
+
+static inline m2ua_batch m2ua_link_up_orders(m2ua_gateway g, size_t link, size_t place, uint32_t *lens, size_t len_count, uint8_t *out, size_t out_bytes) {
+    return m2ua_without_message_orders(g, M2UA_LINK_UP, link, place, lens, len_count, out, out_bytes);
+}
+
+static inline m2ua_batch m2ua_link_down_orders(m2ua_gateway g, size_t link, size_t place, uint32_t *lens, size_t len_count, uint8_t *out, size_t out_bytes) {
+    return m2ua_without_message_orders(g, M2UA_LINK_DOWN, link, place, lens, len_count, out, out_bytes);
+}
+
+static inline m2ua_batch m2ua_link_message_orders(m2ua_gateway g, const uint8_t *msg, size_t len, size_t place, uint32_t *lens, size_t len_count, uint8_t *out,
+                                                  size_t out_bytes) {
+    return m2ua_orders(g, M2UA_LINK_MESSAGE, 0, msg, len, place, lens, len_count, out, out_bytes);
+}
+
 /* ---- Layout ---- */
 
 /* The structs as the library was compiled for: size, and where each field starts. tools/header-check writes these lines anew (--write). */

@@ -1,5 +1,5 @@
 //! The event lines of a generated script as calls of both libraries, the proved one and the second program.
-use crate::proved::{self, Outcome};
+use crate::proved::{self, Batch, Outcome, Written};
 use second::generate::{generate, Kind};
 use second::{Event, Gateway, Next};
 
@@ -64,12 +64,17 @@ pub fn line(text: &str) -> Option<Line> {
 
 /// The plans and events of a generated script.
 pub fn generated(seed: u64, lines: u64) -> Vec<Line> {
+    generated_of(Kind::Event, seed, lines)
+}
+
+/// The same of a script of another kind.
+pub fn generated_of(kind: Kind, seed: u64, lines: u64) -> Vec<Line> {
     let mut found = vec![];
     let mut keep = |text: &[u8]| {
         found.extend(line(&String::from_utf8_lossy(text)));
         Ok(())
     };
-    generate(seed, lines, Kind::Event, &mut keep).expect("a script");
+    generate(seed, lines, kind, &mut keep).expect("a script");
     found
 }
 
@@ -112,6 +117,18 @@ impl Call {
             What::LinkDown => proved::link_down(state, index, list),
             What::LinkMessage => proved::link_message(state, &self.message, list),
         }
+    }
+
+    /// One of its actions as bytes, by the proved library.
+    pub fn order(&self, state: &Gateway, place: usize, out: &mut [u8]) -> Written {
+        let (kind, index) = (self.what as u32, self.index as usize);
+        proved::order(state, kind, index, &self.message, place, out)
+    }
+
+    /// As many of them as go in.
+    pub fn orders(&self, state: &Gateway, place: usize, lens: &mut [u32], out: &mut [u8]) -> Batch {
+        let (kind, index) = (self.what as u32, self.index as usize);
+        proved::orders(state, kind, index, &self.message, place, lens, out)
     }
 
     /// The call of the second program.

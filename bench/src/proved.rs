@@ -20,6 +20,15 @@ pub struct Outcome {
     pub gateway: Gateway,
 }
 
+/// What writing several actions did.
+#[repr(C)]
+#[derive(Clone, Copy, Debug, PartialEq, Eq)]
+pub struct Batch {
+    pub code: u32,
+    pub count: usize,
+    pub length: usize,
+}
+
 extern "C" {
     fn m2ua_read(msg: *const u8, len: usize) -> Reading;
     fn m2ua_write(
@@ -45,6 +54,28 @@ extern "C" {
         count: usize,
     ) -> Outcome;
     fn m2ua_is_sound(g: Gateway) -> u32;
+    fn m2ua_order(
+        g: Gateway,
+        kind: u32,
+        index: usize,
+        msg: *const u8,
+        len: usize,
+        place: usize,
+        out: *mut u8,
+        out_bytes: usize,
+    ) -> Written;
+    fn m2ua_orders(
+        g: Gateway,
+        kind: u32,
+        index: usize,
+        msg: *const u8,
+        len: usize,
+        place: usize,
+        lens: *mut u32,
+        len_count: usize,
+        out: *mut u8,
+        out_bytes: usize,
+    ) -> Batch;
 }
 
 pub fn read(msg: &[u8]) -> Reading {
@@ -128,4 +159,57 @@ pub fn link_down(g: Gateway, l: usize, words: &mut [u32]) -> Outcome {
 
 pub fn link_message(g: Gateway, msg: &[u8], words: &mut [u32]) -> Outcome {
     event!(g, 5, 0, msg, words)
+}
+
+/// The action at a place of an event as bytes. The state is copied once, as the call takes it by value.
+#[inline(always)]
+pub fn order(
+    g: &Gateway,
+    kind: u32,
+    index: usize,
+    msg: &[u8],
+    place: usize,
+    out: &mut [u8],
+) -> Written {
+    // SAFETY: each pointer and length are those of one slice, any bytes are a state, and the entry has no `requires`.
+    unsafe {
+        m2ua_order(
+            *g,
+            kind,
+            index,
+            msg.as_ptr(),
+            msg.len(),
+            place,
+            out.as_mut_ptr(),
+            out.len(),
+        )
+    }
+}
+
+/// As many of them as go in, from a place on.
+#[inline(always)]
+pub fn orders(
+    g: &Gateway,
+    kind: u32,
+    index: usize,
+    msg: &[u8],
+    place: usize,
+    lens: &mut [u32],
+    out: &mut [u8],
+) -> Batch {
+    // SAFETY: as above.
+    unsafe {
+        m2ua_orders(
+            *g,
+            kind,
+            index,
+            msg.as_ptr(),
+            msg.len(),
+            place,
+            lens.as_mut_ptr(),
+            lens.len(),
+            out.as_mut_ptr(),
+            out.len(),
+        )
+    }
 }

@@ -1,5 +1,5 @@
-/* Every entry of the library called once or more: messages read and written, plan S loaded, and a short history of its events
- * (docs/RULES.md, 11.1 to 11.4, with a link established, in service and lost). */
+/* Every entry of the library called once or more: messages read and written, plan S loaded, a short history of its events
+ * (docs/RULES.md, 11.1 to 11.4, with a link established, in service and lost), and what the ASPs are sent. */
 #include <stdio.h>
 #include <string.h>
 #include "m2ua.h"
@@ -86,6 +86,93 @@ static void events(m2ua_gateway g) {
     expect("a link beyond the plan", m2ua_link_up(g, 17, words, 1032).refusal, 102);
 }
 
+/* ---- Actions as bytes */
+
+static uint8_t out[2048];
+static uint32_t lens[4];
+
+/* The same message by both forms: one action, and a batch of one. */
+static void sent(const char *what, m2ua_written w, m2ua_batch b, size_t len, const uint8_t *expected) {
+    expect(what, w.code, 0);
+    expect(what, b.code, 0);
+    expect(what, w.length == len && b.count == 1 && b.length == len && lens[0] == len, 1);
+    expect(what, memcmp(out, expected, len) == 0 && memcmp(out + 1024, expected, len) == 0, 1);
+    expect(what, m2ua_read(out, w.length).code, 0);
+}
+
+/* What a host does with an event: run it, then write and send what it gives, as much at once as goes into the buffer. Here each message is printed. */
+static m2ua_gateway send_all(m2ua_gateway g, size_t asp, const uint8_t *msg, size_t len) {
+    m2ua_outcome r = m2ua_message(g, asp, msg, len, words, 1032);
+    m2ua_batch b;
+    for (size_t place = 0; place < r.count; place += b.count) {
+        b = m2ua_message_orders(g, asp, msg, len, place, lens, 4, out, sizeof out);
+        expect("code of a batch", b.code, 0);
+        if (b.code) break;
+        const uint8_t *message = out;
+        for (size_t j = 0; j < b.count; message += lens[j++]) {
+            if (lens[j] == 0) continue; /* to the link side */
+            printf("to ASP %u: ", words[4 * (place + j)]);
+            for (size_t i = 0; i < lens[j]; i++) printf("%02x", message[i]);
+            printf("\n");
+        }
+    }
+    return r.gateway;
+}
+
+static void refusals(m2ua_gateway g, const uint8_t *up) {
+    memset(out, 0xaa, 16);
+    expect("an action beyond the last", m2ua_message_order(g, 0, up, 8, 2, out, 16).code, 104);
+    expect("an Up Ack in 7 bytes", m2ua_message_order(g, 0, up, 8, 0, out, 7).code, 103);
+    expect("an action of an ASP beyond the plan", m2ua_message_order(g, 3, up, 8, 0, out, 16).code, 102);
+    expect("a batch with no length", m2ua_message_orders(g, 0, up, 8, 0, lens, 0, out, 16).code, 103);
+    m2ua_batch b = m2ua_message_orders(g, 0, up, 8, 2, lens, 4, out, 16);
+    expect("a batch beyond the last", b.code == 104 && b.count == 0 && b.length == 0, 1);
+    g.up[0] = 2;
+    expect("an action where the state is not sound", m2ua_message_order(g, 0, up, 8, 0, out, 16).code, 105);
+    for (size_t i = 0; i < 16; i++) expect("a byte of a refused call", out[i], 0xaa);
+    g.up[0] = 0;
+    expect("an Up Ack", (uint32_t)m2ua_message_order(g, 0, up, 8, 0, out, 16).length, 8);
+    expect("the byte behind it", out[8], 0xaa);
+}
+
+/* A Notify of AS 0: its status, and its links 100 to 115. */
+static const uint8_t *notify(uint8_t type, uint8_t information) {
+    static uint8_t n[84] = {1, 0, 0, 1, 0, 0, 0, 84, 0, 0xd, 0, 8, 0, 0, 0, 0, 0, 1, 0, 68};
+    n[13] = type;
+    n[15] = information;
+    for (int i = 0; i < 16; i++) n[23 + 4 * i] = (uint8_t)(100 + i);
+    return n;
+}
+
+static void bytes(m2ua_gateway g) {
+    const uint8_t up[8] = {1, 0, 3, 1, 0, 0, 0, 8};
+    const uint8_t active[8] = {1, 0, 4, 1, 0, 0, 0, 8};
+    const uint8_t establish[16] = {1, 0, 6, 2, 0, 0, 0, 16, 0, 1, 0, 8, 0, 0, 0, 100};
+    const uint8_t confirm[16] = {1, 0, 6, 3, 0, 0, 0, 16, 0, 1, 0, 8, 0, 0, 0, 100};
+    const uint8_t released[16] = {1, 0, 6, 6, 0, 0, 0, 16, 0, 1, 0, 8, 0, 0, 0, 100};
+    /* spare and padding are passed on as zero */
+    const uint8_t data[24] = {1, 9, 6, 1, 0, 0, 0, 24, 0, 1, 0, 8, 0, 0, 0, 100, 3, 0, 0, 5, 0x55, 9, 9, 9};
+    const uint8_t passed[24] = {1, 0, 6, 1, 0, 0, 0, 24, 0, 1, 0, 8, 0, 0, 0, 100, 3, 0, 0, 5, 0x55, 0, 0, 0};
+    uint8_t *second = out + 1024;
+    refusals(g, up);
+    g = m2ua_message(g, 0, up, 8, words, 1032).gateway;
+    g = m2ua_message(g, 0, m, sizeof m, words, 1032).gateway;
+    g = m2ua_message(g, 1, up, 8, words, 1032).gateway;
+    sent("Notify to ASP 0, taken over", m2ua_message_order(g, 1, active, 8, 1, out, 1024), m2ua_message_orders(g, 1, active, 8, 1, lens, 4, second, 1024), 84, notify(2, 2));
+    g = send_all(g, 1, active, 8);
+    expect("an action to the link side", m2ua_message_order(g, 1, establish, 16, 0, out, 1024).code, 104);
+    m2ua_batch b = m2ua_message_orders(g, 1, establish, 16, 0, lens, 4, second, 0);
+    expect("a batch of it", b.code == 0 && b.count == 1 && b.length == 0 && lens[0] == 0, 1);
+    g = m2ua_message(g, 1, establish, 16, words, 1032).gateway;
+    sent("Establish Confirm", m2ua_link_up_order(g, 0, 0, out, 1024), m2ua_link_up_orders(g, 0, 0, lens, 4, second, 1024), 16, confirm);
+    g = m2ua_link_up(g, 0, words, 1032).gateway;
+    sent("Data passed on", m2ua_link_message_order(g, data, 24, 0, out, 1024), m2ua_link_message_orders(g, data, 24, 0, lens, 4, second, 1024), 24, passed);
+    sent("Release Indication", m2ua_link_down_order(g, 0, 0, out, 1024), m2ua_link_down_orders(g, 0, 0, lens, 4, second, 1024), 16, released);
+    sent("Notify, pending", m2ua_lost_order(g, 1, 0, out, 1024), m2ua_lost_orders(g, 1, 0, lens, 4, second, 1024), 84, notify(1, 4));
+    g = m2ua_lost(g, 1, words, 1032).gateway;
+    sent("Notify, inactive", m2ua_recovery_order(g, 0, 0, out, 1024), m2ua_recovery_orders(g, 0, 0, lens, 4, second, 1024), 84, notify(1, 2));
+}
+
 int main(void) {
     messages();
     expect("code of plan S cut short", plan_s(191).code, 201);
@@ -94,6 +181,7 @@ int main(void) {
     expect("identifier of its last ASP", plan.gateway.aspid[2], 9);
     expect("its state is consistent", m2ua_is_sound(plan.gateway), 1);
     events(plan.gateway);
+    bytes(plan.gateway);
     plan.gateway.up[0] = 2;
     expect("a flag of 2 is not", m2ua_is_sound(plan.gateway), 0);
     printf("C example: %s\n", failures ? "FAILED" : "ok");

@@ -64,6 +64,26 @@ fn links_of(gateway: &Gateway, server: u32) -> impl Iterator<Item = u32> + '_ {
         .map(|(id, _)| *id)
 }
 
+/// What writing several orders gives: 0, the number of orders and of bytes, or
+/// the refusal and zeros.
+#[repr(C)]
+#[derive(Clone, Copy, PartialEq, Eq, Debug)]
+pub struct Batch {
+    pub code: u32,
+    pub count: u32,
+    pub length: u32,
+}
+
+impl Batch {
+    fn refused(code: u32) -> Self {
+        Batch {
+            code,
+            count: 0,
+            length: 0,
+        }
+    }
+}
+
 impl Gateway {
     /// Writes the order at a place, from 0, of an event on this state.
     pub fn order_bytes(&self, event: Event, place: u32, out: &mut [u8]) -> Written {
@@ -75,27 +95,76 @@ impl Gateway {
         if place >= next.count {
             return Written::refused(NO_SUCH_ORDER);
         }
-        let [addressee, code, subject, value] = list.as_chunks::<4>().0[place as usize];
-        if addressee == LINK_SIDE {
+        let order = list.as_chunks::<4>().0[place as usize];
+        if order[0] == LINK_SIDE {
             return Written::refused(NO_SUCH_ORDER);
         }
+        match self.put_message(event, order, out) {
+            Some(length) => Written {
+                code: 0,
+                length: length as u32,
+            },
+            None => Written::refused(SHORT_BUFFER),
+        }
+    }
 
+    /// Writes the orders of an event from a place on, one behind the other, as
+    /// many as the buffer and the list of lengths have room for. An order to
+    /// the link side has length 0.
+    pub fn orders_bytes(
+        &self,
+        event: Event,
+        place: u32,
+        lens: &mut [u32],
+        out: &mut [u8],
+    ) -> Batch {
+        let mut list = [0; LIST_WORDS];
+        let next = self.event(event, &mut list);
+        if next.code != 0 {
+            return Batch::refused(next.code);
+        }
+        if place >= next.count {
+            return Batch::refused(NO_SUCH_ORDER);
+        }
+        let orders = &list.as_chunks::<4>().0[place as usize..next.count as usize];
+        let (mut count, mut at) = (0, 0);
+        for (order, len) in orders.iter().zip(lens) {
+            let length = match order[0] {
+                LINK_SIDE => Some(0),
+                _ => self.put_message(event, *order, &mut out[at..]),
+            };
+            let Some(length) = length else {
+                break;
+            };
+            *len = length as u32;
+            at += length;
+            count += 1;
+        }
+        if count == 0 {
+            return Batch::refused(SHORT_BUFFER);
+        }
+        Batch {
+            code: 0,
+            count,
+            length: at as u32,
+        }
+    }
+
+    /// Writes the message of an order at the start of the buffer; gives its
+    /// length, or nothing if the buffer is short.
+    fn put_message(&self, event: Event, order: [u32; 4], out: &mut [u8]) -> Option<usize> {
+        let [_, code, subject, value] = order;
         let mut count = Count(HEADER_LEN);
         self.put_order(event, code, subject, value, &mut count);
         let total = count.0;
-        let Some(out) = out.get_mut(..total) else {
-            return Written::refused(SHORT_BUFFER);
-        };
+        let out = out.get_mut(..total)?;
         put_header(out, code >> 8, code & 0xff, total);
         let mut fill = Fill {
             out,
             at: HEADER_LEN,
         };
         self.put_order(event, code, subject, value, &mut fill);
-        Written {
-            code: 0,
-            length: total as u32,
-        }
+        Some(total)
     }
 
     /// The parameters of an order.

@@ -13,6 +13,7 @@ pub mod script;
 pub mod wire;
 pub mod write;
 
+pub use bytes::Batch;
 pub use events::{Event, Next};
 pub use gateway::{is_sound, Gateway};
 pub use plan::{load, Loaded};

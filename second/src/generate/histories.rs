@@ -5,8 +5,8 @@ use super::hex::put_bytes;
 use super::message::{self, Message, Piece, MESSAGES};
 use super::plans::{self, Plan};
 use super::rng::Rng;
-use super::{malformed, reading};
-use crate::events::{bits, Event, LIST_WORDS};
+use super::{malformed, orders, reading};
+use crate::events::{bits, Event};
 use crate::gateway::{Gateway, IDLE, IN_SERVICE, STARTING};
 use crate::script::{put_number, Session};
 use crate::wire::*;
@@ -74,7 +74,7 @@ impl History {
             session: Session::new(),
             queue: VecDeque::new(),
             // A few events on the state of zeros come first.
-            left: 3,
+            left: if bytes { 15 } else { 3 },
             bytes,
             results: Vec::new(),
         }
@@ -100,7 +100,9 @@ impl History {
             self.left = rng.range(1, 4);
             return plans::put(&plans::any(rng), line);
         }
-        self.left = rng.range(80, 400);
+        // Of `bytes` an event has several lines, and plans should vary.
+        let most = if self.bytes { 200 } else { 400 };
+        self.left = rng.range(most / 5, most);
         let plan = if rng.one_in(12) {
             self.storm(rng)
         } else {
@@ -133,7 +135,26 @@ impl History {
         say(who, then);
         say(rng.below(16) as u32, (4, 1));
         self.queue.push_back(b"state".to_vec());
+        if self.bytes {
+            self.storm_bytes(rng);
+        }
         plan
+    }
+
+    /// Orders of the last three events that are queued as bytes, before each.
+    fn storm_bytes(&mut self, rng: &mut Rng) {
+        let events = self.queue.split_off(self.queue.len() - 4);
+        for event in events.into_iter().take(3) {
+            for place in [0, 1, 2, 128, 256, 257, 258] {
+                // Around what a Notify has of 0, 1 and 8 links.
+                let room = rng.pick(&[0, 7, 8, 15, 16, 23, 24, 51, 52, 2048]);
+                let mut line = format!("bytes {place} {room} ").into_bytes();
+                line.extend_from_slice(&event);
+                self.queue.push_back(line);
+            }
+            self.queue.push_back(event);
+        }
+        self.queue.push_back(b"state".to_vec());
     }
 
     fn any(&mut self, rng: &mut Rng, line: &mut Vec<u8>) {
@@ -142,10 +163,17 @@ impl History {
             1..=3 => return line.extend_from_slice(rng.pick(&MALFORMED).as_bytes()),
             4 => return reading::line(rng, line),
             5..=34 => return line.extend_from_slice(b"state"),
+            35..=39 if self.bytes => {
+                return line.extend_from_slice(rng.pick(&orders::MALFORMED).as_bytes())
+            }
             _ => {}
         }
         let gateway = *self.session.gateway();
-        let event = Made::any(rng, &gateway);
+        let event = if self.bytes {
+            Made::for_bytes(rng, &gateway)
+        } else {
+            Made::any(rng, &gateway)
+        };
         let list = match rng.below(60) {
             0 => 1031,
             1 => rng.pick(&[0, 4, 1028, 1030]),
@@ -154,13 +182,40 @@ impl History {
         };
         match rng.below(10) {
             0 => line.extend_from_slice(b"reach "),
-            1 | 2 if self.bytes => put_bytes_command(rng, &gateway, &event, line),
+            1..=6 if self.bytes => return self.all_bytes(rng, &gateway, &event, list, line),
             _ => {}
         }
         event.put(list, line);
         if rng.one_in(400) {
             malformed::damage(rng, line);
         }
+    }
+
+    /// The orders of an event as bytes, and mostly the event after them.
+    fn all_bytes(
+        &mut self,
+        rng: &mut Rng,
+        gateway: &Gateway,
+        event: &Made,
+        list: u32,
+        line: &mut Vec<u8>,
+    ) {
+        let count = orders::count(gateway, event.event());
+        for place in orders::places(rng, count) {
+            let mut next = Vec::new();
+            orders::put_command(rng, gateway, event.event(), place, &mut next);
+            event.put(list, &mut next);
+            if rng.one_in(400) {
+                malformed::damage(rng, &mut next);
+            }
+            self.queue.push_back(next);
+        }
+        if !rng.one_in(5) {
+            let mut next = Vec::new();
+            event.put(list, &mut next);
+            self.queue.push_back(next);
+        }
+        line.extend(self.queue.pop_front().into_iter().flatten());
     }
 }
 
@@ -209,6 +264,30 @@ impl Made {
         }
     }
 
+    /// The same with more of what is repeated or passed on, of damaged messages
+    /// and of places beyond the plan, and with spare bytes and padding.
+    fn for_bytes(rng: &mut Rng, gateway: &Gateway) -> Made {
+        let p = sender(rng, gateway);
+        let mut made = match rng.below(160) {
+            0..=15 => Made::LinkMessage(link_message(rng, gateway)),
+            16..=23 => Made::Message(p, aimed(rng, gateway, p, 3, 3).encode()),
+            24..=29 => Made::Message(p, aimed(rng, gateway, p, 4, 2).encode()),
+            30..=45 => Made::Message(p, message::any(rng)),
+            46 => Made::Message(p, huge(rng, gateway)),
+            47 => Made::Lost(gateway.asps as u32),
+            48 => Made::Recovery(gateway.ases as u32),
+            49 => Made::LinkUp(gateway.links as u32),
+            50 => Made::LinkDown(gateway.links as u32),
+            _ => Made::any(rng, gateway),
+        };
+        if let Made::Message(_, message) | Made::LinkMessage(message) = &mut made {
+            if rng.one_in(3) {
+                orders::litter(rng, message);
+            }
+        }
+        made
+    }
+
     fn event(&self) -> Event<'_> {
         match self {
             Made::Message(asp, message) => Event::Message { asp: *asp, message },
@@ -241,34 +320,6 @@ impl Made {
             put_bytes(message, line);
         }
     }
-}
-
-/// `bytes` with a place among the orders, or just beyond, and a buffer around
-/// the length of the order.
-fn put_bytes_command(rng: &mut Rng, gateway: &Gateway, event: &Made, line: &mut Vec<u8>) {
-    let mut list = [0; LIST_WORDS];
-    let count = gateway.event(event.event(), &mut list).count as u64;
-    let place = match rng.below(30) {
-        0 => rng.pick(&[count as u32 + 1, 257, 258, 259, u32::MAX]),
-        1..=3 => count as u32,
-        _ => rng.below(count.max(1)) as u32,
-    };
-    let mut buffer = [0; MAX_MESSAGE];
-    let length = gateway
-        .order_bytes(event.event(), place, &mut buffer)
-        .length;
-    let room = match rng.below(10) {
-        0 | 1 => length.saturating_sub(1),
-        2 => rng.below(length as u64 + 1) as u32,
-        3 => rng.pick(&[0, 7, 8, 2048, 8192, u32::MAX]),
-        4 => length + 1,
-        _ => length,
-    };
-    line.extend_from_slice(b"bytes ");
-    put_number(place, line);
-    line.push(b' ');
-    put_number(room, line);
-    line.push(b' ');
 }
 
 /// An index below the count, seldom one beyond.

@@ -5,6 +5,7 @@ mod hex;
 mod histories;
 mod malformed;
 mod message;
+mod orders;
 mod plans;
 mod reading;
 mod rng;
@@ -24,7 +25,7 @@ pub enum Kind {
     Plan,
     /// The six events, `reach` and `state`.
     Event,
-    /// The same with `bytes`.
+    /// The same with many lines of `bytes`.
     Bytes,
     /// Malformed lines of every sort, also with bytes that are no text.
     Bad,
