@@ -414,6 +414,10 @@ static inline m2ua_batch m2ua_link_message_orders(m2ua_gateway g, const uint8_t 
 /* ---- Layout ---- */
 
 /* The structs as the library was compiled for: size, and where each field starts. tools/header-check writes these lines anew (--write). */
+M2UA_STATIC_ASSERT(sizeof(m2ua_batch) == 24, "m2ua_batch");
+M2UA_STATIC_ASSERT(offsetof(m2ua_batch, code) == 0, "m2ua_batch.code");
+M2UA_STATIC_ASSERT(offsetof(m2ua_batch, count) == 8, "m2ua_batch.count");
+M2UA_STATIC_ASSERT(offsetof(m2ua_batch, length) == 16, "m2ua_batch.length");
 M2UA_STATIC_ASSERT(sizeof(m2ua_gateway) == 1396, "m2ua_gateway");
 M2UA_STATIC_ASSERT(offsetof(m2ua_gateway, asps) == 0, "m2ua_gateway.asps");
 M2UA_STATIC_ASSERT(offsetof(m2ua_gateway, ases) == 1, "m2ua_gateway.ases");

@@ -29,6 +29,7 @@
 #![deny(unsafe_code)]
 #![warn(missing_docs)]
 
+mod bytes;
 mod event;
 mod gateway;
 mod message;
@@ -38,6 +39,7 @@ mod refusal;
 pub mod sys;
 mod words;
 
+pub use bytes::Messages;
 pub use event::Event;
 pub use gateway::{Gateway, LinkState, TrafficMode};
 pub use message::{

@@ -246,6 +246,15 @@ pub struct Outcome {
     pub gateway: Gateway,
 }
 
+/// What writing several orders did (Rule 8.16).
+#[repr(C)]
+#[derive(Clone, Copy, Debug, PartialEq, Eq)]
+pub struct Batch {
+    pub code: u32,
+    pub count: usize,
+    pub length: usize,
+}
+
 extern "C" {
     pub fn m2ua_read(msg: *const u8, len: usize) -> Reading;
     pub fn m2ua_write(
@@ -271,6 +280,28 @@ extern "C" {
         words: *mut u32,
         count: usize,
     ) -> Outcome;
+    pub fn m2ua_order(
+        g: Gateway,
+        kind: u32,
+        index: usize,
+        msg: *const u8,
+        len: usize,
+        place: usize,
+        out: *mut u8,
+        out_bytes: usize,
+    ) -> Written;
+    pub fn m2ua_orders(
+        g: Gateway,
+        kind: u32,
+        index: usize,
+        msg: *const u8,
+        len: usize,
+        place: usize,
+        lens: *mut u32,
+        len_count: usize,
+        out: *mut u8,
+        out_bytes: usize,
+    ) -> Batch;
 }
 
 // The calls, over whole slices: a slice's pointer is never null, is aligned, and no two slices that are lent here overlap, since one is `&mut`.
@@ -330,7 +361,60 @@ pub fn event(g: &Gateway, kind: u32, index: usize, msg: &[u8], words: &mut [u32]
     }
 }
 
+pub fn order(
+    g: &Gateway,
+    kind: u32,
+    index: usize,
+    msg: &[u8],
+    place: usize,
+    out: &mut [u8],
+) -> Written {
+    // SAFETY: as in `event`.
+    unsafe {
+        m2ua_order(
+            *g,
+            kind,
+            index,
+            msg.as_ptr(),
+            msg.len(),
+            place,
+            out.as_mut_ptr(),
+            out.len(),
+        )
+    }
+}
+
+pub fn orders(
+    g: &Gateway,
+    kind: u32,
+    index: usize,
+    msg: &[u8],
+    place: usize,
+    lens: &mut [u32],
+    out: &mut [u8],
+) -> Batch {
+    // SAFETY: as in `event`; the two `&mut` slices do not overlap.
+    unsafe {
+        m2ua_orders(
+            *g,
+            kind,
+            index,
+            msg.as_ptr(),
+            msg.len(),
+            place,
+            lens.as_mut_ptr(),
+            lens.len(),
+            out.as_mut_ptr(),
+            out.len(),
+        )
+    }
+}
+
 // The structs as the library was compiled for. tools/header-check writes these lines anew (--write).
+const _: () = assert!(size_of::<Batch>() == 24);
+const _: () = assert!(offset_of!(Batch, code) == 0);
+const _: () = assert!(offset_of!(Batch, count) == 8);
+const _: () = assert!(offset_of!(Batch, length) == 16);
 const _: () = assert!(size_of::<Gateway>() == 1396);
 const _: () = assert!(offset_of!(Gateway, asps) == 0);
 const _: () = assert!(offset_of!(Gateway, ases) == 1);

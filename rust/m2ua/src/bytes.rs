@@ -1,0 +1,127 @@
+//! Orders as the bytes of messages.
+use crate::event::Event;
+use crate::gateway::Gateway;
+use crate::refusal::Refusal;
+use crate::sys;
+
+impl Gateway {
+    /// Writes the order at a place of an event on this state as the message that goes to its ASP (Rule 8.15), and hands back its length. This is the state before the event,
+    /// the one on which [`Gateway::event`] was called. Refused: 102 as the event itself; 104 where there is no such order, or it goes to the link side; 103 where the buffer
+    /// is short. A buffer of 2,048 bytes (`sys::MAX_MESSAGE`) holds every message.
+    pub fn order_into(
+        &self,
+        event: &Event<'_>,
+        place: usize,
+        out: &mut [u8],
+    ) -> Result<usize, Refusal> {
+        let (kind, index, message) = event.parts();
+        let written = sys::order(&self.state, kind, index, message, place, out);
+        Refusal::check(written.code).map(|()| written.length)
+    }
+
+    /// The message of the order at a place of an event on this state.
+    pub fn order(&self, event: &Event<'_>, place: usize) -> Result<Vec<u8>, Refusal> {
+        let mut out = [0; sys::MAX_MESSAGE];
+        let length = self.order_into(event, place, &mut out)?;
+        Ok(out[..length].to_vec())
+    }
+
+    /// The messages of all orders of an event on this state, the state before the event, in their sequence; `None` for an order to the link side. They are written many at a
+    /// time (Rule 8.16) and are as many as the event has orders. Of a refused event there is one item, the refusal.
+    ///
+    /// ```
+    /// # use m2ua::{Event, Gateway, MessageType, Orders, Refusal};
+    /// # fn host(gateway: Gateway, send: fn(m2ua::Order, &[u8])) -> Result<Gateway, Refusal> {
+    /// # let bytes = m2ua::write(MessageType::Up, &[])?;
+    /// # let mut orders = Orders::new();
+    /// let event = Event::Message { asp: 0, message: &bytes };
+    /// let next = gateway.event(&event, &mut orders)?;
+    /// for (order, message) in orders.iter().zip(gateway.messages(&event)) {
+    ///     if let Some(message) = message? {
+    ///         send(order, &message);
+    ///     }
+    /// }
+    /// # Ok(next)
+    /// # }
+    /// ```
+    pub fn messages<'a>(&'a self, event: &Event<'a>) -> Messages<'a> {
+        Messages {
+            gateway: self,
+            event: *event,
+            place: 0,
+            lens: [0; BATCH],
+            count: 0,
+            taken: 0,
+            out: Box::new([0; ROOM]),
+            at: 0,
+            ended: false,
+        }
+    }
+}
+
+/// How many orders, and bytes of them, are written by one call.
+const BATCH: usize = 16;
+const ROOM: usize = 4 * sys::MAX_MESSAGE;
+
+/// See [`Gateway::messages`].
+#[derive(Clone, Debug)]
+pub struct Messages<'a> {
+    gateway: &'a Gateway,
+    event: Event<'a>,
+    /// The first order that is not in the batch.
+    place: usize,
+    /// The batch: the lengths of `count` messages, of which `taken` are handed out, and the bytes from `at` on.
+    lens: [u32; BATCH],
+    count: usize,
+    taken: usize,
+    out: Box<[u8; ROOM]>,
+    at: usize,
+    ended: bool,
+}
+
+impl Messages<'_> {
+    /// The next batch; `false` where there are no more orders.
+    fn refill(&mut self) -> Result<bool, Refusal> {
+        let (kind, index, message) = self.event.parts();
+        let batch = sys::orders(
+            &self.gateway.state,
+            kind,
+            index,
+            message,
+            self.place,
+            &mut self.lens,
+            &mut self.out[..],
+        );
+        if batch.code == sys::REFUSED_ORDER {
+            return Ok(false);
+        }
+        Refusal::check(batch.code)?;
+        (self.count, self.taken, self.at) = (batch.count, 0, 0);
+        self.place += batch.count;
+        Ok(true)
+    }
+}
+
+impl Iterator for Messages<'_> {
+    type Item = Result<Option<Vec<u8>>, Refusal>;
+
+    fn next(&mut self) -> Option<Self::Item> {
+        if self.ended {
+            return None;
+        }
+        if self.taken == self.count {
+            match self.refill() {
+                Ok(true) => {}
+                other => {
+                    self.ended = true;
+                    return other.err().map(Err);
+                }
+            }
+        }
+        let length = self.lens[self.taken] as usize;
+        let message = self.out[self.at..self.at + length].to_vec();
+        self.taken += 1;
+        self.at += length;
+        Some(Ok((length != 0).then_some(message)))
+    }
+}
