@@ -95,10 +95,12 @@ impl Gateway {
 
     /// A state that comes from elsewhere, as from another node: refused with 105 where it is not sound (Rule 5.4).
     pub fn from_raw(state: sys::Gateway) -> Result<Gateway, Refusal> {
-        if !sys::is_sound(&state) {
-            return Err(Refusal::check(sys::REFUSED_STATE).unwrap_err());
-        }
-        Ok(Gateway { state })
+        let code = if sys::is_sound(&state) {
+            sys::OK
+        } else {
+            sys::REFUSED_STATE
+        };
+        Refusal::check(code).map(|()| Gateway { state })
     }
 
     /// The C struct.

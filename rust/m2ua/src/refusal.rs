@@ -13,12 +13,14 @@ impl Refusal {
         self.0
     }
 
+    /// The refusal of a number; `None` for 0, which is none.
+    pub fn of(code: u32) -> Option<Refusal> {
+        (code != sys::OK).then_some(Refusal(code))
+    }
+
     /// `Ok` for 0.
     pub(crate) fn check(code: u32) -> Result<(), Refusal> {
-        if code == sys::OK {
-            return Ok(());
-        }
-        Err(Refusal(code))
+        Refusal::of(code).map_or(Ok(()), Err)
     }
 }
 
