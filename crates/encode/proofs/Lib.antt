@@ -1,5 +1,4 @@
 pub mod Lists
-pub mod Puts
 pub mod Verdicts
 pub mod Writes
 pub mod Plain

@@ -6,7 +6,7 @@ use mathlib.Core.List.{List, [], _∷_, _++_}
 use Prim.Native.Nat.{ℕ, zero, suc, _+_, _-_, _*_, _/_, _%_, _<_, _≤_}
 use native.Mathlib.Nat.{zero-add, suc-add, add-assoc, add-zero}
 use native.Mathlib.Omega.{arith}
-use lib.ListN.{length, getD, take, drop, replicate, length-drop, length-replicate, getD-replicate}
+use lib.ListN.{length, getD, take, drop, replicate, length-append, length-drop, length-replicate, getD-replicate}
 use lib.Seq.{length-take-le, getD-take, getD-drop}
 use lib.Dec.{ltb, leb}
 use borrow.Author.Tests.{le-leb, lt-leb, lt-ltb, le-ltb, leb-true}
@@ -19,6 +19,7 @@ use Rattle.wire.specs.declared.Step.the-variants.{Param, End, Fault}
 use Rattle.wire.proofs.Number.{be-two}
 use Rattle.wire.proofs.Steps.{Next, step-next, walk-step}
 use Rattle.put.specs.Bytes.{bytes16, bytes32, par, parBytes, parsBytes}
+use Rattle.put.proofs.Round.{length-par}
 use Rattle.encode.specs.RoundTrip.{isPadding, Bytes}
 
 -- a list given index by index, in two parts
@@ -73,6 +74,29 @@ step-ended s at = go (leb (length s) at) (ltb (length s - at) 4) (ltb (be 2 s (a
     go false false true d ea e = let z : _≡_ {A = ℕ} 0 1 = cc in absurd (omega arith)
     go false false false false ea e = let z : _≡_ {A = ℕ} 0 1 = cc in absurd (omega arith)
     go false false false true ea e = let z : _≡_ {A = ℕ} 0 1 = cc in absurd (omega arith)
+
+-- where the walk meets no fault, the parameters found, written again, take the bytes walked over
+pub length-walked : (s : List ℕ) (f at : ℕ) → length s - at < f → at ≤ length s → walk s at .code ≡ 0 → length (parsBytes (walk s at .pars)) ≡ length s - at
+unfolding parsBytes
+length-walked s zero at h q e = absurd (omega arith)
+length-walked s (suc f) at h q e = on (stepAt s at) refl (λ n lt le z. length-walked s f n (omega arith) le z)
+  where
+    on : (w : Step) → stepAt s at ≡ w
+        → ((n : ℕ) → at < n → n ≤ length s → walk s n .code ≡ 0 → length (parsBytes (walk s n .pars)) ≡ length s - n)
+        → length (parsBytes (walk s at .pars)) ≡ length s - at
+    on (Param t l n) w ih =
+        let ws = walk-step s at (Param t l n) w in
+        let nx : Next s at l n = step-next s at t l n w in
+        let v : List ℕ = take (l - 4) (drop (at + 4) s) in
+        let lv : length v ≡ l - 4 = length-take-le (l - 4) (drop (at + 4) s) (rw (length-drop (at + 4) s) (omega arith)) in
+        let r = ih n (omega arith) (nx .within) (sym (ap (λ (x : Walk). x .code) ws) ∙ e) in
+        ap (λ (x : Walk). length (parsBytes (x .pars))) ws
+        ∙ length-append (parBytes (par t v)) (parsBytes (walk s n .pars))
+        ∙ ap (λ (m : ℕ). m + length (parsBytes (walk s n .pars))) (length-par (par t v))
+        ∙ omega arith
+    on End w ih = let g = step-ended s at w in ap (λ (x : Walk). length (parsBytes (x .pars))) (walk-step s at End w) ∙ omega arith
+    on Fault w ih =
+        let z : _≡_ {A = ℕ} 18 0 = sym (ap (λ (x : Walk). x .code) (walk-step s at Fault w)) ∙ e in absurd (omega arith)
 
 -- ---- where padding lies
 

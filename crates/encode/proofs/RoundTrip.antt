@@ -9,7 +9,7 @@ use lib.ListN.{length, getD, take}
 use lib.Dec.{eqb}
 use borrow.Author.Tests.{eq-eqb, ne-eqb, le-ltb, ltb-false, eqb-true}
 use Rattle.laws.specs.Columns.{tabulate}
-use Rattle.laws.specs.Inner.Columns.{length-tabulate, tabulate-ext}
+use Rattle.laws.specs.Inner.Columns.{tabulate-ext}
 use Rattle.wire.specs.Number.{be}
 use Rattle.wire.specs.Walk.{Par, Walk, walk}
 use Rattle.wire.proofs.Number.{be-two, be-four}
@@ -26,7 +26,7 @@ use Rattle.encode.specs.declared.Written.{Written}
 use Rattle.encode.proofs.Lists.{lent-pars, lent-whole}
 use Rattle.encode.proofs.Verdicts.{listCode, length-encode, walk-encode, verdict-encode}
 use Rattle.encode.proofs.Writes.{or-none, if-none, encode-sized}
-use Rattle.encode.proofs.Plain.{tabulate-append, four-of, pad-before, pars-plain, zeroed}
+use Rattle.encode.proofs.Plain.{length-walked, tabulate-append, four-of, pad-before, pars-plain, zeroed}
 
 -- ---- reading what was written
 
@@ -40,7 +40,7 @@ means-list c t ps e =
     ap (λ (n : ℕ). outcome n (encode c t ps)) e
     ∙ ap (λ (x : Walk). meaning (getD (encode c t ps) 2 0) (getD (encode c t ps) 3 0) (x .pars)) (walk-encode c t ps)
 
-reads-back : (c t : ℕ) (ps : List Par) → verdict (encode c t ps) ≡ 0 → ReadsBack c t ps (encode c t ps)
+pub reads-back : (c t : ℕ) (ps : List Par) → verdict (encode c t ps) ≡ 0 → ReadsBack c t ps (encode c t ps)
 reads-back c t ps e = record { walked = walk-encode c t ps; accepted = e; means = means-list c t ps e }
 
 -- a write whose number is 0
@@ -72,15 +72,15 @@ reading-gives-list c t ts ns vs out r out′ w z =
 -- ---- writing what was read
 
 -- what is known of a message that reads
-record Accepted (s : List ℕ) : Type 0 where
-  long : 8 ≤ length s
-  small : length s ≤ most
-  version : getD s 0 0 ≡ 1
-  listed : hasClass table (getD s 2 0) ≡ true
-  known : eqb (rowIn table (getD s 2 0) (getD s 3 0)) 17 ≡ false
-  field : be 4 s 4 ≡ length s
-  walked : walk s 8 .code ≡ 0
-  pars-ok : parsCode (getD s 2 0) (getD s 3 0) (walk s 8 .pars) ≡ 0
+pub record Accepted (s : List ℕ) : Type 0 where
+  pub long : 8 ≤ length s
+  pub small : length s ≤ most
+  pub version : getD s 0 0 ≡ 1
+  pub listed : hasClass table (getD s 2 0) ≡ true
+  pub known : eqb (rowIn table (getD s 2 0) (getD s 3 0)) 17 ≡ false
+  pub field : be 4 s 4 ≡ length s
+  pub walked : walk s 8 .code ≡ 0
+  pub pars-ok : parsCode (getD s 2 0) (getD s 3 0) (walk s 8 .pars) ≡ 0
 
 not-false : (b : Bool) → not b ≡ false → b ≡ true
 not-false true e = refl
@@ -90,7 +90,7 @@ or-false : (u v : Bool) → (u || v) ≡ false → (u ≡ false) × (v ≡ false
 or-false true v h = absurd (false≢true (sym h))
 or-false false v h = (refl, h)
 
-accepted : (s : List ℕ) → verdict s ≡ 0 → Accepted s
+pub accepted : (s : List ℕ) → verdict s ≡ 0 → Accepted s
 unfolding verdict lastChecks table
 accepted s e =
     let c = getD s 2 0 in
@@ -113,6 +113,14 @@ accepted s e =
       pars-ok = a₆ .1;
     }
 
+-- its parameters take all of it but the header
+pub size-accepted : (s : List ℕ) → Accepted s → sizeOf (walk s 8 .pars) ≡ length s
+unfolding sizeOf
+size-accepted s a =
+    let l = length-walked s (suc (length s - 8)) 8 (omega arith) (a .long) (a .walked) in
+    let h = a .long in
+    omega arith
+
 module _ (s : List ℕ) (b : Bytes s) (a : Accepted s) where
   abbrev c : ℕ
   c = getD s 2 0
@@ -128,8 +136,7 @@ module _ (s : List ℕ) (b : Bytes s) (a : Accepted s) where
   pars-are = pars-plain s b (suc (length s - 8)) 8 (omega arith) (a .long) (a .walked)
 
   size-is : sizeOf ps ≡ length s
-  unfolding sizeOf
-  size-is = let l : length (parsBytes ps) ≡ length s - 8 = ap length pars-are ∙ length-tabulate (length s - 8) _ in let h = a .long in omega arith
+  size-is = size-accepted s a
 
   -- each byte as `plain` has it
   abbrev g : ℕ → ℕ

@@ -156,7 +156,7 @@ fn put_message(
     requires { ⌜ Fits (now tags) (now lens) (now values) size (now out) ⌝ }
     ensures { λ _. ⌜ now (out .exit) ≡ overlay (now (out .entry)) 0 (encode class msgtype (parsIn (now (tags .entry)) (now (lens .entry)) (now (values .entry)))) ⌝ }
 {
-    put::put_header(out, class, msgtype, size as u32);
+    put::put_header(out, 0, class, msgtype, size as u32);
     put_pars(out, size, tags, lens, values);
 }
 

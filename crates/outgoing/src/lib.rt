@@ -1,4 +1,27 @@
 // The messages that actions to ASPs go out as (Rules 8.8 to 8.16).
+use action::ASP_ACTIVE_ACK;
+use action::ASP_DOWN_ACK;
+use action::ASP_INACTIVE_ACK;
+use action::ASP_UP_ACK;
+use action::Action;
+use action::BEAT_ACK;
+use action::DATA_ACK;
+use action::MGMT_ERROR;
+use action::MGMT_NOTIFY;
+use select::Which;
+use wire::HEADER;
+ghost use mathlib.Core.Path.{_≡_};
+ghost use mathlib.Core.Bool.{cond};
+ghost use mathlib.Core.List.{[], _++_};
+ghost use Prim.Native.Nat.{_+_, _≤_};
+ghost use lib.ListN.{length};
+ghost use Rattle.laws.specs.Below.{when, countBelow};
+ghost use Rattle.wire.specs.Walk.{walk};
+ghost use Rattle.put.specs.Bytes.{overlay, bytes32, parsBytes};
+ghost use Rattle.encode.specs.Encode.{sizeOf, encode};
+ghost use Rattle.select.specs.Inner.Picks.{PutBytes, PutPars};
+ghost use Rattle.outgoing.specs.Message.{numberPar};
+ghost use Rattle.outgoing.specs.Inner.Form.{owns, idsIn, numberPars, listedPars, copiedPars, formPars, listedSize, FormFits, saying, listing, copying, formOf};
 
 // What a call did that writes many actions: 0, how many actions it went through, and the bytes of their messages; or the number of the refusal and zeros.
 #[repr(C)]
@@ -6,4 +29,321 @@ pub struct Batch {
     pub code: u32,
     pub count: usize,
     pub length: usize,
+}
+
+// The tags of the parameters that are made of numbers (Rule 2.11).
+const IDS: u16 = 0x1;
+
+const ERROR_CODE: u16 = 0xc;
+
+const STATUS: u16 = 0xd;
+
+const CORRELATION: u16 = 0x13;
+
+// The code of an Error that says which identifier was refused (Rule 8.9).
+const REFUSED_IDENTIFIER: u32 = 2;
+
+// What the message of an action is made of: a parameter of one number, another one, the identifiers of an AS, and the received parameters of two selections, each
+// of them or not.
+pub struct Form {
+    pub class: u8,
+    pub msgtype: u8,
+    pub one: bool,
+    pub tag: u16,
+    pub number: u32,
+    pub two: bool,
+    pub tag2: u16,
+    pub number2: u32,
+    pub listed: bool,
+    pub owned: usize,
+    pub first: Which,
+    pub after: Which,
+}
+
+// ---- the form of an action
+
+// One number, or two.
+fn say(classtype: u32, tag: u16, number: u32, two: bool, tag2: u16, number2: u32) -> Form
+    ensures { λ r. ⌜ r ≡ saying classtype tag number two tag2 number2 ⌝ }
+{
+    Form {
+        class: (classtype / 256 % 256) as u8,
+        msgtype: (classtype % 256) as u8,
+        one: true,
+        tag,
+        number,
+        two,
+        tag2,
+        number2,
+        listed: false,
+        owned: 0,
+        first: Which::Nothing,
+        after: Which::Nothing,
+    }
+}
+
+// One number, and the identifiers of an AS.
+fn list(classtype: u32, tag: u16, number: u32, owned: u32) -> Form
+    ensures { λ r. ⌜ r ≡ listing classtype tag number owned ⌝ }
+{
+    Form {
+        class: (classtype / 256 % 256) as u8,
+        msgtype: (classtype % 256) as u8,
+        one: true,
+        tag,
+        number,
+        two: false,
+        tag2: 0,
+        number2: 0,
+        listed: true,
+        owned: owned as usize,
+        first: Which::Nothing,
+        after: Which::Nothing,
+    }
+}
+
+// Parameters of the received message.
+fn copy(classtype: u32, first: Which, after: Which) -> Form
+    ensures { λ r. ⌜ r ≡ copying classtype first after ⌝ }
+{
+    Form {
+        class: (classtype / 256 % 256) as u8,
+        msgtype: (classtype % 256) as u8,
+        one: false,
+        tag: 0,
+        number: 0,
+        two: false,
+        tag2: 0,
+        number2: 0,
+        listed: false,
+        owned: 0,
+        first,
+        after,
+    }
+}
+
+// The form of an action that passes a message on, or of one that the gateway makes.
+pub fn form_of(passed: bool, o: Action) -> Form
+    ensures { λ r. ⌜ r ≡ formOf passed o ⌝ }
+{
+    let ct = o.classtype;
+    let subject = o.subject;
+    let value = o.value;
+    if passed {
+        return copy(ct, Which::All, Which::Nothing);
+    }
+    if ct == MGMT_ERROR {
+        return say(
+            ct,
+            ERROR_CODE,
+            value,
+            value == REFUSED_IDENTIFIER,
+            IDS,
+            subject,
+        );
+    }
+    if ct == MGMT_NOTIFY {
+        return list(ct, STATUS, value, subject);
+    }
+    if ct == ASP_UP_ACK {
+        return copy(ct, Which::Nothing, Which::Nothing);
+    }
+    if ct == ASP_DOWN_ACK {
+        return copy(ct, Which::Nothing, Which::Nothing);
+    }
+    if ct == BEAT_ACK {
+        return copy(ct, Which::Heartbeat, Which::Nothing);
+    }
+    if ct == ASP_ACTIVE_ACK {
+        return copy(ct, Which::Mode, Which::Ids);
+    }
+    if ct == ASP_INACTIVE_ACK {
+        return copy(ct, Which::Mode, Which::Ids);
+    }
+    say(ct, IDS, subject, ct == DATA_ACK, CORRELATION, value)
+}
+
+// ---- its length
+
+// How many of the first links AS a owns.
+fn count_owned(owner: &[u8; 128], links: usize, a: usize) -> usize
+    requires { ⌜ links ≤ 128 ⌝ }
+    ensures { λ r. ⌜ (r ≡ countBelow (owns (now (owner .entry)) a) links) × (r ≤ 128) ⌝ }
+{
+    let mut n: usize = 0;
+    for l in 0..links {
+        n = n + gateway::unit(gateway::wide(owner[l]) == a);
+    }
+    n
+}
+
+// The bytes of the parameter that lists them.
+fn listed_size(owner: &[u8; 128], links: usize, listed: bool, a: usize) -> usize
+    requires { ⌜ links ≤ 128 ⌝ }
+    ensures { λ r. ⌜ (r ≡ listedSize (now (owner .entry)) links listed a) × (r ≤ 516) ⌝ }
+{
+    if listed {
+        let n = count_owned(owner, links, a);
+        if n == 0 {
+            return 0;
+        }
+        return 4 + 4 * n;
+    }
+    0
+}
+
+// The length of the message of a form.
+pub fn size_of<'a>(
+    f: Form,
+    msg: &[u8],
+    iid: &'a [u32; 128],
+    owner: &'a [u8; 128],
+    links: usize,
+) -> usize
+    requires { ⌜ (links ≤ 128) × (sizeOf (formPars (now iid) (now owner) links (walk (now msg) 8 .pars) f) ≤ 2048) ⌝ }
+    ensures { λ r. ⌜ r ≡ sizeOf (formPars (now (iid .entry)) (now (owner .entry)) links (walk (now (msg .entry)) 8 .pars) f) ⌝ }
+{
+    let first = f.first;
+    let after = f.after;
+    let numbers = 8 * gateway::unit(f.one) + 8 * gateway::unit(f.two);
+    let ids = listed_size(owner, links, f.listed, f.owned);
+    let copies = select::picked_size(msg, first);
+    HEADER + numbers + ids + copies + select::picked_size(msg, after)
+}
+
+// ---- its bytes
+
+// A parameter of one number where it is wanted; the position after it.
+fn put_number_if(out: &mut [u8], at: usize, yes: bool, tag: u16, n: u32) -> usize
+    requires { ⌜ at + length (parsBytes (when yes (numberPar tag n))) ≤ length (now out) ⌝ }
+    ensures { λ r. ⌜ PutPars (now (out .entry)) at (when yes (numberPar tag n)) r (now (out .exit)) ⌝ }
+{
+    if yes {
+        return put::put_number(out, at, tag, n);
+    }
+    at
+}
+
+// The parameters of one number each.
+fn put_numbers(out: &mut [u8], at: usize, f: Form) -> usize
+    requires { ⌜ at + length (parsBytes (numberPars f)) ≤ length (now out) ⌝ }
+    ensures { λ r. ⌜ PutPars (now (out .entry)) at (numberPars f) r (now (out .exit)) ⌝ }
+{
+    let next = put_number_if(out, at, f.one, f.tag, f.number);
+    put_number_if(out, next, f.two, f.tag2, f.number2)
+}
+
+// An identifier where it is wanted; the position after it.
+fn put_id_if(out: &mut [u8], at: usize, yes: bool, n: u32) -> usize
+    requires { ⌜ at + length (cond yes (bytes32 n) []) ≤ length (now out) ⌝ }
+    ensures { λ r. ⌜ PutBytes (now (out .entry)) at (cond yes (bytes32 n) []) r (now (out .exit)) ⌝ }
+{
+    if yes {
+        put::put32(out, at, n);
+        return at + 4;
+    }
+    at
+}
+
+// The identifiers of AS a's links, one after the other; the position after them.
+fn put_owned<'a>(
+    out: &mut [u8],
+    from: usize,
+    iid: &'a [u32; 128],
+    owner: &'a [u8; 128],
+    links: usize,
+    a: usize,
+) -> usize
+    requires { ⌜ (links ≤ 128) × (from + length (idsIn (now iid) (now owner) links a) ≤ length (now out)) ⌝ }
+    ensures { λ r. ⌜ PutBytes (now (out .entry)) from (idsIn (now (iid .entry)) (now (owner .entry)) links a) r (now (out .exit)) ⌝ }
+{
+    let mut at = from;
+    for l in 0..links {
+        at = put_id_if(out, at, gateway::wide(owner[l]) == a, iid[l]);
+    }
+    at
+}
+
+// The parameter that lists them, of so many bytes; none where there are none.
+fn put_listed<'a>(
+    out: &mut [u8],
+    at: usize,
+    iid: &'a [u32; 128],
+    owner: &'a [u8; 128],
+    links: usize,
+    f: Form,
+) -> usize
+    requires { ⌜ (links ≤ 128) × (at + length (parsBytes (listedPars (now iid) (now owner) links f)) ≤ length (now out)) ⌝ }
+    ensures { λ r. ⌜ PutPars (now (out .entry)) at (listedPars (now (iid .entry)) (now (owner .entry)) links f) r (now (out .exit)) ⌝ }
+{
+    let a = f.owned;
+    let n = listed_size(owner, links, f.listed, a);
+    if n == 0 {
+        return at;
+    }
+    put::put_head(out, at, IDS, n as u16);
+    put_owned(out, at + 4, iid, owner, links, a)
+}
+
+// The parameters of the received message.
+fn put_copies(out: &mut [u8], at: usize, msg: &[u8], f: Form) -> usize
+    requires { ⌜ at + length (parsBytes (copiedPars (walk (now msg) 8 .pars) f)) ≤ length (now out) ⌝ }
+    ensures { λ r. ⌜ PutPars (now (out .entry)) at (copiedPars (walk (now (msg .entry)) 8 .pars) f) r (now (out .exit)) ⌝ }
+{
+    let first = f.first;
+    let after = f.after;
+    let next = select::put_picked(out, at, msg, first);
+    select::put_picked(out, next, msg, after)
+}
+
+// The identifiers of an AS, and behind them the parameters of the received message.
+fn put_rest<'a>(
+    out: &mut [u8],
+    at: usize,
+    msg: &[u8],
+    iid: &'a [u32; 128],
+    owner: &'a [u8; 128],
+    links: usize,
+    f: Form,
+) -> usize
+    requires { ⌜ (links ≤ 128) × (at + length (parsBytes (listedPars (now iid) (now owner) links f ++ copiedPars (walk (now msg) 8 .pars) f)) ≤ length (now out)) ⌝ }
+    ensures { λ r. ⌜ PutPars (now (out .entry)) at (listedPars (now (iid .entry)) (now (owner .entry)) links f ++ copiedPars (walk (now (msg .entry)) 8 .pars) f) r (now (out .exit)) ⌝ }
+{
+    let next = put_listed(out, at, iid, owner, links, f);
+    put_copies(out, next, msg, f)
+}
+
+// All parameters.
+fn put_pars<'a>(
+    out: &mut [u8],
+    at: usize,
+    msg: &[u8],
+    iid: &'a [u32; 128],
+    owner: &'a [u8; 128],
+    links: usize,
+    f: Form,
+) -> usize
+    requires { ⌜ (links ≤ 128) × (at + length (parsBytes (formPars (now iid) (now owner) links (walk (now msg) 8 .pars) f)) ≤ length (now out)) ⌝ }
+    ensures { λ r. ⌜ PutPars (now (out .entry)) at (formPars (now (iid .entry)) (now (owner .entry)) links (walk (now (msg .entry)) 8 .pars) f) r (now (out .exit)) ⌝ }
+{
+    let next = put_numbers(out, at, f);
+    put_rest(out, next, msg, iid, owner, links, f)
+}
+
+// The message of a form, whose length the caller has, written at a position; the position after it. `msg` is the received message whose parameters it repeats.
+pub fn put_form<'a>(
+    f: Form,
+    size: usize,
+    msg: &[u8],
+    iid: &'a [u32; 128],
+    owner: &'a [u8; 128],
+    links: usize,
+    out: &mut [u8],
+    at: usize,
+) -> usize
+    requires { ⌜ FormFits (now iid) (now owner) links (walk (now msg) 8 .pars) f size at (now out) ⌝ }
+    ensures { λ r. ⌜ (r ≡ at + size) × (now (out .exit) ≡ overlay (now (out .entry)) at (encode (f .class) (f .msgtype) (formPars (now (iid .entry)) (now (owner .entry)) links (walk (now (msg .entry)) 8 .pars) f))) ⌝ }
+{
+    put::put_header(out, at, f.class, f.msgtype, size as u32);
+    put_pars(out, at + HEADER, msg, iid, owner, links, f)
 }

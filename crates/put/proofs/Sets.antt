@@ -43,10 +43,14 @@ take-over l vs h = rw (sets-eq vs l 0 (omega arith)) (take-at vs (drop (0 + leng
 pub begins-at : (l v : List ℕ) (k : ℕ) → take (length v) l ≡ v → k < length v → getD l k 0 ≡ getD v k 0
 begins-at l v k e h = sym (getD-take (length v) l k 0 h) ∙ ap (λ x. getD x k 0) e
 
--- four bytes at the start, and what follows them
-pub over-four : (l ys l₂ : List ℕ) (a b c d : ℕ) → l₂ ≡ overlay (set (set (set (set l 0 a) 1 b) 2 c) 3 d) 4 ys → l₂ ≡ overlay l 0 (a ∷ b ∷ c ∷ d ∷ ys)
+-- four bytes at a position, and what follows them
+pub over-four : (l ys l₂ : List ℕ) (i a b c d : ℕ) → l₂ ≡ overlay (set (set (set (set l i a) (i + 1) b) (i + 2) c) (i + 3) d) (i + 4) ys → l₂ ≡ overlay l i (a ∷ b ∷ c ∷ d ∷ ys)
 unfolding overlay
-over-four l ys l₂ a b c d e = e
+over-four l ys l₂ i a b c d e =
+    let e₂ : i + 2 ≡ suc (suc i) = omega arith in
+    let e₃ : i + 3 ≡ suc (suc (suc i)) = omega arith in
+    let e₄ : i + 4 ≡ suc (suc (suc (suc i))) = omega arith in
+    rw (add-one i, e₂, e₃, e₄) at e
 
 -- four bytes at a position
 pub over-each : (l v : List ℕ) (i : ℕ) → length v ≡ 4 → set (set (set (set l i (getD v 0 0)) (i + 1) (getD v 1 0)) (i + 2) (getD v 2 0)) (i + 3) (getD v 3 0) ≡ overlay l i v

@@ -105,7 +105,7 @@ fn put_zeros(out: &mut [u8], at: usize, n: usize)
 }
 
 // A parameter's tag and length.
-fn put_head(out: &mut [u8], at: usize, tag: u16, n: u16)
+pub fn put_head(out: &mut [u8], at: usize, tag: u16, n: u16)
     requires { ⌜ at + 4 ≤ length (now out) ⌝ }
     ensures { λ _. ⌜ now (out .exit) ≡ overlay (now (out .entry)) at (bytes16 tag ++ bytes16 n) ⌝ }
 {
@@ -134,14 +134,24 @@ pub fn put_param(out: &mut [u8], at: usize, tag: u16, v: &[u8]) -> usize
     at + size
 }
 
-// The header of a message of n bytes, written at the buffer's start.
-pub fn put_header(out: &mut [u8], class: u8, msgtype: u8, n: u32)
-    requires { ⌜ 8 ≤ length (now out) ⌝ }
-    ensures { λ _. ⌜ now (out .exit) ≡ overlay (now (out .entry)) 0 (headBytes class msgtype n) ⌝ }
+// A parameter that holds one number, written at a position; the position after it.
+pub fn put_number(out: &mut [u8], at: usize, tag: u16, n: u32) -> usize
+    requires { ⌜ at + 8 ≤ length (now out) ⌝ }
+    ensures { λ r. ⌜ PutAt (now (out .entry)) at tag (bytes32 n) r (now (out .exit)) ⌝ }
 {
-    out[0] = 1;
-    out[1] = 0;
-    out[2] = class;
-    out[3] = msgtype;
-    put32(out, 4, n);
+    put_head(out, at, tag, 8);
+    put32(out, at + 4, n);
+    at + 8
+}
+
+// The header of a message of n bytes, written at a position.
+pub fn put_header(out: &mut [u8], at: usize, class: u8, msgtype: u8, n: u32)
+    requires { ⌜ at + 8 ≤ length (now out) ⌝ }
+    ensures { λ _. ⌜ now (out .exit) ≡ overlay (now (out .entry)) at (headBytes class msgtype n) ⌝ }
+{
+    out[at] = 1;
+    out[at + 1] = 0;
+    out[at + 2] = class;
+    out[at + 3] = msgtype;
+    put32(out, at + 4, n);
 }

@@ -6,7 +6,7 @@ use lib.ListN.{length, drop, getD, take}
 use Rattle.encode.specs.Inner.Write.{sizes}
 use Rattle.put.specs.Bytes.{par, parsBytes}
 use Rattle.encode.specs.Encode.{total, parsIn}
-use Rattle.encode.proofs.Puts.{Puts, puts-none, puts-end, puts-length, puts-room, puts-more}
+use Rattle.put.proofs.Puts.{Puts, puts-none, puts-end, puts-length, puts-room, puts-more}
 use Rattle.encode.proofs.Lists.{left, total-next, left-next, left-none, length-list}
 use Rattle.wire.specs.Walk.{Par}
 use mathlib.Core.List.{List, _∷_}

@@ -10,11 +10,11 @@ same-length : tie.Need-same-length
 same-length c = ap length (c .before .before .put32 .ensures) ∙ simp (length-over, length-set)
 
 returns : tie.Need-returns
-returns c = over-four _ _ _ _ _ _ _ (c .before .before .put32 .ensures)
+returns c = over-four _ _ _ _ _ _ _ _ (c .before .before .put32 .ensures)
 
 pub put-header-spec : {M : Type 1} → statement M
 put-header-spec =
     tie.close
     (tie.spec
-    (λ c. search needs) (λ c. simp length-set (omega arith)) (λ c. simp length-set (omega arith)) (λ c. simp length-set (omega arith))
-    (λ c κs. search needs) same-length returns)
+    (λ c. search needs) (λ c. search needs) (λ c. simp length-set (omega arith)) (λ c. search needs) (λ c. simp length-set (omega arith))
+    (λ c. search needs) (λ c. simp length-set (omega arith)) (λ c. search needs) (λ c κs. simp length-set (omega arith)) same-length returns)

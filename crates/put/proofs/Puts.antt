@@ -22,11 +22,15 @@ unfolding overlay
 puts-none all out from = record { written = []; out-is = refl; at-is = omega arith; rest = refl }
 
 module _ {all : List Par} {out₀ : List ℕ} {from : ℕ} {out : List ℕ} {at : ℕ} {ps : List Par} (h : Puts all out₀ from out at ps) where
-  pub puts-end : ps ≡ [] → out ≡ overlay out₀ from (parsBytes all)
+  all-written : ps ≡ [] → h .written ≡ parsBytes all
   unfolding parsBytes
-  puts-end e =
-      let q : h .written ≡ parsBytes all = sym (append-nil (h .written)) ∙ ap (λ (x : List Par). h .written ++ parsBytes x) (sym e) ∙ h .rest in
-      h .out-is ∙ ap (overlay out₀ from) q
+  all-written e = sym (append-nil (h .written)) ∙ ap (λ (x : List Par). h .written ++ parsBytes x) (sym e) ∙ h .rest
+
+  pub puts-end : ps ≡ [] → out ≡ overlay out₀ from (parsBytes all)
+  puts-end e = h .out-is ∙ ap (overlay out₀ from) (all-written e)
+
+  pub puts-next : ps ≡ [] → at ≡ from + length (parsBytes all)
+  puts-next e = h .at-is ∙ ap (λ (x : List ℕ). from + length x) (all-written e)
 
   pub puts-length : length out ≡ length out₀
   puts-length = ap length (h .out-is) ∙ length-over out₀ from (h .written)

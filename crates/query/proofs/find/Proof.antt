@@ -1,0 +1,65 @@
+-- `query::find`: what is left of the parameters has the same first one of the tag. Assumes nothing.
+use borrow.Author.Needs.{needs}
+use native.Mathlib.Omega.{arith}
+use Prim.Native.Nat.{ℕ, _-_}
+use mathlib.Core.Path.{_≡_, refl, sym, _∙_}
+use lib.ListN.{length}
+use Rattle.laws.specs.Inner.Choice.{at-eq, at-ne}
+use Rattle.wire.specs.Walk.{stepAt, walk}
+use Rattle.wire.specs.declared.Step.the-variants.{Param}
+use Rattle.wire.proofs.Steps.{step-next, Next}
+use Rattle.query.specs.Query.{paramIn}
+use Rattle.query.proofs.Laws.{param-next, param-stop}
+use Rattle.query.proofs.find.Statement.{statement}
+use Rattle.query.proofs.find.Tie as tie
+
+abbrev Inv-loop : tie.InvT-loop
+Inv-loop s from t at₀ at = paramIn t at (walk s at .pars) ≡ paramIn t from (walk s from .pars)
+
+abbrev μ-loop : tie.MeasureT-loop
+μ-loop s from t at₀ at = length s - at
+
+-- the reading is the walk's, and the parameter lies within the message
+reads-at : (c : tie.After-known-told Inv-loop μ-loop)
+    → stepAt (c .before .before .before .before .before .before .args .s .now) (c .before .before .before .before .loop .at)
+    ≡ Param (c .before .w .given .0 .0) (c .before .w .given .0 .1 .0) (c .before .w .given .0 .1 .1 .0)
+reads-at c = sym (c .before .before .before .step-at .ensures) ∙ c .before .w .given .1
+
+next-at : (c : tie.After-known-told Inv-loop μ-loop)
+    → Next (c .before .before .before .before .before .before .args .s .now) (c .before .before .before .before .loop .at) (c .before .w .given .0 .1 .0) (c .before .w .given .0 .1 .1 .0)
+next-at c = step-next _ _ _ _ _ (reads-at c)
+
+loop-holds : tie.Need-loop-holds Inv-loop μ-loop
+loop-holds c = refl
+
+returns : tie.Need-returns Inv-loop μ-loop
+returns c = sym (param-stop _ _ _ _ (sym (c .before .step-at .ensures)) (c .match .keys2)) ∙ c .before .before .loop .inv
+
+add-start : tie.Need-add-start Inv-loop μ-loop
+add-start c = let k = next-at (c .before) in omega arith
+
+cast-stop : tie.Need-cast-stop Inv-loop μ-loop
+cast-stop c = let k = next-at (c .before) in omega arith
+
+add-stop : tie.Need-add-stop Inv-loop μ-loop
+add-stop c = let k = next-at (c .before) in omega arith
+
+sub-t12 : tie.Need-sub-t12 Inv-loop μ-loop
+sub-t12 c = let k = next-at (c .before) in omega arith
+
+returns-2 : tie.Need-returns-2 Inv-loop μ-loop
+returns-2 c = let g = c .before in
+    at-eq _ _ _ _ (c .if1 .taken) refl ∙ sym (param-next _ _ _ _ _ (reads-at g) _) ∙ g .before .before .before .before .loop .inv
+
+loop-less : tie.Need-loop-less Inv-loop μ-loop
+loop-less c = let k = next-at (c .before) in omega arith
+
+loop-again : tie.Need-loop-again Inv-loop μ-loop
+loop-again c = let g = c .before in
+    at-ne _ _ _ _ (c .if1 .left) refl ∙ sym (param-next _ _ _ _ _ (reads-at g) _) ∙ g .before .before .before .before .loop .inv
+
+pub find-spec : {M : Type 1} → statement M
+find-spec =
+    tie.close
+    (tie.spec
+    Inv-loop μ-loop loop-holds (λ c κs. search needs) (λ c. search needs) returns add-start cast-stop add-stop sub-t12 returns-2 loop-less loop-again)

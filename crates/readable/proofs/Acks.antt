@@ -1,0 +1,99 @@
+-- The lists of parameters of the Acks that repeat some of what they answer: the reader accepts their messages where it accepted what they answer.
+-- Assumes nothing.
+use mathlib.Core.Path.{_≡_, refl, sym, _∙_}
+use mathlib.Core.Bool.{Bool, true, false, cond, _||_, false≢true}
+use mathlib.Core.List.{List, [], _∷_, _++_, append-assoc, append-nil}
+use mathlib.Core.Logic.{inl, inr}
+use Prim.Native.Nat.{ℕ, _≤_}
+use native.Mathlib.Omega.{arith}
+use lib.Dec.{eqb}
+use borrow.Author.Tests.{le-ltb, eqb-true}
+use Rattle.wire.specs.Walk.{Par}
+use Rattle.parameter.specs.Table.{repeated, table, among, hasClass, rowIn, entriesIn, key, useIn, usage}
+use Rattle.parameter.specs.Check.{parCode}
+use Rattle.message.specs.Verdict.{most, has, isNone, inTurn, allThere, sequenceCode, parsCode}
+use Rattle.encode.specs.Encode.{sizeOf}
+use Rattle.encode.proofs.Writes.{or-none}
+use Rattle.encode.proofs.Verdicts.{listCode}
+use Rattle.select.specs.Only.{only}
+use Rattle.rules.specs.Identifiers.{isIds}
+use Rattle.outgoing.specs.Message.{trafficAckPars, beatAckPars}
+use Rattle.readable.proofs.Part.{Anywhere, in-turn-part, length-pars, size-parts}
+
+-- ---- the tags that are repeated
+
+other : (i t k : ℕ) → eqb k 0x3 ≡ false → eqb k 0x1 ≡ false → eqb t k ≡ true → Anywhere i t
+other i t k a b e = let z = eqb-true t k e in rw z (record { no-text = a; no-first = inl b })
+
+ids-free : (i t : ℕ) → usage i 0x1 ≡ repeated → isIds t ≡ true → Anywhere i t
+ids-free i t u e = go (eqb t 0x1) refl e
+  where
+    go : (b : Bool) → eqb t 0x1 ≡ b → (b || eqb t 0x8) ≡ true → Anywhere i t
+    go true z e = let q = eqb-true t 0x1 z in rw q (record { no-text = refl; no-first = inr u })
+    go false z e = other i t 0x8 refl refl e
+
+-- no traffic mode is among them
+ids-other : (t : ℕ) → isIds t ≡ true → eqb 0xb (key t) ≡ false
+ids-other t e = go (eqb t 0x1) refl e
+  where
+    go : (b : Bool) → eqb t 0x1 ≡ b → (b || eqb t 0x8) ≡ true → eqb 0xb (key t) ≡ false
+    go true z e = let q = eqb-true t 0x1 z in rw q
+    go false z e = let q = eqb-true t 0x8 e in rw q
+
+mode-other : (t : ℕ) → eqb t 0xb ≡ true → isIds t ≡ false
+mode-other t e = let q = eqb-true t 0xb e in rw q
+
+modes-only : (ps : List Par) (t : ℕ) → isIds t ≡ true → has t (only (λ x. eqb x 0xb) ps) ≡ false
+unfolding has only
+modes-only [] t e = refl
+modes-only (p ∷ ps) t e = go (eqb (p .tag) 0xb) refl (modes-only ps t e)
+  where
+    go : (b : Bool) → eqb (p .tag) 0xb ≡ b → has t (only (λ x. eqb x 0xb) ps) ≡ false → has t (cond b (p ∷ only (λ x. eqb x 0xb) ps) (only (λ x. eqb x 0xb) ps)) ≡ false
+    go true z ih = let q = eqb-true (p .tag) 0xb z in rw (q, ids-other t e, ih)
+    go false z ih = ih
+
+-- ---- the checks, in the rows of those Acks
+
+in-turn-append : (i : ℕ) (before xs ys : List Par) → inTurn i before xs ≡ 0 → inTurn i (before ++ xs) ys ≡ 0 → inTurn i before (xs ++ ys) ≡ 0
+unfolding inTurn
+in-turn-append i before [] ys a b = rw append-nil at b
+in-turn-append i before (x ∷ xs) ys a b =
+    let o = or-none (parCode (usage i 0x1) (usage i (x .tag)) (isNone before) (has (x .tag) before) (x .tag) (x .body)) _ a in
+    rw (o .0) (in-turn-append i (before ++ (x ∷ [])) xs ys (o .1) (rw (append-assoc before (x ∷ []) xs) b))
+
+beat-turn : (i : ℕ) (ps : List Par) → inTurn i [] ps ≡ 0 → inTurn i [] (beatAckPars ps) ≡ 0
+unfolding beatAckPars
+beat-turn i ps e = in-turn-part i (λ t. eqb t 0x9) (λ t z. other i t 0x9 refl refl z) ps [] [] (λ t a b. b) e
+
+-- where a mode may stand at any place, and identifiers as often as one likes
+traffic-turn : (i : ℕ) → usage i 0x1 ≡ repeated → (ps : List Par) → inTurn i [] ps ≡ 0 → inTurn i [] (trafficAckPars ps) ≡ 0
+unfolding trafficAckPars has
+traffic-turn i u ps e =
+    in-turn-append i [] (only (λ t. eqb t 0xb) ps) (only isIds ps)
+    (in-turn-part i (λ t. eqb t 0xb) (λ t z. other i t 0xb refl refl z) ps [] [] (λ t a b. b) e)
+    (in-turn-part i isIds (λ t z. ids-free i t u z) ps [] (only (λ t. eqb t 0xb) ps) (λ t a b. absurd (false≢true (sym (modes-only ps t a) ∙ b))) e)
+
+-- ---- the whole lists
+
+traffic-size : (ps : List Par) → sizeOf (trafficAckPars ps) ≤ sizeOf ps
+unfolding trafficAckPars sizeOf
+traffic-size ps =
+    omega (arith, length-pars (only (λ t. eqb t 0xb) ps) (only isIds ps), size-parts (λ t. eqb t 0xb) isIds mode-other ps)
+
+beat-size : (ps : List Par) → sizeOf (beatAckPars ps) ≤ sizeOf ps
+unfolding beatAckPars sizeOf
+beat-size ps = omega (arith, size-parts (λ t. eqb t 0x9) (λ t. false) (λ t z. refl) ps)
+
+-- an Ack has the row of what it answers: Beat Ack (Rule 8.12)
+pub beat-list : (ps : List Par) → inTurn (rowIn table 3 3) [] ps ≡ 0 → sizeOf ps ≤ most → listCode 3 6 (beatAckPars ps) ≡ 0
+unfolding listCode table among hasClass rowIn entriesIn allThere sequenceCode parsCode
+beat-list ps e h = rw (le-ltb most (sizeOf (beatAckPars ps)) (omega (arith, beat-size ps)), beat-turn 4 ps e)
+
+-- Active Ack and Inactive Ack (Rule 8.11)
+pub active-list : (ps : List Par) → inTurn (rowIn table 4 1) [] ps ≡ 0 → sizeOf ps ≤ most → listCode 4 3 (trafficAckPars ps) ≡ 0
+unfolding listCode table among hasClass rowIn entriesIn useIn usage allThere sequenceCode parsCode
+active-list ps e h = rw (le-ltb most (sizeOf (trafficAckPars ps)) (omega (arith, traffic-size ps)), traffic-turn 5 refl ps e)
+
+pub inactive-list : (ps : List Par) → inTurn (rowIn table 4 2) [] ps ≡ 0 → sizeOf ps ≤ most → listCode 4 4 (trafficAckPars ps) ≡ 0
+unfolding listCode table among hasClass rowIn entriesIn useIn usage allThere sequenceCode parsCode
+inactive-list ps e h = rw (le-ltb most (sizeOf (trafficAckPars ps)) (omega (arith, traffic-size ps)), traffic-turn 6 refl ps e)

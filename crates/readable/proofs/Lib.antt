@@ -1,0 +1,13 @@
+pub mod Each
+pub mod Small
+pub mod Part
+pub mod Numbers
+pub mod Lists
+pub mod Header
+pub mod Acks
+pub mod Good
+pub mod Effects
+pub mod Events
+pub mod Passed
+pub mod Readable
+pub mod Samples

@@ -1,0 +1,62 @@
+-- The lists of parameters of the replies that say numbers, kind by kind: the reader accepts their messages.
+-- Assumes nothing.
+use mathlib.Core.Path.{_≡_, refl}
+use mathlib.Core.Bool.{Bool, true, false, cond}
+use mathlib.Core.List.{List, [], _∷_}
+use mathlib.Core.Logic.{_⊎_, inl, inr}
+use Prim.Native.Nat.{ℕ, _+_, _≤_}
+use native.Mathlib.Omega.{arith}
+use lib.ListN.{length, length-append}
+use borrow.Author.Tests.{le-ltb}
+use Rattle.parameter.specs.Table.{table, among, hasClass, rowIn, entriesIn, useIn, usage}
+use Rattle.parameter.specs.Value.{limitsOf, idCode, bodyCode}
+use Rattle.parameter.specs.Check.{allowedCode, parCode}
+use Rattle.message.specs.Verdict.{most, has, isNone, inTurn, allThere, sequenceCode, parsCode}
+use Rattle.put.specs.Bytes.{par, parBytes, parsBytes}
+use Rattle.put.proofs.Round.{length-par}
+use Rattle.encode.specs.Encode.{sizeOf}
+use Rattle.encode.proofs.Verdicts.{listCode}
+use Rattle.outgoing.specs.Message.{numberPar}
+use Rattle.readable.proofs.Numbers.{largest, number-code, Fours, ids-code}
+
+-- ---- Error and Notify
+
+pub error-list : (x n : ℕ) (b : Bool) → n ≤ largest → listCode 0 0 (numberPar 0xc n ∷ cond b (numberPar 0x1 x ∷ []) []) ≡ 0
+unfolding listCode sizeOf parsBytes parBytes table among hasClass rowIn entriesIn useIn usage limitsOf idCode bodyCode allowedCode parCode has isNone inTurn allThere sequenceCode parsCode
+error-list x n true h = rw (number-code 0xc n refl h)
+error-list x n false h = rw (number-code 0xc n refl h)
+
+pub notify-none : (n : ℕ) → n ≤ largest → listCode 0 1 (numberPar 0xd n ∷ []) ≡ 0
+unfolding listCode sizeOf parsBytes parBytes table among hasClass rowIn entriesIn useIn usage limitsOf idCode bodyCode allowedCode parCode has isNone inTurn allThere sequenceCode parsCode
+notify-none n h = rw (number-code 0xd n refl h)
+
+pub notify-ids : (n k : ℕ) (v : List ℕ) → n ≤ largest → Fours k v → k ≤ 128 → (length v ≡ 0 → ⊥) → listCode 0 1 (numberPar 0xd n ∷ par 0x1 v ∷ []) ≡ 0
+unfolding listCode sizeOf parsBytes table among hasClass rowIn entriesIn useIn usage limitsOf bodyCode allowedCode parCode has isNone inTurn allThere sequenceCode parsCode
+notify-ids n k v h f b ne =
+    let a = length-append (parBytes (numberPar 0xd n)) (parsBytes (par 0x1 v ∷ [])) in
+    let c = length-append (parBytes (par 0x1 v)) [] in
+    let l₁ = length-par (numberPar 0xd n) in
+    let l₂ = length-par (par 0x1 v) in
+    let e : 8 + length (parsBytes (numberPar 0xd n ∷ par 0x1 v ∷ [])) ≤ most = omega arith in
+    rw (le-ltb most _ e, number-code 0xd n refl h, ids-code k v f ne)
+
+-- ---- Acks without parameters, and one identifier
+
+pub up-list : listCode 3 4 [] ≡ 0
+unfolding listCode sizeOf parsBytes table among hasClass rowIn entriesIn inTurn allThere sequenceCode parsCode
+up-list = refl
+
+pub down-list : listCode 3 5 [] ≡ 0
+unfolding listCode sizeOf parsBytes table among hasClass rowIn entriesIn inTurn allThere sequenceCode parsCode
+down-list = refl
+
+-- Establish Confirm, Release Confirm, Release Indication
+pub link-list : (x t : ℕ) → (t ≡ 3) ⊎ ((t ≡ 5) ⊎ (t ≡ 6)) → listCode 6 t (numberPar 0x1 x ∷ []) ≡ 0
+unfolding listCode sizeOf parsBytes parBytes table among hasClass rowIn entriesIn useIn usage limitsOf idCode bodyCode allowedCode parCode has isNone inTurn allThere sequenceCode parsCode
+link-list x t (inl e) = rw e
+link-list x t (inr (inl e)) = rw e
+link-list x t (inr (inr e)) = rw e
+
+pub data-list : (x n : ℕ) → n ≤ largest → listCode 6 15 (numberPar 0x1 x ∷ numberPar 0x13 n ∷ []) ≡ 0
+unfolding listCode sizeOf parsBytes parBytes table among hasClass rowIn entriesIn useIn usage limitsOf idCode bodyCode allowedCode parCode has isNone inTurn allThere sequenceCode parsCode
+data-list x n h = rw (number-code 0x13 n refl h)
