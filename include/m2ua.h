@@ -18,7 +18,7 @@
 #include <stdint.h>
 
 /* Raised by each change of a struct, a limit or an entry that hosts must be compiled anew for; the number of the shared library's name (CHANGELOG.md). */
-#define M2UA_ABI 0
+#define M2UA_ABI 1
 #define M2UA_VERSION "0.1.0"
 
 #ifdef __cplusplus
@@ -27,6 +27,9 @@ extern "C" {
 #else
 #define M2UA_STATIC_ASSERT(holds, what) _Static_assert(holds, what)
 #endif
+
+/* The ABI of the library that is linked: a host that may meet another one compares it with M2UA_ABI before all else. */
+uint32_t m2ua_abi(void);
 
 /* ---- Numbers ---- */
 
@@ -215,6 +218,26 @@ typedef struct {
  * Answers: `code` 0 and what the message says, or one of 1, 3, 4, 5, 7, 8, 17, 18, 19, 22 and zeros (Rules 2.1 to 2.18). */
 m2ua_reading m2ua_read(const uint8_t *msg, size_t len);
 
+/* Where a part of a message lies: its first byte, counted from 0, and the number of its bytes. */
+typedef struct {
+    size_t start;
+    size_t length;
+} m2ua_data_at;
+
+/* Where the protocol data of a message lies, the SS7 unit: the value of its first 0x300 or 0x301 (Rule 1.7). Any bytes are answered; both numbers are 0 where
+ * there is none. It asks for no verdict: read the message first. */
+m2ua_data_at m2ua_data(const uint8_t *msg, size_t len);
+
+/* The same with whether it is there: `found` is 1 or 0. */
+typedef struct {
+    uint32_t found;
+    size_t start;
+    size_t length;
+} m2ua_param_at;
+
+/* Where the value of the first parameter of a tag (M2UA_TAG_..) lies, without padding (Rule 1.8). Any bytes are answered; zeros where there is none. */
+m2ua_param_at m2ua_parameter(const uint8_t *msg, size_t len, uint16_t tag);
+
 /* ---- Writing a message ---- */
 
 /* What a write did (Rule 3.5): 0 and the bytes written, or the number of the refusal and 0. */
@@ -263,6 +286,28 @@ m2ua_loaded m2ua_load(const uint8_t *file, size_t len);
 /* 1 where the state is sound (Rule 5.4), else 0. What m2ua_load accepted and what events hand back is sound: ask this of a state that comes from elsewhere,
  * as from a file or another node. */
 uint32_t m2ua_is_sound(m2ua_gateway g);
+
+/* What a question about a state answers: 0 and the value, or the number of the refusal and 0. */
+typedef struct {
+    uint32_t code;
+    uint32_t value;
+} m2ua_answer;
+
+/* The state of an AS, by its number: M2UA_AS_.. (Rule 5.17). Refused: M2UA_REFUSED_STATE, then M2UA_REFUSED_PLACE for an AS beyond the plan. */
+m2ua_answer m2ua_as_state(m2ua_gateway g, size_t as);
+
+/* The place of the link with an interface identifier, as M2UA_LINK_UP and M2UA_LINK_DOWN take it (Rule 5.18). Refused: M2UA_REFUSED_STATE, then
+ * M2UA_REFUSED_PLACE for an identifier that no link of the plan has. */
+m2ua_answer m2ua_link_place(m2ua_gateway g, uint32_t id);
+
+/* The recovery timers T(r) that an event asks for, by number of AS: 1 in `began` where the timer is to be started, 1 in `ended` where it is to be stopped. */
+typedef struct {
+    uint8_t began[M2UA_MAX_ASES];
+    uint8_t ended[M2UA_MAX_ASES];
+} m2ua_timers;
+
+/* Which ASes wait after an event and did not before, and the other way round (Rule 5.19). Any two states are answered. */
+m2ua_timers m2ua_waits(m2ua_gateway before, m2ua_gateway after);
 
 /* ---- Events ---- */
 
@@ -414,10 +459,16 @@ static inline m2ua_batch m2ua_link_message_orders(m2ua_gateway g, const uint8_t 
 /* ---- Layout ---- */
 
 /* The structs as the library was compiled for: size, and where each field starts. tools/header-check writes these lines anew (--write). */
+M2UA_STATIC_ASSERT(sizeof(m2ua_answer) == 8, "m2ua_answer");
+M2UA_STATIC_ASSERT(offsetof(m2ua_answer, code) == 0, "m2ua_answer.code");
+M2UA_STATIC_ASSERT(offsetof(m2ua_answer, value) == 4, "m2ua_answer.value");
 M2UA_STATIC_ASSERT(sizeof(m2ua_batch) == 24, "m2ua_batch");
 M2UA_STATIC_ASSERT(offsetof(m2ua_batch, code) == 0, "m2ua_batch.code");
 M2UA_STATIC_ASSERT(offsetof(m2ua_batch, count) == 8, "m2ua_batch.count");
 M2UA_STATIC_ASSERT(offsetof(m2ua_batch, length) == 16, "m2ua_batch.length");
+M2UA_STATIC_ASSERT(sizeof(m2ua_data_at) == 16, "m2ua_data_at");
+M2UA_STATIC_ASSERT(offsetof(m2ua_data_at, start) == 0, "m2ua_data_at.start");
+M2UA_STATIC_ASSERT(offsetof(m2ua_data_at, length) == 8, "m2ua_data_at.length");
 M2UA_STATIC_ASSERT(sizeof(m2ua_gateway) == 1396, "m2ua_gateway");
 M2UA_STATIC_ASSERT(offsetof(m2ua_gateway, asps) == 0, "m2ua_gateway.asps");
 M2UA_STATIC_ASSERT(offsetof(m2ua_gateway, ases) == 1, "m2ua_gateway.ases");
@@ -438,6 +489,10 @@ M2UA_STATIC_ASSERT(sizeof(m2ua_outcome) == 1416, "m2ua_outcome");
 M2UA_STATIC_ASSERT(offsetof(m2ua_outcome, refusal) == 0, "m2ua_outcome.refusal");
 M2UA_STATIC_ASSERT(offsetof(m2ua_outcome, count) == 8, "m2ua_outcome.count");
 M2UA_STATIC_ASSERT(offsetof(m2ua_outcome, gateway) == 16, "m2ua_outcome.gateway");
+M2UA_STATIC_ASSERT(sizeof(m2ua_param_at) == 24, "m2ua_param_at");
+M2UA_STATIC_ASSERT(offsetof(m2ua_param_at, found) == 0, "m2ua_param_at.found");
+M2UA_STATIC_ASSERT(offsetof(m2ua_param_at, start) == 8, "m2ua_param_at.start");
+M2UA_STATIC_ASSERT(offsetof(m2ua_param_at, length) == 16, "m2ua_param_at.length");
 M2UA_STATIC_ASSERT(sizeof(m2ua_reading) == 48, "m2ua_reading");
 M2UA_STATIC_ASSERT(offsetof(m2ua_reading, code) == 0, "m2ua_reading.code");
 M2UA_STATIC_ASSERT(offsetof(m2ua_reading, class_) == 4, "m2ua_reading.class_");
@@ -451,6 +506,9 @@ M2UA_STATIC_ASSERT(offsetof(m2ua_reading, correlated) == 32, "m2ua_reading.corre
 M2UA_STATIC_ASSERT(offsetof(m2ua_reading, correlation) == 36, "m2ua_reading.correlation");
 M2UA_STATIC_ASSERT(offsetof(m2ua_reading, state) == 40, "m2ua_reading.state");
 M2UA_STATIC_ASSERT(offsetof(m2ua_reading, retrieval) == 44, "m2ua_reading.retrieval");
+M2UA_STATIC_ASSERT(sizeof(m2ua_timers) == 32, "m2ua_timers");
+M2UA_STATIC_ASSERT(offsetof(m2ua_timers, began) == 0, "m2ua_timers.began");
+M2UA_STATIC_ASSERT(offsetof(m2ua_timers, ended) == 16, "m2ua_timers.ended");
 M2UA_STATIC_ASSERT(sizeof(m2ua_written) == 16, "m2ua_written");
 M2UA_STATIC_ASSERT(offsetof(m2ua_written, code) == 0, "m2ua_written.code");
 M2UA_STATIC_ASSERT(offsetof(m2ua_written, length) == 8, "m2ua_written.length");

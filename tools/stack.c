@@ -17,13 +17,23 @@ static m2ua_reading reading;
 static m2ua_written written;
 static m2ua_loaded loaded;
 static m2ua_outcome outcome;
-static uint32_t sound;
+static m2ua_batch batch;
+static m2ua_answer answer;
+static m2ua_timers timers;
+static m2ua_param_at found;
+static uint32_t sound, lens[M2UA_MAX_ORDERS];
 
 static void nothing(void) {}
 static void do_read(void) { reading = m2ua_read(msg, len); }
 static void do_load(void) { loaded = m2ua_load(msg, len); }
 static void do_sound(void) { sound = m2ua_is_sound(state); }
 static void do_event(void) { outcome = m2ua_event(state, kind, place, msg, len, words, M2UA_LIST_WORDS); }
+static void do_order(void) { written = m2ua_order(state, kind, place, msg, len, 1, out, sizeof out); }
+static void do_orders(void) { batch = m2ua_orders(state, kind, place, msg, len, 0, lens, M2UA_MAX_ORDERS, out, sizeof out); }
+static void do_waits(void) { timers = m2ua_waits(state, loaded.gateway); }
+static void do_place(void) { answer = m2ua_link_place(state, 127); }
+static void do_state(void) { answer = m2ua_as_state(state, 15); }
+static void do_parameter(void) { found = m2ua_parameter(msg, len, M2UA_TAG_INFO); }
 static void do_write(void) {
     const uint16_t tag = M2UA_TAG_HEARTBEAT;
     const uint32_t length = 2000;
@@ -88,6 +98,13 @@ int main(void) {
     msg = up, len = sizeof up;
     measure("m2ua_event, Up, 258 orders", do_event);
     if (outcome.count != M2UA_MAX_ORDERS) return printf("an Up has %zu orders\n", outcome.count), 1;
+    measure("m2ua_order, the same", do_order);
+    measure("m2ua_orders, all of them", do_orders);
+    if (batch.code || batch.count != M2UA_MAX_ORDERS) return printf("a batch has %zu orders\n", batch.count), 1;
+    printf("%-28s %5zu bytes to send\n", "(all its messages)", batch.length);
+    measure("m2ua_waits", do_waits);
+    measure("m2ua_link_place", do_place);
+    measure("m2ua_as_state", do_state);
     kind = M2UA_LINK_MESSAGE, msg = ind, len = sizeof ind;
     measure("m2ua_event, link side", do_event);
     kind = M2UA_MESSAGE;
@@ -96,6 +113,7 @@ int main(void) {
     longest[2044] = 0, longest[2045] = 4, longest[2046] = 0, longest[2047] = 4;
     msg = longest, len = sizeof longest;
     measure("m2ua_read, 2,048 bytes", do_read);
+    measure("m2ua_parameter, the same", do_parameter);
     measure("m2ua_event, the same", do_event);
     measure("m2ua_write, 2,016 bytes", do_write);
     if (reading.code || written.code) return printf("reading %u, writing %u\n", reading.code, written.code), 1;

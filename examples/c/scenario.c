@@ -47,15 +47,34 @@ static void send_to_asp(uint32_t asp, const uint8_t *bytes, size_t length) {
     printf("\n");
 }
 
-/* The timers that an event starts and stops: those of the ASes that began to wait, or no longer do. */
-static void timers(const m2ua_gateway *before, const m2ua_gateway *after) {
-    for (unsigned a = 0; a < after->ases; a++) {
-        if (after->waiting[a] > before->waiting[a]) printf("  timer: start T(r) of AS %u\n", a);
-        if (after->waiting[a] < before->waiting[a]) printf("  timer: stop T(r) of AS %u\n", a);
+/* Hands a unit to a link. Here it is printed; a host gives it to MTP2. */
+static void send_to_link(uint32_t id, const uint8_t *msg, size_t len) {
+    m2ua_data_at unit = m2ua_data(msg, len);
+    printf("    unit (%s) to link %u: ", m2ua_parameter(msg, len, M2UA_TAG_DATA_1).found ? "0x300" : "0x301", id);
+    for (size_t i = 0; i < unit.length; i++) printf("%02x", msg[unit.start + i]);
+    printf("\n");
+}
+
+/* What has changed: the states of ASes, and the timers that start and stop. */
+static void changes(m2ua_gateway before, m2ua_gateway after) {
+    static const char *const names[] = {"down", "?", "inactive", "active", "pending"};
+    m2ua_timers t = m2ua_waits(before, after);
+    for (unsigned a = 0; a < after.ases; a++) {
+        m2ua_answer was = m2ua_as_state(before, a), is = m2ua_as_state(after, a);
+        if (was.code || is.code) fail("m2ua_as_state", was.code ? was.code : is.code);
+        if (was.value != is.value) printf("  AS %u is %s\n", a, names[is.value]);
+        if (t.began[a]) printf("  timer: start T(r) of AS %u\n", a);
+        if (t.ended[a]) printf("  timer: stop T(r) of AS %u\n", a);
     }
 }
 
-/* An event: its orders in words, then as bytes, which come from the state before the event; then the timers. */
+static size_t place_of(uint32_t id) {
+    m2ua_answer place = m2ua_link_place(gateway, id);
+    if (place.code) fail("m2ua_link_place", place.code);
+    return place.value;
+}
+
+/* An event: its orders in words, then as bytes, which come from the state before the event; then what has changed. */
 static void happens(const char *what, uint32_t kind, size_t index, const uint8_t *msg, size_t len) {
     static uint32_t words[M2UA_LIST_WORDS], lens[8];
     static uint8_t out[M2UA_MAX_MESSAGE], single[M2UA_MAX_MESSAGE];
@@ -75,14 +94,17 @@ static void happens(const char *what, uint32_t kind, size_t index, const uint8_t
             const uint32_t *order = words + M2UA_ORDER_WORDS * (place + j);
             m2ua_order_text(order, line, sizeof line);
             printf("  %s\n", line);
-            if (order[0] == M2UA_LINK_SIDE) continue; /* a host has MTP2 do it */
+            if (order[0] == M2UA_LINK_SIDE) {
+                if (order[1] == M2UA_ORDER_DATA) send_to_link(order[2], msg, len);
+                continue;
+            }
             send_to_asp(order[0], next, lens[j]);
             /* one order by itself is the same message */
             m2ua_written w = m2ua_order(gateway, kind, index, msg, len, place + j, single, sizeof single);
             if (w.code || w.length != lens[j] || memcmp(single, next, lens[j])) fail("m2ua_order", w.code);
         }
     }
-    timers(&gateway, &r.gateway);
+    changes(gateway, r.gateway);
     gateway = r.gateway;
 }
 
@@ -107,7 +129,7 @@ static void scenario(void) {
     asp_sends("right takes over", 1, active);
     asp_sends("right starts link 100", 1,
               written(M2UA_CLASS_MAUP, M2UA_TYPE_ESTABLISH_REQUEST, 1, (const uint16_t[]){M2UA_TAG_INTERFACE_ID}, (const uint32_t[]){4}, link100));
-    other("link 100 is in service", M2UA_LINK_UP, 0);
+    other("link 100 is in service", M2UA_LINK_UP, place_of(100));
     asp_sends("right sends a unit on link 100", 1, data);
     happens("a unit comes in on link 100", M2UA_LINK_MESSAGE, 0, received.bytes, received.length);
     asp_sends("right sends a heartbeat", 1,
@@ -119,7 +141,7 @@ static void scenario(void) {
     asp_sends("left takes over in time", 0, active);
     asp_sends("left goes down", 0, plain(M2UA_CLASS_ASPSM, M2UA_TYPE_DOWN));
     other("the recovery time of AS 0 is over", M2UA_RECOVERY, 0);
-    other("link 100 fails", M2UA_LINK_DOWN, 0);
+    other("link 100 fails", M2UA_LINK_DOWN, place_of(100));
     other("an event of an ASP that there is not", M2UA_LOST, 3);
 }
 
@@ -151,6 +173,10 @@ int main(int argc, char **argv) {
     if (argc == 2 && strcmp(argv[1], "words") == 0) {
         words();
         return 0;
+    }
+    if (m2ua_abi() != M2UA_ABI) {
+        fprintf(stderr, "the library has ABI %u, this program was compiled for %d\n", m2ua_abi(), M2UA_ABI);
+        return 1;
     }
     static uint8_t file[M2UA_MAX_PLAN + 1];
     FILE *plan = argc == 2 ? fopen(argv[1], "rb") : NULL;

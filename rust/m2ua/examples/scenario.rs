@@ -2,7 +2,8 @@
 //! timers it starts, is printed. (examples/c/scenario.c is the same in C; tools/hosts compares what both print.)
 //! Usage: scenario PLAN, with examples/plans/sample.txt compiled; or scenario words.
 use m2ua::{
-    read, sys, write, Addressee, Event, Gateway, MessageType, Order, Orders, Parameter, Refusal,
+    parameter, protocol_data, read, sys, write, Addressee, Event, Gateway, MessageType, Order,
+    Orders, Parameter, Refusal,
 };
 use std::process::ExitCode;
 
@@ -13,7 +14,7 @@ struct Host {
 }
 
 impl Host {
-    /// An event: its orders in words, then as bytes, which come from the state before the event; then the timers.
+    /// An event: its orders in words, then as bytes, which come from the state before the event; then what has changed.
     fn happens(&mut self, what: &str, event: Event<'_>) -> Result<(), Refusal> {
         println!("{what}");
         let next = match self.gateway.event(&event, &mut self.orders) {
@@ -26,33 +27,71 @@ impl Host {
         for (place, message) in self.gateway.messages(&event).enumerate() {
             let order = self.orders.get(place).expect("as many messages as orders");
             println!("  {order}");
-            if let (Addressee::Asp(asp), Some(bytes)) = (order.to, message?) {
-                send_to_asp(asp, &bytes);
-                // one order by itself is the same message
-                assert_eq!(self.gateway.order(&event, place)?, bytes);
+            match (order.to, message?, event) {
+                (Addressee::Asp(asp), Some(bytes), _) => {
+                    send_to_asp(asp, &bytes);
+                    // one order by itself is the same message
+                    assert_eq!(self.gateway.order(&event, place)?, bytes);
+                }
+                (Addressee::LinkSide, _, Event::Message { message, .. })
+                    if order.message == MessageType::Data =>
+                {
+                    send_to_link(order.subject, message)
+                }
+                _ => {}
             }
         }
-        self.timers(&next);
+        self.changes(&next);
         self.gateway = next;
         Ok(())
     }
 
-    /// The timers that an event starts and stops: those of the ASes that began to wait, or no longer do.
-    fn timers(&self, next: &Gateway) {
+    /// What has changed: the states of ASes, and the timers that start and stop.
+    fn changes(&self, next: &Gateway) {
+        let timers = self.gateway.timers(next);
         for a in 0..next.ases() {
-            match (self.gateway.is_waiting(a), next.is_waiting(a)) {
-                (false, true) => println!("  timer: start T(r) of AS {a}"),
-                (true, false) => println!("  timer: stop T(r) of AS {a}"),
+            match next.as_state(a) {
+                Some(state) if self.gateway.as_state(a) != Some(state) => {
+                    println!("  AS {a} is {state}")
+                }
                 _ => {}
             }
+            timers
+                .started()
+                .filter(|&b| a == b)
+                .for_each(|_| println!("  timer: start T(r) of AS {a}"));
+            timers
+                .stopped()
+                .filter(|&b| a == b)
+                .for_each(|_| println!("  timer: stop T(r) of AS {a}"));
         }
     }
+
+    fn place_of(&self, id: u32) -> usize {
+        self.gateway.link_place(id).expect("a link of the plan")
+    }
+}
+
+/// Hands a unit to a link. Here it is printed; a host gives it to MTP2.
+fn send_to_link(id: u32, message: &[u8]) {
+    let tag = if parameter(message, sys::TAG_DATA_1).is_some() {
+        "0x300"
+    } else {
+        "0x301"
+    };
+    println!(
+        "    unit ({tag}) to link {id}: {}",
+        hex(protocol_data(message))
+    );
 }
 
 /// Sends a message to an ASP. Here it is printed; a host writes it to the ASP's association.
 fn send_to_asp(asp: usize, bytes: &[u8]) {
-    let hex: String = bytes.iter().map(|b| format!("{b:02x}")).collect();
-    println!("    {} bytes to ASP {asp}: {hex}", bytes.len());
+    println!("    {} bytes to ASP {asp}: {}", bytes.len(), hex(bytes));
+}
+
+fn hex(bytes: &[u8]) -> String {
+    bytes.iter().map(|b| format!("{b:02x}")).collect()
 }
 
 /// One message; what is written reads.
@@ -129,7 +168,12 @@ fn scenario(host: &mut Host) -> Result<(), Refusal> {
             message: &establish,
         },
     )?;
-    host.happens("link 100 is in service", Event::LinkUp { link: 0 })?;
+    host.happens(
+        "link 100 is in service",
+        Event::LinkUp {
+            link: host.place_of(100),
+        },
+    )?;
     host.happens(
         "right sends a unit on link 100",
         Event::Message {
@@ -181,7 +225,12 @@ fn scenario(host: &mut Host) -> Result<(), Refusal> {
         "the recovery time of AS 0 is over",
         Event::Recovery { r#as: 0 },
     )?;
-    host.happens("link 100 fails", Event::LinkDown { link: 0 })?;
+    host.happens(
+        "link 100 fails",
+        Event::LinkDown {
+            link: host.place_of(100),
+        },
+    )?;
     host.happens(
         "an event of an ASP that there is not",
         Event::Lost { asp: 3 },
@@ -236,6 +285,13 @@ fn words() {
 }
 
 fn run(path: &str) -> Result<(), String> {
+    if m2ua::abi() != sys::ABI {
+        return Err(format!(
+            "the library has ABI {}, this program was compiled for {}",
+            m2ua::abi(),
+            sys::ABI
+        ));
+    }
     let file = std::fs::read(path).map_err(|e| format!("{path}: {e}"))?;
     let gateway = Gateway::load(&file).map_err(|no| format!("{path}: {no}"))?;
     let gateway = Gateway::from_raw(*gateway.raw()).map_err(|no| no.to_string())?;

@@ -71,6 +71,48 @@ impl fmt::Display for LinkState {
     }
 }
 
+/// The state of an AS (Rule 5.2).
+#[derive(Clone, Copy, Debug, PartialEq, Eq, Hash)]
+pub enum AsState {
+    /// No member is up, and it does not wait.
+    Down,
+    /// A member is up, none is active, and it does not wait.
+    Inactive,
+    /// A member is active.
+    Active,
+    /// No member is active, and it waits for one.
+    Pending,
+}
+
+impl fmt::Display for AsState {
+    fn fmt(&self, f: &mut fmt::Formatter<'_>) -> fmt::Result {
+        f.pad(match self {
+            AsState::Down => "down",
+            AsState::Inactive => "inactive",
+            AsState::Active => "active",
+            AsState::Pending => "pending",
+        })
+    }
+}
+
+/// The recovery timers T(r) that an event asks for (Rule 5.19).
+#[derive(Clone, Copy, Debug, PartialEq, Eq)]
+pub struct Timers {
+    waits: sys::Waits,
+}
+
+impl Timers {
+    /// The ASes whose timer is to be started.
+    pub fn started(&self) -> impl Iterator<Item = usize> + '_ {
+        (0..sys::MAX_ASES).filter(|&a| self.waits.began[a] == 1)
+    }
+
+    /// The ASes whose timer is to be stopped.
+    pub fn stopped(&self) -> impl Iterator<Item = usize> + '_ {
+        (0..sys::MAX_ASES).filter(|&a| self.waits.ended[a] == 1)
+    }
+}
+
 /// The gateway's state (Rule 5.1): the plan, and what events have made of it. A value: copy it, keep it, throw it away.
 ///
 /// ASPs and ASes are named by number and links by place, all from 0 in the plan's order. What lies beyond the plan is `false`, 0 or `None`.
@@ -118,6 +160,31 @@ impl Gateway {
         Ok(Gateway {
             state: outcome.gateway,
         })
+    }
+
+    /// The recovery timers to start and to stop after an event that led from this state to the next.
+    pub fn timers(&self, next: &Gateway) -> Timers {
+        Timers {
+            waits: sys::waits(&self.state, &next.state),
+        }
+    }
+
+    /// The state of an AS.
+    pub fn as_state(&self, r#as: usize) -> Option<AsState> {
+        let answer = sys::as_state(&self.state, r#as);
+        match (answer.code, answer.value) {
+            (sys::OK, sys::AS_DOWN) => Some(AsState::Down),
+            (sys::OK, sys::AS_INACTIVE) => Some(AsState::Inactive),
+            (sys::OK, sys::AS_ACTIVE) => Some(AsState::Active),
+            (sys::OK, sys::AS_PENDING) => Some(AsState::Pending),
+            _ => None,
+        }
+    }
+
+    /// The place of the link with an interface identifier.
+    pub fn link_place(&self, id: u32) -> Option<usize> {
+        let answer = sys::link_place(&self.state, id);
+        (answer.code == sys::OK).then_some(answer.value as usize)
     }
 
     /// How many ASPs the plan has.

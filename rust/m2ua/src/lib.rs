@@ -41,9 +41,15 @@ mod words;
 
 pub use bytes::Messages;
 pub use event::Event;
-pub use gateway::{Gateway, LinkState, TrafficMode};
+pub use gateway::{AsState, Gateway, LinkState, Timers, TrafficMode};
 pub use message::{
-    parameters, read, write, write_into, MessageType, Parameter, Parameters, Reading,
+    parameter, parameters, protocol_data, read, write, write_into, MessageType, Parameter,
+    Parameters, Reading,
 };
 pub use order::{Addressee, Order, Orders, Status};
 pub use refusal::Refusal;
+
+/// The ABI of the library that is linked (`sys::ABI` is the one that this crate was written for).
+pub fn abi() -> u32 {
+    sys::abi()
+}

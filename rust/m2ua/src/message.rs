@@ -202,6 +202,25 @@ impl<'a> Iterator for Parameters<'a> {
     }
 }
 
+/// The protocol data of a message, the SS7 unit: the value of its first 0x300 or 0x301; empty where there is none (Rule 1.7). It asks for no verdict: read the message first.
+///
+/// ```
+/// use m2ua::{protocol_data, sys, write, MessageType, Parameter};
+/// let data = write(MessageType::Data, &[Parameter::new(sys::TAG_INTERFACE_ID, &[0, 0, 0, 100]), Parameter::new(sys::TAG_DATA_1, b"unit")])?;
+/// assert_eq!(protocol_data(&data), b"unit");
+/// # Ok::<(), m2ua::Refusal>(())
+/// ```
+pub fn protocol_data(message: &[u8]) -> &[u8] {
+    let at = sys::data(message);
+    &message[at.start..at.start + at.length]
+}
+
+/// The value of the first parameter of a tag, without padding; `None` where there is none (Rule 1.8).
+pub fn parameter(message: &[u8], tag: u16) -> Option<&[u8]> {
+    let at = sys::parameter(message, tag);
+    (at.found == 1).then(|| &message[at.start..at.start + at.length])
+}
+
 /// Writes a message into a lent buffer, and hands back how many bytes it has. Refused as the reader would refuse the message; 103 where the buffer is short; the buffer is then unchanged.
 pub fn write_into(
     message: MessageType,

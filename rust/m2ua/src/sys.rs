@@ -3,7 +3,7 @@
 #![allow(unsafe_code)]
 use std::mem::{offset_of, size_of};
 
-pub const ABI: u32 = 0;
+pub const ABI: u32 = 1;
 
 // Limits.
 pub const MAX_ASPS: usize = 16;
@@ -255,7 +255,46 @@ pub struct Batch {
     pub length: usize,
 }
 
+/// Where the protocol data of a message lies (Rule 1.7).
+#[repr(C)]
+#[derive(Clone, Copy, Debug, PartialEq, Eq)]
+pub struct DataAt {
+    pub start: usize,
+    pub length: usize,
+}
+
+/// Where a parameter's value lies (Rule 1.8).
+#[repr(C)]
+#[derive(Clone, Copy, Debug, PartialEq, Eq)]
+pub struct ParamAt {
+    pub found: u32,
+    pub start: usize,
+    pub length: usize,
+}
+
+/// What a question about a state answers (Rules 5.17, 5.18).
+#[repr(C)]
+#[derive(Clone, Copy, Debug, PartialEq, Eq)]
+pub struct Answer {
+    pub code: u32,
+    pub value: u32,
+}
+
+/// The recovery times to start and to stop (Rule 5.19).
+#[repr(C)]
+#[derive(Clone, Copy, Debug, PartialEq, Eq)]
+pub struct Waits {
+    pub began: [u8; 16],
+    pub ended: [u8; 16],
+}
+
 extern "C" {
+    pub fn m2ua_abi() -> u32;
+    pub fn m2ua_data(msg: *const u8, len: usize) -> DataAt;
+    pub fn m2ua_parameter(msg: *const u8, len: usize, tag: u16) -> ParamAt;
+    pub fn m2ua_as_state(g: Gateway, r#as: usize) -> Answer;
+    pub fn m2ua_link_place(g: Gateway, id: u32) -> Answer;
+    pub fn m2ua_waits(before: Gateway, after: Gateway) -> Waits;
     pub fn m2ua_read(msg: *const u8, len: usize) -> Reading;
     pub fn m2ua_write(
         class: u8,
@@ -336,6 +375,36 @@ pub fn write(
     }
 }
 
+pub fn abi() -> u32 {
+    // SAFETY: it has no arguments.
+    unsafe { m2ua_abi() }
+}
+
+pub fn data(msg: &[u8]) -> DataAt {
+    // SAFETY: as in `read`.
+    unsafe { m2ua_data(msg.as_ptr(), msg.len()) }
+}
+
+pub fn parameter(msg: &[u8], tag: u16) -> ParamAt {
+    // SAFETY: as in `read`.
+    unsafe { m2ua_parameter(msg.as_ptr(), msg.len(), tag) }
+}
+
+pub fn as_state(g: &Gateway, r#as: usize) -> Answer {
+    // SAFETY: as in `is_sound`.
+    unsafe { m2ua_as_state(*g, r#as) }
+}
+
+pub fn link_place(g: &Gateway, id: u32) -> Answer {
+    // SAFETY: as in `is_sound`.
+    unsafe { m2ua_link_place(*g, id) }
+}
+
+pub fn waits(before: &Gateway, after: &Gateway) -> Waits {
+    // SAFETY: as in `is_sound`.
+    unsafe { m2ua_waits(*before, *after) }
+}
+
 pub fn load(file: &[u8]) -> Loaded {
     // SAFETY: as in `read`.
     unsafe { m2ua_load(file.as_ptr(), file.len()) }
@@ -411,10 +480,16 @@ pub fn orders(
 }
 
 // The structs as the library was compiled for. tools/header-check writes these lines anew (--write).
+const _: () = assert!(size_of::<Answer>() == 8);
+const _: () = assert!(offset_of!(Answer, code) == 0);
+const _: () = assert!(offset_of!(Answer, value) == 4);
 const _: () = assert!(size_of::<Batch>() == 24);
 const _: () = assert!(offset_of!(Batch, code) == 0);
 const _: () = assert!(offset_of!(Batch, count) == 8);
 const _: () = assert!(offset_of!(Batch, length) == 16);
+const _: () = assert!(size_of::<DataAt>() == 16);
+const _: () = assert!(offset_of!(DataAt, start) == 0);
+const _: () = assert!(offset_of!(DataAt, length) == 8);
 const _: () = assert!(size_of::<Gateway>() == 1396);
 const _: () = assert!(offset_of!(Gateway, asps) == 0);
 const _: () = assert!(offset_of!(Gateway, ases) == 1);
@@ -435,6 +510,10 @@ const _: () = assert!(size_of::<Outcome>() == 1416);
 const _: () = assert!(offset_of!(Outcome, refusal) == 0);
 const _: () = assert!(offset_of!(Outcome, count) == 8);
 const _: () = assert!(offset_of!(Outcome, gateway) == 16);
+const _: () = assert!(size_of::<ParamAt>() == 24);
+const _: () = assert!(offset_of!(ParamAt, found) == 0);
+const _: () = assert!(offset_of!(ParamAt, start) == 8);
+const _: () = assert!(offset_of!(ParamAt, length) == 16);
 const _: () = assert!(size_of::<Reading>() == 48);
 const _: () = assert!(offset_of!(Reading, code) == 0);
 const _: () = assert!(offset_of!(Reading, class) == 4);
@@ -448,6 +527,9 @@ const _: () = assert!(offset_of!(Reading, correlated) == 32);
 const _: () = assert!(offset_of!(Reading, correlation) == 36);
 const _: () = assert!(offset_of!(Reading, state) == 40);
 const _: () = assert!(offset_of!(Reading, retrieval) == 44);
+const _: () = assert!(size_of::<Waits>() == 32);
+const _: () = assert!(offset_of!(Waits, began) == 0);
+const _: () = assert!(offset_of!(Waits, ended) == 16);
 const _: () = assert!(size_of::<Written>() == 16);
 const _: () = assert!(offset_of!(Written, code) == 0);
 const _: () = assert!(offset_of!(Written, length) == 8);

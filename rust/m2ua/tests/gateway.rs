@@ -1,7 +1,7 @@
 //! The samples of docs/RULES.md (11.1 to 11.5) and what lies around them, through the crate.
 use m2ua::{
-    parameters, read, sys, write, Addressee, Event, Gateway, LinkState, MessageType, Order, Orders,
-    Parameter, TrafficMode,
+    parameter, parameters, protocol_data, read, sys, write, Addressee, AsState, Event, Gateway,
+    LinkState, MessageType, Order, Orders, Parameter, TrafficMode,
 };
 
 const M: [u8; 28] = [
@@ -360,4 +360,71 @@ fn states_may_go_to_other_threads() {
         threads.into_iter().map(|t| t.join().unwrap()).collect()
     });
     assert_eq!(counts, [2, 2, 2]);
+}
+
+#[test]
+fn what_a_host_asks_beside_the_events() {
+    assert_eq!(m2ua::abi(), sys::ABI);
+    let mut g = plan_s();
+    assert_eq!(
+        (g.link_place(100), g.link_place(200), g.link_place(116)),
+        (Some(0), Some(16), None)
+    );
+    assert_eq!((g.as_state(0), g.as_state(2)), (Some(AsState::Down), None));
+    let (up, active) = (bare(MessageType::Up), bare(MessageType::Active));
+    let mut orders = Orders::new();
+    for (event, state, started, stopped) in [
+        (
+            Event::Message {
+                asp: 0,
+                message: &up,
+            },
+            AsState::Inactive,
+            0,
+            0,
+        ),
+        (
+            Event::Message {
+                asp: 0,
+                message: &active,
+            },
+            AsState::Active,
+            0,
+            0,
+        ),
+        (Event::Lost { asp: 0 }, AsState::Pending, 1, 0),
+        (Event::Recovery { r#as: 0 }, AsState::Down, 0, 1),
+    ] {
+        let next = g.event(&event, &mut orders).unwrap();
+        let timers = g.timers(&next);
+        assert_eq!(
+            (timers.started().count(), timers.stopped().count()),
+            (started, stopped),
+            "{event}"
+        );
+        assert!(timers.started().chain(timers.stopped()).all(|a| a == 0));
+        assert_eq!(next.as_state(0), Some(state), "{event}");
+        g = next;
+    }
+    let data = write(
+        MessageType::Data,
+        &[
+            Parameter::new(sys::TAG_INTERFACE_ID, &[0, 0, 0, 100]),
+            Parameter::new(sys::TAG_DATA_2, b"units"),
+        ],
+    )
+    .unwrap();
+    assert_eq!(protocol_data(&data), b"units");
+    assert_eq!(parameter(&data, sys::TAG_DATA_2), Some(&b"units"[..]));
+    assert_eq!(
+        (
+            parameter(&data, sys::TAG_DATA_1),
+            protocol_data(&up),
+            protocol_data(&[])
+        ),
+        (None, &[][..], &[][..])
+    );
+    for p in parameters(&data) {
+        assert_eq!(parameter(&data, p.tag), Some(p.value));
+    }
 }
