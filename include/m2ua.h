@@ -45,7 +45,7 @@ enum {
     M2UA_ORDER_WORDS = 4,    /* words of an order */
     M2UA_MAX_ORDERS = 258,   /* orders of an event */
     M2UA_LIST_WORDS = 1032,  /* words that an event must be lent */
-    M2UA_STACK = 8192        /* bytes of stack that a call takes at most (tools/stack) */
+    M2UA_STACK = 16384       /* bytes of stack that a call takes at most (tools/stack) */
 };
 
 /* Where messages come from: SCTP port and payload protocol identifier of M2UA. */

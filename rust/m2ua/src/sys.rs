@@ -16,7 +16,7 @@ pub const MAX_PLAN: usize = 1240;
 pub const ORDER_WORDS: usize = 4;
 pub const MAX_ORDERS: usize = 258;
 pub const LIST_WORDS: usize = 1032;
-pub const STACK: usize = 8192;
+pub const STACK: usize = 16384;
 
 // Where messages come from: SCTP port and payload protocol identifier of M2UA.
 pub const PORT: u16 = 2904;
