@@ -117,11 +117,12 @@ static void other(const char *what, uint32_t kind, size_t index) { happens(what,
 static void scenario(void) {
     const uint8_t seven[4] = {0, 0, 0, 7}, link100[4] = {0, 0, 0, 100}, link200[4] = {0, 0, 0, 200};
     const uint8_t take[12] = {0, 0, 0, 1, 0, 0, 0, 100, 0, 0, 0, 115};
-    const uint8_t unit[12] = {0, 0, 0, 100, 0x85, 0x01, 0x02, 0x03, 0, 0, 0, 5};
+    /* link 100, a test message of MTP3 as the unit, a correlation id */
+    const uint8_t unit[19] = {0, 0, 0, 100, 0x81, 0x02, 0x40, 0x00, 0x10, 0x11, 0x40, 'T', 'E', 'S', 'T', 0, 0, 0, 5};
     message up = plain(M2UA_CLASS_ASPSM, M2UA_TYPE_UP), active = plain(M2UA_CLASS_ASPTM, M2UA_TYPE_ACTIVE);
     message data = written(M2UA_CLASS_MAUP, M2UA_TYPE_DATA, 3, (const uint16_t[]){M2UA_TAG_INTERFACE_ID, M2UA_TAG_DATA_1, M2UA_TAG_CORRELATION_ID},
-                           (const uint32_t[]){4, 4, 4}, unit);
-    message received = written(M2UA_CLASS_MAUP, M2UA_TYPE_DATA, 2, (const uint16_t[]){M2UA_TAG_INTERFACE_ID, M2UA_TAG_DATA_1}, (const uint32_t[]){4, 4}, unit);
+                           (const uint32_t[]){4, 11, 4}, unit);
+    message received = written(M2UA_CLASS_MAUP, M2UA_TYPE_DATA, 2, (const uint16_t[]){M2UA_TAG_INTERFACE_ID, M2UA_TAG_DATA_1}, (const uint32_t[]){4, 11}, unit);
     asp_sends("left comes up", 0, written(M2UA_CLASS_ASPSM, M2UA_TYPE_UP, 1, (const uint16_t[]){M2UA_TAG_ASP_ID}, (const uint32_t[]){4}, seven));
     asp_sends("left takes links 100 to 115", 0,
               written(M2UA_CLASS_ASPTM, M2UA_TYPE_ACTIVE, 2, (const uint16_t[]){M2UA_TAG_TRAFFIC_MODE, M2UA_TAG_INTERFACE_ID_RANGE}, (const uint32_t[]){4, 8}, take));

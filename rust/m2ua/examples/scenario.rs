@@ -111,7 +111,8 @@ fn scenario(host: &mut Host) -> Result<(), Refusal> {
         (sys::TAG_INTERFACE_ID, &[0, 0, 0, 100][..]),
         (sys::TAG_INTERFACE_ID, &[0, 0, 0, 200][..]),
     );
-    let unit = (sys::TAG_DATA_1, &[0x85, 1, 2, 3][..]);
+    // a test message of MTP3
+    let unit = (sys::TAG_DATA_1, &b"\x81\x02\x40\x00\x10\x11\x40TEST"[..]);
     let identified = message(Up, &[(sys::TAG_ASP_ID, &[0, 0, 0, 7])])?;
     let (up, active, down) = (
         message(Up, &[])?,
