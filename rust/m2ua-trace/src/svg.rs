@@ -2,7 +2,7 @@
 use crate::trace::{Lane, Step, Trace, What};
 use std::fmt::Write;
 
-const LANE: usize = 190;
+const LANE: usize = 270;
 const ROW: usize = 22;
 const TOP: usize = 56;
 
@@ -34,9 +34,9 @@ pub fn picture(trace: &Trace) -> String {
         y += ROW;
         row(&mut rows, step, y);
     }
-    let (width, height) = (LANE * lanes + 180, y + 30);
+    let (width, height) = (90 + LANE * (lanes - 1) + 120, y + 30);
     let mut out = String::new();
-    let _ = writeln!(out, "<svg xmlns=\"http://www.w3.org/2000/svg\" viewBox=\"0 0 {width} {height}\" width=\"{width}\" height=\"{height}\" font-family=\"sans-serif\" font-size=\"11\">");
+    let _ = writeln!(out, "<svg xmlns=\"http://www.w3.org/2000/svg\" viewBox=\"0 0 {width} {height}\" width=\"{width}\" height=\"{height}\" font-family=\"sans-serif\" font-size=\"11\"><style>text {{ paint-order: stroke; stroke: white; stroke-width: 3px; }}</style>");
     let _ = writeln!(out, "<defs><marker id=\"to\" viewBox=\"0 0 8 8\" refX=\"8\" refY=\"4\" markerWidth=\"8\" markerHeight=\"8\" orient=\"auto\"><path d=\"M0 0L8 4L0 8z\"/></marker></defs>");
     let _ = writeln!(
         out,
@@ -70,12 +70,8 @@ fn row(out: &mut String, step: &Step, y: usize) {
                 ""
             };
             let _ = writeln!(out, "<line x1=\"{a}\" y1=\"{y}\" x2=\"{b}\" y2=\"{y}\" stroke=\"black\"{dash} marker-end=\"url(#to)\"/>");
-            let middle = if a.min(b) == x(Lane::Gateway) {
-                a.min(b) + 8
-            } else {
-                a.min(b) + 6
-            };
-            let _ = writeln!(out, "<text x=\"{middle}\" y=\"{}\">{label}</text>", y - 4);
+            let start = a.min(b) + 12;
+            let _ = writeln!(out, "<text x=\"{start}\" y=\"{}\">{label}</text>", y - 4);
         }
         What::Lost(p) => {
             let (a, b) = (x(Lane::Gateway), x(Lane::Asp(*p)));
@@ -89,13 +85,13 @@ fn row(out: &mut String, step: &Step, y: usize) {
             let _ = writeln!(
                 out,
                 "<text x=\"{}\" y=\"{}\" fill=\"#c00\">{label}</text>",
-                a + 8,
+                a + 12,
                 y - 4
             );
         }
         What::Note => {
             let at = x(Lane::Gateway);
-            let _ = writeln!(out, "<circle cx=\"{at}\" cy=\"{}\" r=\"3\"/><text x=\"{}\" y=\"{y}\" font-style=\"italic\" fill=\"#036\">{label}</text>", y - 4, at + 8);
+            let _ = writeln!(out, "<circle cx=\"{at}\" cy=\"{}\" r=\"3\"/><text x=\"{}\" y=\"{y}\" font-style=\"italic\" fill=\"#036\">{label}</text>", y - 4, at + 12);
         }
     }
 }
