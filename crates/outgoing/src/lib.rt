@@ -145,19 +145,13 @@ pub fn form_of(passed: bool, o: Action) -> Form
     if ct == MGMT_NOTIFY {
         return list(ct, STATUS, value, subject);
     }
-    if ct == ASP_UP_ACK {
-        return copy(ct, Which::Nothing, Which::Nothing);
-    }
-    if ct == ASP_DOWN_ACK {
+    if (ct == ASP_UP_ACK) | (ct == ASP_DOWN_ACK) {
         return copy(ct, Which::Nothing, Which::Nothing);
     }
     if ct == BEAT_ACK {
         return copy(ct, Which::Heartbeat, Which::Nothing);
     }
-    if ct == ASP_ACTIVE_ACK {
-        return copy(ct, Which::Mode, Which::Ids);
-    }
-    if ct == ASP_INACTIVE_ACK {
+    if (ct == ASP_ACTIVE_ACK) | (ct == ASP_INACTIVE_ACK) {
         return copy(ct, Which::Mode, Which::Ids);
     }
     say(ct, IDS, subject, ct == DATA_ACK, CORRELATION, value)

@@ -1,5 +1,4 @@
-use mathlib.Core.Path.{refl, sym, ap, _∙_}
-use Prim.Native.Nat.{ℕ, _+_, _*_}
+use mathlib.Core.Path.{refl, sym, _∙_}
 use native.Mathlib.Omega.{arith}
 use Rattle.laws.specs.Inner.Choice.{at-yes, at-no, at-eq, at-ne}
 use Rattle.outgoing.specs.Inner.Form.{listedSize}
@@ -14,7 +13,7 @@ returns c = (at-yes _ _ _ (c .before .before .if1 .taken) (at-eq _ _ _ _ (sym (c
 returns-2 : tie.Need-returns-2
 unfolding listedSize
 returns-2 c =
-    (at-yes _ _ _ (c .before .before .if1 .taken) (at-ne _ _ _ _ (λ z. c .if2 .left (c .before .count-owned .ensures .0 ∙ z)) (ap (λ (n : ℕ). 4 + 4 * n) (c .before .count-owned .ensures .0))), omega arith)
+    (at-yes _ _ _ (c .before .before .if1 .taken) (at-ne _ _ _ _ (λ z. c .if2 .left (c .before .count-owned .ensures .0 ∙ z)) (omega (arith, c .before .count-owned .ensures .0))), omega arith)
 
 returns-3 : tie.Need-returns-3
 unfolding listedSize

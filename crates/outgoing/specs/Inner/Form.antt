@@ -130,12 +130,10 @@ formOf passed o =
     cond passed (copying (o .classtype) All Nothing)
     (cond (eqb (o .classtype) mgmtError) (saying (o .classtype) 0xc (o .value) (eqb (o .value) 2) 0x1 (o .subject))
     (cond (eqb (o .classtype) mgmtNotify) (listing (o .classtype) 0xd (o .value) (o .subject))
-    (cond (eqb (o .classtype) aspUpAck) (copying (o .classtype) Nothing Nothing)
-    (cond (eqb (o .classtype) aspDownAck) (copying (o .classtype) Nothing Nothing)
+    (cond (eqb (o .classtype) aspUpAck || eqb (o .classtype) aspDownAck) (copying (o .classtype) Nothing Nothing)
     (cond (eqb (o .classtype) beatAck) (copying (o .classtype) Heartbeat Nothing)
-    (cond (eqb (o .classtype) aspActiveAck) (copying (o .classtype) Mode Ids)
-    (cond (eqb (o .classtype) aspInactiveAck) (copying (o .classtype) Mode Ids)
-    (saying (o .classtype) 0x1 (o .subject) (eqb (o .classtype) dataAck) 0x13 (o .value)))))))))
+    (cond (eqb (o .classtype) aspActiveAck || eqb (o .classtype) aspInactiveAck) (copying (o .classtype) Mode Ids)
+    (saying (o .classtype) 0x1 (o .subject) (eqb (o .classtype) dataAck) 0x13 (o .value)))))))
 
 -- ---- it says what the message has
 
@@ -196,27 +194,23 @@ module _ (g : Gateway) (ps : List Par) (o : Action) where
 
   pub form-reply : formPars (g .iid) (g .owner) (g .links) ps (formOf false o) ≡ replyPars g ps o
   unfolding formOf replyPars
-  form-reply = go (eqb (o .classtype) mgmtError) (eqb (o .classtype) mgmtNotify) (eqb (o .classtype) aspUpAck) (eqb (o .classtype) aspDownAck) (eqb (o .classtype) beatAck) (eqb (o .classtype) aspActiveAck) (eqb (o .classtype) aspInactiveAck)
+  form-reply = go (eqb (o .classtype) mgmtError) (eqb (o .classtype) mgmtNotify) (eqb (o .classtype) aspUpAck || eqb (o .classtype) aspDownAck) (eqb (o .classtype) beatAck) (eqb (o .classtype) aspActiveAck || eqb (o .classtype) aspInactiveAck)
     where
-      go : (e n u d b a i : Bool)
+      go : (e n u b a : Bool)
           → on
           (cond e (saying (o .classtype) 0xc (o .value) (eqb (o .value) 2) 0x1 (o .subject))
           (cond n (listing (o .classtype) 0xd (o .value) (o .subject))
           (cond u (copying (o .classtype) Nothing Nothing)
-          (cond d (copying (o .classtype) Nothing Nothing)
           (cond b (copying (o .classtype) Heartbeat Nothing)
           (cond a (copying (o .classtype) Mode Ids)
-          (cond i (copying (o .classtype) Mode Ids)
-          (saying (o .classtype) 0x1 (o .subject) (eqb (o .classtype) dataAck) 0x13 (o .value)))))))))
-          ≡ cond e (errorPars o) (cond n (notifyPars g o) (cond (u || d) [] (cond b (beatAckPars ps) (cond (a || i) (trafficAckPars ps) (linkPars o)))))
-      go true n u d b a i = error-is
-      go false true u d b a i = notify-is
-      go false false true d b a i = none-is
-      go false false false true b a i = none-is
-      go false false false false true a i = beat-is
-      go false false false false false true i = traffic-is
-      go false false false false false false true = traffic-is
-      go false false false false false false false = link-is
+          (saying (o .classtype) 0x1 (o .subject) (eqb (o .classtype) dataAck) 0x13 (o .value)))))))
+          ≡ cond e (errorPars o) (cond n (notifyPars g o) (cond u [] (cond b (beatAckPars ps) (cond a (trafficAckPars ps) (linkPars o)))))
+      go true n u b a = error-is
+      go false true u b a = notify-is
+      go false false true b a = none-is
+      go false false false true a = beat-is
+      go false false false false true = traffic-is
+      go false false false false false = link-is
 
 -- ---- of an event: the message whose parameters are repeated, and whether it is passed on
 
