@@ -1,3 +1,5 @@
 pub mod Words
 pub mod Refusals
+pub mod Part
 pub mod Batch
+pub mod Ran

@@ -19,7 +19,7 @@ unfoldable pub lentBy : ℕ → List ℕ → List ℕ
 lentBy k s = cond (eqb k messageKind) s (cond (eqb k linkMessageKind) s [])
 
 module _ (k i : ℕ) (s : List ℕ) where
-  kinds : (lentTo (happened k i s) ≡ lentBy k s) × (isPassed (happened k i s) ≡ eqb k linkMessageKind)
+  pub kinds : (lentTo (happened k i s) ≡ lentBy k s) × (isPassed (happened k i s) ≡ eqb k linkMessageKind)
   unfolding lentTo isPassed lentBy
   kinds = go (ℕ-discrete k 0) (ℕ-discrete k 1) (ℕ-discrete k 2) (ℕ-discrete k 3) (ℕ-discrete k 4) (ℕ-discrete k 5)
     where
