@@ -1,12 +1,14 @@
 /* The M2UA side (RFC 3331) of a signalling gateway, for hosts in C and C++. What it does is in docs/RULES.md, to which "Rule" refers; docs/HOST.md is the
  * guide for hosts, m2ua(3) the short one. Link libm2ua.a or -lm2ua (tools/install). tools/header-check compares this file with the proved sources.
  *
+ * It needs C11 or C++11, and a 64-bit x86 machine, for which the library is compiled.
+ *
  * The library is a set of functions over values. It has no state of its own, allocates nothing, opens nothing and never waits; it ends on every input.
  * - Threads: any number of threads may call any function at any time.
  * - Stack: a call takes less than M2UA_STACK bytes, its arguments and result included.
- * - Pointers: a pointer and the count behind it lend so many elements for the time of the call. It is not null and is aligned for its type, also where the
- *   count is 0 (then lend any byte of your own). What is written to (`words`, `out`, `lens` of m2ua_orders) overlaps nothing else that is lent. What is
- *   lent for reading is not changed by anybody during the call, and is never written.
+ * - Pointers: a pointer and the count behind it lend so many elements for the time of the call. It is aligned for its type and not null, also where the count
+ *   is 0: then lend any byte of your own. (That a null with a count of 0 is not touched was tried, and is not proved.) What is written to (`words`, `out`,
+ *   `lens` of m2ua_orders) overlaps nothing else that is lent. What is lent for reading is not changed by anybody during the call, and is never written.
  * - Every value of every other argument is allowed, and answered. A refusal leaves the lent memory and the state as they were.
  * These duties are all that a host has; no call needs another call before it.
  *

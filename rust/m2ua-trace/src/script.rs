@@ -74,7 +74,7 @@ fn bytes(word: &str) -> Result<Vec<u8>, String> {
         return Ok(Vec::new());
     }
     let wrong = || "bytes are pairs of hex digits, or -".to_string();
-    if word.len() % 2 != 0 || !word.bytes().all(|b| b.is_ascii_hexdigit()) {
+    if !word.len().is_multiple_of(2) || !word.bytes().all(|b| b.is_ascii_hexdigit()) {
         return Err(wrong());
     }
     (0..word.len())
