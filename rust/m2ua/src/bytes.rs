@@ -7,7 +7,7 @@ use crate::sys;
 impl Gateway {
     /// Writes the order at a place of an event on this state as the message that goes to its ASP (Rule 8.15), and hands back its length. This is the state before the event,
     /// the one on which [`Gateway::event`] was called. Refused: 102 as the event itself; 104 where there is no such order, or it goes to the link side; 103 where the buffer
-    /// is short. A buffer of 2,048 bytes (`sys::MAX_MESSAGE`) holds every message.
+    /// is short. A buffer of 2,048 bytes (`sys::MAX_MESSAGE`) holds every message. It allocates nothing.
     pub fn order_into(
         &self,
         event: &Event<'_>,
@@ -24,6 +24,21 @@ impl Gateway {
         let mut out = [0; sys::MAX_MESSAGE];
         let length = self.order_into(event, place, &mut out)?;
         Ok(out[..length].to_vec())
+    }
+
+    /// Writes the messages of as many orders, from a place on, as go into a buffer and have a place in `lens`, one behind the other (Rule 8.16): how many orders that were, and how
+    /// many bytes. The length of an order to the link side is 0. Refused: 102 as the event itself; 104 where the place is beyond the orders; 103 where not one goes in. It allocates
+    /// nothing.
+    pub fn orders_into(
+        &self,
+        event: &Event<'_>,
+        place: usize,
+        lens: &mut [u32],
+        out: &mut [u8],
+    ) -> Result<(usize, usize), Refusal> {
+        let (kind, index, message) = event.parts();
+        let batch = sys::orders(&self.state, kind, index, message, place, lens, out);
+        Refusal::check(batch.code).map(|()| (batch.count, batch.length))
     }
 
     /// The messages of all orders of an event on this state, the state before the event, in their sequence; `None` for an order to the link side. They are written many at a

@@ -130,6 +130,73 @@ fn a_notify_names_the_links() {
 }
 
 #[test]
+fn batches() {
+    let mut orders = Orders::new();
+    let mut g = full();
+    let (up, active) = (
+        write(MessageType::Up, &[]).unwrap(),
+        write(MessageType::Active, &[]).unwrap(),
+    );
+    for asp in 0..16 {
+        g = g
+            .event(&Event::Message { asp, message: &up }, &mut orders)
+            .unwrap();
+    }
+    g = g
+        .event(
+            &Event::Message {
+                asp: 0,
+                message: &active,
+            },
+            &mut orders,
+        )
+        .unwrap();
+    let event = Event::Message {
+        asp: 0,
+        message: &up,
+    };
+    let one_by_one: Vec<u8> = g
+        .messages(&event)
+        .flat_map(|m| m.unwrap().unwrap())
+        .collect();
+    // the most that one event sends (docs/HOST.md)
+    assert_eq!(one_by_one.len(), 13336);
+    let (mut lens, mut out) = ([0; sys::MAX_ORDERS], [0; 13337]);
+    assert_eq!(
+        g.orders_into(&event, 0, &mut lens, &mut out),
+        Ok((sys::MAX_ORDERS, 13336))
+    );
+    assert_eq!(out[..13336], one_by_one);
+    // an Up Ack of 8 bytes, an Error of 16, Notifies of 52
+    assert_eq!(
+        g.orders_into(&event, 0, &mut lens, &mut out[..8 + 16 + 2 * 52 + 51]),
+        Ok((4, 128))
+    );
+    assert_eq!(
+        g.orders_into(&event, 0, &mut lens[..3], &mut out),
+        Ok((3, 76))
+    );
+    assert_eq!(
+        g.orders_into(&event, 0, &mut [], &mut out)
+            .unwrap_err()
+            .code(),
+        103
+    );
+    assert_eq!(
+        g.orders_into(&event, 2, &mut lens, &mut out[..51])
+            .unwrap_err()
+            .code(),
+        103
+    );
+    assert_eq!(
+        g.orders_into(&event, 258, &mut lens, &mut out)
+            .unwrap_err()
+            .code(),
+        104
+    );
+}
+
+#[test]
 fn refusals() {
     let g = full();
     let up = write(MessageType::Up, &[]).unwrap();
