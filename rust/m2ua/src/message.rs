@@ -18,6 +18,14 @@ macro_rules! message_types {
             /// Every type, by class and number.
             pub const ALL: &'static [MessageType] = &[$(MessageType::$name,)*];
 
+            /// The type of a class and a number; `None` where there is none.
+            pub fn of(class: u32, number: u32) -> Option<MessageType> {
+                match (u8::try_from(class).ok()?, u8::try_from(number).ok()?) {
+                    $((sys::$class, sys::$number) => Some(MessageType::$name),)*
+                    _ => None,
+                }
+            }
+
             /// Its class.
             pub fn class(self) -> u8 {
                 match self { $(MessageType::$name => sys::$class,)* }
@@ -68,14 +76,6 @@ message_types! {
 }
 
 impl MessageType {
-    /// The type of a class and a number; `None` where there is none.
-    pub fn of(class: u32, number: u32) -> Option<MessageType> {
-        MessageType::ALL
-            .iter()
-            .copied()
-            .find(|t| (u32::from(t.class()), u32::from(t.number())) == (class, number))
-    }
-
     /// As the second word of an order has it: class * 256 + type.
     pub fn word(self) -> u32 {
         u32::from(self.class()) * 256 + u32::from(self.number())
@@ -227,20 +227,50 @@ pub fn write_into(
     parameters: &[Parameter<'_>],
     out: &mut [u8],
 ) -> Result<usize, Refusal> {
-    let tags: Vec<u16> = parameters.iter().map(|p| p.tag).collect();
-    let lens: Vec<u32> = parameters
-        .iter()
-        .map(|p| p.value.len().try_into().unwrap_or(u32::MAX))
-        .collect();
-    let values: Vec<u8> = parameters.iter().flat_map(|p| p.value).copied().collect();
-    let w = sys::write(
-        message.class(),
-        message.number(),
-        &tags,
-        &lens,
-        &values,
+    let count = parameters.len();
+    let bytes: usize = parameters.iter().map(|p| p.value.len()).sum();
+    // most messages are short: no heap for them
+    if count <= FEW && bytes <= SHORT {
+        return lend(
+            message,
+            parameters,
+            &mut [0; FEW][..count],
+            &mut [0; FEW][..count],
+            &mut [0; SHORT][..bytes],
+            out,
+        );
+    }
+    lend(
+        message,
+        parameters,
+        &mut vec![0; count],
+        &mut vec![0; count],
+        &mut vec![0; bytes],
         out,
-    );
+    )
+}
+
+const FEW: usize = 8;
+const SHORT: usize = 320;
+
+/// Fills the three lists that the writer is lent (Rule 3.2), and writes.
+fn lend(
+    message: MessageType,
+    parameters: &[Parameter<'_>],
+    tags: &mut [u16],
+    lens: &mut [u32],
+    values: &mut [u8],
+    out: &mut [u8],
+) -> Result<usize, Refusal> {
+    let mut at = 0;
+    for (i, p) in parameters.iter().enumerate() {
+        tags[i] = p.tag;
+        // a value of 4 GB or more makes the list not whole, and any longer than 2,040 bytes is refused with the same number
+        lens[i] = p.value.len().try_into().unwrap_or(u32::MAX);
+        values[at..at + p.value.len()].copy_from_slice(p.value);
+        at += p.value.len();
+    }
+    let w = sys::write(message.class(), message.number(), tags, lens, values, out);
     Refusal::check(w.code).map(|()| w.length)
 }
 
@@ -254,7 +284,12 @@ pub fn write_into(
 /// # Ok::<(), m2ua::Refusal>(())
 /// ```
 pub fn write(message: MessageType, parameters: &[Parameter<'_>]) -> Result<Vec<u8>, Refusal> {
-    let mut out = [0; sys::MAX_MESSAGE];
+    let size: usize = 8 + parameters
+        .iter()
+        .map(|p| 4 + p.value.len().next_multiple_of(4))
+        .sum::<usize>();
+    let mut out = vec![0; size.min(sys::MAX_MESSAGE)];
     let length = write_into(message, parameters, &mut out)?;
-    Ok(out[..length].to_vec())
+    out.truncate(length);
+    Ok(out)
 }

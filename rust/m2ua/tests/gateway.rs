@@ -428,3 +428,49 @@ fn what_a_host_asks_beside_the_events() {
         assert_eq!(parameter(&data, p.tag), Some(p.value));
     }
 }
+
+#[test]
+fn long_lists_are_written_too() {
+    // ten parameters, then one of 2,000 bytes, then too many bytes and too many parameters
+    let id = [0, 0, 0, 100];
+    let ids = vec![Parameter::new(sys::TAG_INTERFACE_ID, &id); 510];
+    let active = write(MessageType::Active, &ids[..10]).unwrap();
+    assert_eq!((active.len(), parameters(&active).count()), (88, 10));
+    let beat = write(
+        MessageType::Beat,
+        &[Parameter::new(sys::TAG_HEARTBEAT, &[7; 2000])],
+    )
+    .unwrap();
+    assert_eq!(
+        (
+            beat.len(),
+            parameter(&beat, sys::TAG_HEARTBEAT).map(<[u8]>::len)
+        ),
+        (2012, Some(2000))
+    );
+    assert_eq!(
+        write(
+            MessageType::Beat,
+            &[Parameter::new(sys::TAG_HEARTBEAT, &[7; 2036])]
+        )
+        .unwrap()
+        .len(),
+        2048
+    );
+    for bytes in [2037, 2041, 65532, 70000] {
+        assert_eq!(
+            write(
+                MessageType::Beat,
+                &[Parameter::new(sys::TAG_HEARTBEAT, &vec![7; bytes])]
+            )
+            .unwrap_err()
+            .code(),
+            7
+        );
+    }
+    assert_eq!(write(MessageType::Active, &ids[..255]).unwrap().len(), 2048);
+    assert_eq!(
+        write(MessageType::Active, &ids[..256]).unwrap_err().code(),
+        7
+    );
+}
