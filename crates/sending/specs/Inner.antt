@@ -3,3 +3,4 @@ pub mod Refusals
 pub mod Part
 pub mod Batch
 pub mod Ran
+pub mod Many

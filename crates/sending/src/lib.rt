@@ -3,15 +3,19 @@ use action::Action;
 use encode::Written;
 use events::m2ua_event;
 use gateway::Gateway;
+use outgoing::Batch;
 ghost use mathlib.Core.Path.{_≡_};
-ghost use Prim.Native.Nat.{_+_, _<_, _≤_};
+ghost use Prim.Native.Nat.{ℕ, _+_, _<_, _≤_};
+ghost use lib.Dec.{leb};
 ghost use lib.ListN.{length};
 ghost use Rattle.put.specs.Bytes.{overlay};
 ghost use Rattle.ask.specs.Happened.{happened};
-ghost use Rattle.outgoing.specs.Send.{Sends};
+ghost use Rattle.outgoing.specs.Send.{Sends, SendsMany};
 ghost use Rattle.outgoing.specs.Inner.Kinds.{lentBy};
 ghost use Rattle.sending.specs.Inner.Words.{actionIn};
-ghost use Rattle.sending.specs.Inner.Part.{partOf};
+ghost use Rattle.sending.specs.Inner.Part.{partOf, partIn};
+ghost use Rattle.sending.specs.Inner.Batch.{Ended};
+ghost use Rattle.sending.specs.Inner.Many.{batchOf};
 
 // A buffer that is short; no action at the place that goes to an ASP.
 const SHORT_BUFFER: u32 = 103;
@@ -143,4 +147,123 @@ pub extern "C" fn m2ua_order(
         code: 0,
         length: size,
     }
+}
+
+// How far a batch came: actions gone through, bytes written.
+struct Reached {
+    count: usize,
+    length: usize,
+}
+
+// From a place on what is written for each action, one behind the other, and its length: up to the last action, the last length of the list, or the first message
+// that does not go in.
+fn put_many<'a>(
+    words: &[u32; 1032],
+    count: usize,
+    place: usize,
+    passed: bool,
+    msg: &[u8],
+    iid: &'a [u32; 128],
+    owner: &'a [u8; 128],
+    links: usize,
+    lens: &mut [u32],
+    out: &mut [u8],
+) -> Reached
+    requires { ⌜ (count ≤ 258) × (place < count) × (links ≤ 128) × ((j : ℕ) → length (partIn (now iid) (now owner) links (now msg) passed (now words) count j) ≤ 2048) ⌝ }
+    ensures few { λ r. ⌜ place + r .count ≤ count ⌝ }
+    ensures ended { λ r. ⌜ Ended (λ j. partIn (now (iid .entry)) (now (owner .entry)) links (now (msg .entry)) passed (now (words .entry)) count (place + j)) (λ m. leb count (place + m)) (now (lens .entry)) (now (out .entry)) (r .count) (r .length) (now (lens .exit)) (now (out .exit)) ⌝ }
+{
+    let mut n: usize = 0;
+    let mut at: usize = 0;
+    loop {
+        if count <= place + n {
+            return Reached {
+                count: n,
+                length: at,
+            };
+        }
+        if lens.len() <= n {
+            return Reached {
+                count: n,
+                length: at,
+            };
+        }
+        let o = action_at(words, place + n);
+        let size = part_size(o, passed, msg, iid, owner, links);
+        if out.len() - at < size {
+            return Reached {
+                count: n,
+                length: at,
+            };
+        }
+        put_part(o, size, passed, msg, iid, owner, links, out, at);
+        lens[n] = size as u32;
+        at += size;
+        n += 1;
+    }
+}
+
+// What is handed back of a batch: 103 where not one action went in.
+fn batch_of(r: Reached) -> Batch
+    ensures { λ b. ⌜ b ≡ batchOf (r .count) (r .length) ⌝ }
+{
+    if r.count == 0 {
+        return Batch {
+            code: SHORT_BUFFER,
+            count: 0,
+            length: 0,
+        };
+    }
+    Batch {
+        code: 0,
+        count: r.count,
+        length: r.length,
+    }
+}
+
+// From a place of an event's actions on, the messages of as many as go into a buffer, and the length of each (Rule 8.16): the event is run once.
+#[no_mangle]
+pub extern "C" fn m2ua_orders(
+    g: Gateway,
+    kind: u32,
+    i: usize,
+    msg: &[u8],
+    place: usize,
+    lens: &mut [u32],
+    out: &mut [u8],
+) -> Batch
+    ensures { λ r. ⌜ SendsMany g (happened kind i (now (msg .entry))) place (now (lens .entry)) (now (out .entry)) r (now (lens .exit)) (now (out .exit)) ⌝ }
+{
+    let mut words = [0u32; 1032];
+    let done = m2ua_event(g, kind, i, msg, &mut words);
+    if done.refusal != 0 {
+        return Batch {
+            code: done.refusal,
+            count: 0,
+            length: 0,
+        };
+    }
+    if done.count <= place {
+        return Batch {
+            code: NO_SUCH_ACTION,
+            count: 0,
+            length: 0,
+        };
+    }
+    let links = gateway::wide(g.links);
+    let lent = received(kind, msg);
+    let passed = kind == ask::LINK_MESSAGE;
+    let reached = put_many(
+        &words,
+        done.count,
+        place,
+        passed,
+        lent,
+        &g.iid,
+        &g.owner,
+        links,
+        lens,
+        out,
+    );
+    batch_of(reached)
 }

@@ -89,3 +89,8 @@ module _ {part : ℕ → List ℕ} {all : ℕ → Bool} {lens₀ out₀ : List �
   pub ends-room : length out₀ < at + length (part n) → endsIn part all (length lens₀) (length out₀) n ≡ true
   unfolding endsIn
   ends-room q = or-right (all n) _ (or-right (leb (length lens₀) n) _ (rw longer (lt-ltb (length out₀) (at + length (part n)) q)))
+
+-- a loop that has ended: n parts are written, and no further one goes in
+pub record Ended (part : ℕ → List ℕ) (all : ℕ → Bool) (lens₀ out₀ : List ℕ) (n at : ℕ) (lens out : List ℕ) : Type 0 where
+  pub filled : Filled part all lens₀ out₀ n at lens out
+  pub ends-there : endsIn part all (length lens₀) (length out₀) n ≡ true

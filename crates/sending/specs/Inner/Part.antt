@@ -42,6 +42,10 @@ partOf iid owner n s passed o =
 unfoldable pub partIn : List ℕ → List ℕ → ℕ → List ℕ → Bool → List ℕ → ℕ → ℕ → List ℕ
 partIn iid owner n s passed ws count j = cond (ltb j count) (partOf iid owner n s passed (actionIn ws j)) []
 
+pub part-of : (iid owner : List ℕ) (n : ℕ) (s : List ℕ) (passed : Bool) (ws : List ℕ) (count j : ℕ) (o : Action) → j < count → o ≡ actionIn ws j → partOf iid owner n s passed o ≡ partIn iid owner n s passed ws count j
+unfolding partIn
+part-of iid owner n s passed ws count j o h e = rw (lt-ltb j count h) (ap (partOf iid owner n s passed) e)
+
 -- class and type of a form are the action's
 abbrev HeadOf : ℕ → Form → Type 0
 HeadOf ct f = (f .class ≡ classOf ct) × (f .msgtype ≡ typeOf ct)
