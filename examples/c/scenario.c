@@ -76,8 +76,9 @@ static size_t place_of(uint32_t id) {
 
 /* An event: its orders in words, then as bytes, which come from the state before the event; then what has changed. */
 static void happens(const char *what, uint32_t kind, size_t index, const uint8_t *msg, size_t len) {
-    static uint32_t words[M2UA_LIST_WORDS], lens[8];
-    static uint8_t out[M2UA_MAX_MESSAGE], single[M2UA_MAX_MESSAGE];
+    /* each call of m2ua_orders runs the event again: with so much room one is enough, or two */
+    static uint32_t words[M2UA_LIST_WORDS], lens[M2UA_MAX_ORDERS];
+    static uint8_t out[16384], single[M2UA_MAX_MESSAGE];
     char line[128];
     printf("%s\n", what);
     m2ua_outcome r = m2ua_event(gateway, kind, index, msg, len, words, M2UA_LIST_WORDS);
@@ -87,7 +88,7 @@ static void happens(const char *what, uint32_t kind, size_t index, const uint8_t
     }
     m2ua_batch b;
     for (size_t place = 0; place < r.count; place += b.count) {
-        b = m2ua_orders(gateway, kind, index, msg, len, place, lens, 8, out, sizeof out);
+        b = m2ua_orders(gateway, kind, index, msg, len, place, lens, M2UA_MAX_ORDERS, out, sizeof out);
         if (b.code) fail("m2ua_orders", b.code);
         const uint8_t *next = out;
         for (size_t j = 0; j < b.count; next += lens[j++]) {

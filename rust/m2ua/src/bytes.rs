@@ -64,19 +64,19 @@ impl Gateway {
             gateway: self,
             event: *event,
             place: 0,
-            lens: [0; BATCH],
+            lens: vec![0; FIRST],
             count: 0,
             taken: 0,
-            out: Box::new([0; ROOM]),
+            out: vec![0; sys::MAX_MESSAGE],
             at: 0,
             ended: false,
         }
     }
 }
 
-/// How many orders, and bytes of them, are written by one call.
-const BATCH: usize = 16;
-const ROOM: usize = 4 * sys::MAX_MESSAGE;
+/// How many orders, and bytes of them, are written by one call: few at first, for most events have few; then all that there may be, since each call runs the event again.
+const FIRST: usize = 4;
+const ROOM: usize = 16384;
 
 /// See [`Gateway::messages`].
 #[derive(Clone, Debug)]
@@ -86,10 +86,10 @@ pub struct Messages<'a> {
     /// The first order that is not in the batch.
     place: usize,
     /// The batch: the lengths of `count` messages, of which `taken` are handed out, and the bytes from `at` on.
-    lens: [u32; BATCH],
+    lens: Vec<u32>,
     count: usize,
     taken: usize,
-    out: Box<[u8; ROOM]>,
+    out: Vec<u8>,
     at: usize,
     ended: bool,
 }
@@ -97,6 +97,10 @@ pub struct Messages<'a> {
 impl Messages<'_> {
     /// The next batch; `false` where there are no more orders.
     fn refill(&mut self) -> Result<bool, Refusal> {
+        if self.place != 0 {
+            self.lens.resize(sys::MAX_ORDERS, 0);
+            self.out.resize(ROOM, 0);
+        }
         let (kind, index, message) = self.event.parts();
         let batch = sys::orders(
             &self.gateway.state,
@@ -105,7 +109,7 @@ impl Messages<'_> {
             message,
             self.place,
             &mut self.lens,
-            &mut self.out[..],
+            &mut self.out,
         );
         if batch.code == sys::REFUSED_ORDER {
             return Ok(false);

@@ -159,7 +159,6 @@ fn batches() {
         .messages(&event)
         .flat_map(|m| m.unwrap().unwrap())
         .collect();
-    // the most that one event sends (docs/HOST.md)
     assert_eq!(one_by_one.len(), 13336);
     let (mut lens, mut out) = ([0; sys::MAX_ORDERS], [0; 13337]);
     assert_eq!(
