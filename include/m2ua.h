@@ -392,7 +392,8 @@ typedef struct {
  * Answers: `code` 0, the number of orders and of bytes, what lies behind them in `lens` and `out` unchanged; or, in this order: M2UA_REFUSED_STATE and
  * M2UA_REFUSED_PLACE as above; M2UA_REFUSED_ORDER, a place beyond the orders; M2UA_REFUSED_BUFFER, not one goes in. Refused: zeros, nothing changed.
  * With M2UA_MAX_MESSAGE bytes and one length or more at least one goes in, so that this sends all:
- *     for (place = 0; place < count; place += b.count) b = m2ua_orders(.., place, ..); */
+ *     for (place = 0; place < count; place += b.count) b = m2ua_orders(.., place, ..);
+ * Each call runs the event again: lend room for all, M2UA_MAX_ORDERS lengths and 16,384 bytes (docs/HOST.md has the times). */
 m2ua_batch m2ua_orders(m2ua_gateway g, uint32_t kind, size_t index, const uint8_t *msg, size_t len, size_t place, uint32_t *lens, size_t len_count, uint8_t *out,
                        size_t out_bytes);
 
