@@ -1,6 +1,6 @@
 -- The table of members, which two loops fill.
 -- Assumes nothing.
-use Prim.Native.Nat.{ℕ, _+_, _*_, _/_, _%_, _<_}
+use Prim.Native.Nat.{ℕ, _+_, _*_, _/_, _%_, _<_, _≤_}
 use mathlib.Core.Path.{_≡_}
 use mathlib.Core.List.{List}
 use native.Mathlib.Omega.{arith}
@@ -24,3 +24,16 @@ bit-at mask a q h =
     let d : (a * 16 + q) / 16 ≡ a = omega arith in
     let m : (a * 16 + q) % 16 ≡ q = omega arith in
     rw (d, m)
+
+-- the places of row a, one after the other. (Said here, since a proof in the middle of a loop's body has too many facts to choose from.)
+pub row-start : (a : ℕ) → a * 16 ≡ a * 16 + 0
+row-start a = omega arith
+
+pub row-next : (a q : ℕ) → a * 16 + q + 1 ≡ a * 16 + (q + 1)
+row-next a q = omega arith
+
+pub row-in : (a q : ℕ) → a < 16 → q < 16 → a * 16 + q < 256
+row-in a q h b = omega arith
+
+pub row-end : (a q : ℕ) → 16 ≤ q → q ≤ 16 → a * 16 + q ≡ (a + 1) * 16
+row-end a q h b = omega arith

@@ -7,9 +7,9 @@ ghost use lib.ListN.{length};
 ghost use Rattle.laws.specs.Below.{allBelow};
 ghost use Rattle.laws.specs.Columns.{numberAt};
 ghost use Rattle.laws.specs.Inner.Columns.{HalfCol};
-ghost use Rattle.config.specs.Plan.{offset, count, layoutOk, column, asWords, linkWords, rowsOk, bit, bitsFrom, high, low, members, fresh, accepted, built, loadOf};
-ghost use Rattle.config.specs.Inner.Layout.{Inside, placesOf};
-ghost use Rattle.config.specs.Inner.Tables.{wordOf, RowsIn, AllIn, highs, lows};
+ghost use Rattle.config.specs.Plan.{offset, count, layoutOk, column, bit, bitsFrom, high, low, members, loadOf};
+ghost use Rattle.config.specs.Inner.Layout.{Inside, placesOf, rowsAt, stateAt, AllBytes, codeOf, takenOf, made};
+ghost use Rattle.config.specs.Inner.Tables.{wordOf, RowsIn, AllIn, floorOf};
 use gateway::Gateway;
 
 const CONTENTS: usize = 24;
@@ -108,30 +108,51 @@ fn fill_bytes(s: &[u8], at: usize, row: usize, n: usize, out: &mut [u8])
     }
 }
 
-// ---- the conditions on rows (Rule 4.5)
+// ---- the conditions on rows (Rule 4.5), asked of the file's words: a refused file needs no table
 
-// The words of n rows are from least on, and below an end.
-fn all_in(s: &[u8], at: usize, row: usize, n: usize, least: u32, end: u32) -> bool
-    requires { ⌜ RowsIn (length (now s)) at row n ⌝ }
-    ensures { λ r. ⌜ r ≡ allBelow (λ i. leb least (wordOf (now (s .entry)) at row i) && ltb (wordOf (now (s .entry)) at row i) end) n ⌝ }
+fn modes_ok(s: &[u8], at: usize, ases: usize) -> bool
+    requires { ⌜ RowsIn (length (now s)) at 4 ases ⌝ }
+    ensures { λ r. ⌜ r ≡ allBelow (λ a. leb 1 (wordOf (now (s .entry)) at 4 a) && leb (wordOf (now (s .entry)) at 4 a) 3) ases ⌝ }
 {
     let mut ok = true;
-    for i in 0..n {
-        let x = wire::get32(s, at + row * i);
-        ok = ok & ((least <= x) & (x < end));
+    for a in 0..ases {
+        let x = wire::get32(s, at + AS_ROW * a);
+        ok = ok & ((1 <= x) & (x <= 3));
     }
     ok
 }
 
 // The second word of an ASP's row: its mask, then the spare.
-fn masks_ok(second: &[u32; 16], asps: usize, ases: u32) -> bool
-    requires { ⌜ (asps ≤ 16) × (ases ≤ 16) ⌝ }
-    ensures { λ r. ⌜ r ≡ allBelow (λ p. eqb (bitsFrom (high (numberAt (now (second .entry)) p)) ases) 0 && eqb (low (numberAt (now (second .entry)) p)) 0) asps ⌝ }
+fn masks_ok(s: &[u8], at: usize, asps: usize, ases: u32) -> bool
+    requires { ⌜ RowsIn (length (now s)) at 8 asps × (ases ≤ 16) ⌝ }
+    ensures { λ r. ⌜ r ≡ allBelow (λ p. eqb (bitsFrom (high (wordOf (now (s .entry)) at 8 p)) ases) 0 && eqb (low (wordOf (now (s .entry)) at 8 p)) 0) asps ⌝ }
 {
     let mut ok = true;
     for p in 0..asps {
-        let x = second[p];
+        let x = wire::get32(s, at + ASP_ROW * p);
         ok = ok & (((x / 65536) >> ases == 0) & (x % 65536 == 0));
+    }
+    ok
+}
+
+fn long(x: u32) -> u64
+    ensures { λ r. ⌜ (r ≡ x) × (r < 4294967296) ⌝ }
+{
+    x as u64
+}
+
+// Identifiers that ascend, each at least one more than the one before it, and owners: both of a row in one pass.
+fn links_ok(s: &[u8], at: usize, links: usize, ases: u32) -> bool
+    requires { ⌜ (links ≤ 128) × (at + 8 * links ≤ length (now s)) ⌝ }
+    ensures { λ r. ⌜ r ≡ allBelow (λ l. leb (floorOf (wordOf (now (s .entry)) at 8) l) (wordOf (now (s .entry)) at 8 l) && ltb (wordOf (now (s .entry)) (at + 4) 8 l) ases) links ⌝ }
+{
+    let mut ok = true;
+    let mut least: u64 = 0;
+    for l in 0..links {
+        let id = long(wire::get32(s, at + LINK_ROW * l));
+        let owner = wire::get32(s, at + 4 + LINK_ROW * l);
+        ok = ok & ((least <= id) & (owner < ases));
+        least = id + 1;
     }
     ok
 }
@@ -146,23 +167,50 @@ pub struct Places {
     pub z: usize,
 }
 
-fn rows_ok<'a>(
-    s: &[u8],
-    t: Places,
-    aspid: &'a [u32; 16],
-    second: &'a [u32; 16],
-    iid: &'a [u32; 128],
-) -> bool
+fn rows_ok(s: &[u8], t: Places) -> bool
     requires { ⌜ Inside t (length (now s)) ⌝ }
-    ensures { λ r. ⌜ r ≡ rowsOk (t .asps) (t .ases) (t .links) (now (aspid .entry)) (highs (now (second .entry))) (lows (now (second .entry))) (asWords (now (s .entry)) (t .y) (t .ases)) (now (iid .entry)) (linkWords (now (s .entry)) (t .z + 4) (t .links)) ⌝ }
+    ensures { λ r. ⌜ r ≡ rowsAt (now (s .entry)) t ⌝ }
 {
     let m = t.ases as u32;
-    let traffic = all_in(s, t.y, AS_ROW, t.ases, 1, 4);
-    let masked = masks_ok(second, t.asps, m);
-    let differ = gateway::all_new(aspid, t.asps);
-    let order = gateway::ascending(iid, t.links);
-    let owned = all_in(s, t.z + 4, LINK_ROW, t.links, 0, m);
-    (traffic & masked) & (differ & (order & owned))
+    let traffic = modes_ok(s, t.y, t.ases);
+    let masked = masks_ok(s, t.x + 4, t.asps, m);
+    let aspid = words_16(s, t.x, ASP_ROW, t.asps);
+    let differ = gateway::all_new(&aspid, t.asps);
+    let linked = links_ok(s, t.z, t.links, m);
+    (traffic & masked) & (differ & linked)
+}
+
+fn places_of(s: &[u8]) -> Places
+    requires { ⌜ layoutOk (now s) ≡ true ⌝ }
+    ensures { λ r. ⌜ r ≡ placesOf (now (s .entry)) ⌝ }
+{
+    let n = count_of(s, 0);
+    let m = count_of(s, 1);
+    let k = count_of(s, 2);
+    let x = offset_of(s, 0);
+    let y = offset_of(s, 1);
+    let z = offset_of(s, 2);
+    Places {
+        asps: n,
+        ases: m,
+        links: k,
+        x: x,
+        y: y,
+        z: z,
+    }
+}
+
+fn code_of(s: &[u8]) -> u32
+    ensures { λ r. ⌜ r ≡ codeOf (now (s .entry)) ⌝ }
+{
+    if !laid_out(s) {
+        return 201;
+    }
+    let t = places_of(s);
+    if !rows_ok(s, t) {
+        return 202;
+    }
+    0
 }
 
 // ---- the fresh state (Rule 4.6)
@@ -174,8 +222,7 @@ fn bit_of(mask: u16, a: u16) -> u8
     ((mask >> a) % 2) as u8
 }
 
-// The masks of n rows: the upper halves of the words from a position on. They are read from the file once more, since
-// the table of members is made in fewer steps from 16 bits, and halves of a table of words are compiled as words.
+// The masks of n rows: the upper halves of the words from a position on, in 16 bits, of which the table of members is made in fewer steps.
 fn masks_of(s: &[u8], at: usize, n: usize) -> [u16; 16]
     requires { ⌜ (n ≤ 16) × RowsIn (length (now s)) at 8 n ⌝ }
     ensures { λ r. ⌜ r ≡ column 16 n (λ p. high (wordOf (now (s .entry)) at 8 p)) ⌝ }
@@ -199,9 +246,29 @@ fn members_of(mask: &[u16; 16]) -> [u8; 256]
     r
 }
 
-fn build<'a>(s: &[u8], t: Places, aspid: &'a [u32; 16], iid: &'a [u32; 128]) -> Loaded
-    requires { ⌜ Inside t (length (now s)) × AllIn (wordOf (now s) (t .y) 4) (t .ases) 256 × AllIn (wordOf (now s) (t .z + 4) 8) (t .links) 256 ⌝ }
-    ensures { λ r. ⌜ r ≡ accepted (fresh (t .asps) (t .ases) (t .links) (now (aspid .entry)) (column 16 (t .asps) (λ p. high (wordOf (now (s .entry)) (t .x + 4) 8 p))) (asWords (now (s .entry)) (t .y) (t .ases)) (now (iid .entry)) (linkWords (now (s .entry)) (t .z + 4) (t .links))) ⌝ }
+// The rows that are taken over: of a refused file none, so that every table is zeros.
+fn taken(s: &[u8], code: u32) -> Places
+    requires { ⌜ (code ≡ 0 → layoutOk (now s) ≡ true) ⌝ }
+    ensures { λ r. ⌜ r ≡ takenOf (now (s .entry)) code ⌝ }
+{
+    if code != 0 {
+        return Places {
+            asps: 0,
+            ases: 0,
+            links: 0,
+            x: 0,
+            y: 0,
+            z: 0,
+        };
+    }
+    places_of(s)
+}
+
+// One way for accepted and refused files: where two ways build a state, the compiler makes it in a place of its own and copies it out by parts that do
+// not fit one another.
+fn build(s: &[u8], t: Places, code: u32) -> Loaded
+    requires { ⌜ Inside t (length (now s)) × AllBytes (now s) t ⌝ }
+    ensures { λ r. ⌜ r ≡ made code (stateAt (now (s .entry)) t) ⌝ }
 {
     let mask = masks_of(s, t.x + 4, t.asps);
     let member = members_of(&mask);
@@ -209,86 +276,31 @@ fn build<'a>(s: &[u8], t: Places, aspid: &'a [u32; 16], iid: &'a [u32; 128]) -> 
     fill_bytes(s, t.y, AS_ROW, t.ases, &mut modes);
     let mut owners = [0u8; 128];
     fill_bytes(s, t.z + 4, LINK_ROW, t.links, &mut owners);
-    let asp_ids = *aspid;
-    let link_ids = *iid;
+    let aspid = words_16(s, t.x, ASP_ROW, t.asps);
+    let iid = words_128(s, t.z, LINK_ROW, t.links);
     Loaded {
-        code: 0,
+        code: code,
         gateway: Gateway {
             asps: t.asps as u8,
             ases: t.ases as u8,
             links: t.links as u8,
-            aspid: asp_ids,
+            aspid: aspid,
             up: [0; 16],
             member: member,
             active: [0; 256],
             mode: modes,
             waiting: [0; 16],
-            iid: link_ids,
+            iid: iid,
             owner: owners,
             state: [0; 128],
         },
     }
 }
 
-// The answer to a file that is laid out well.
-fn answer<'a>(
-    s: &[u8],
-    t: Places,
-    aspid: &'a [u32; 16],
-    second: &'a [u32; 16],
-    iid: &'a [u32; 128],
-) -> Loaded
-    requires { ⌜ Inside t (length (now s)) × (now second ≡ column 16 (t .asps) (wordOf (now s) (t .x + 4) 8)) ⌝ }
-    ensures { λ r. ⌜ r ≡ built (t .asps) (t .ases) (t .links) (now (aspid .entry)) (highs (now (second .entry))) (lows (now (second .entry))) (asWords (now (s .entry)) (t .y) (t .ases)) (now (iid .entry)) (linkWords (now (s .entry)) (t .z + 4) (t .links)) ⌝ }
-{
-    if !rows_ok(s, t, aspid, second, iid) {
-        return Loaded {
-            code: 202,
-            gateway: Gateway::zeros(),
-        };
-    }
-    build(s, t, aspid, iid)
-}
-
-fn places_of(s: &[u8]) -> Places
-    requires { ⌜ layoutOk (now s) ≡ true ⌝ }
-    ensures { λ r. ⌜ r ≡ placesOf (now (s .entry)) ⌝ }
-{
-    let n = count_of(s, 0);
-    let m = count_of(s, 1);
-    let k = count_of(s, 2);
-    let x = offset_of(s, 0);
-    let y = offset_of(s, 1);
-    let z = offset_of(s, 2);
-    Places {
-        asps: n,
-        ases: m,
-        links: k,
-        x: x,
-        y: y,
-        z: z,
-    }
-}
-
-fn rows(s: &[u8]) -> Loaded
-    requires { ⌜ layoutOk (now s) ≡ true ⌝ }
-    ensures { λ r. ⌜ r ≡ loadOf (now (s .entry)) ⌝ }
-{
-    let t = places_of(s);
-    let aspid = words_16(s, t.x, ASP_ROW, t.asps);
-    let second = words_16(s, t.x + 4, ASP_ROW, t.asps);
-    let iid = words_128(s, t.z, LINK_ROW, t.links);
-    answer(s, t, &aspid, &second, &iid)
-}
-
 pub fn load(file: &[u8]) -> Loaded
     ensures { λ r. ⌜ r ≡ loadOf (now (file .entry)) ⌝ }
 {
-    if !laid_out(file) {
-        return Loaded {
-            code: 201,
-            gateway: Gateway::zeros(),
-        };
-    }
-    rows(file)
+    let code = code_of(file);
+    let t = taken(file, code);
+    build(file, t, code)
 }

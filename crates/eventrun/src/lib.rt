@@ -1,13 +1,16 @@
-// The event that a script's line says: run by the entry of its kind, and what it reaches.
+// The event that a script's line says: run by the entry of its kind, what it reaches, and its actions as bytes.
+use encode::Written;
 use eventline::EventKind;
 use gateway::Gateway;
 use node::Node;
 use rules::Outcome;
 ghost use mathlib.Core.Path.{_≡_};
 ghost use Rattle.ask.specs.Happened.{event, eventOf};
+ghost use Rattle.outgoing.specs.Send.{Sends};
 ghost use Rattle.reach.specs.Reached.{reached};
 ghost use Rattle.rules.specs.Entry.{MeetsRules};
 ghost use Rattle.eventrun.specs.Line.{said};
+ghost use Rattle.eventrun.specs.Inner.Numbers.{numberOf};
 
 // One of the six events, with the index and the message of its line.
 pub fn happen(kind: EventKind, index: u32, msg: &[u8], words: &mut [u32], g: Gateway) -> Outcome
@@ -38,4 +41,32 @@ pub fn reached_by(kind: EventKind, index: u32, msg: &[u8], room: usize, g: Gatew
         EventKind::LinkDown => reach::of_link_down(g, i, room),
         EventKind::LinkMessage => reach::of_link_message(g, msg, room),
     }
+}
+
+// The number that a call says a kind by.
+fn number(kind: EventKind) -> u32
+    ensures { λ r. ⌜ r ≡ numberOf kind ⌝ }
+{
+    match kind {
+        EventKind::Message => ask::MESSAGE,
+        EventKind::Lost => ask::LOST,
+        EventKind::Recovery => ask::RECOVERY,
+        EventKind::LinkUp => ask::LINK_UP,
+        EventKind::LinkDown => ask::LINK_DOWN,
+        EventKind::LinkMessage => ask::LINK_MESSAGE,
+    }
+}
+
+// One of its actions as bytes.
+pub fn written_by(
+    kind: EventKind,
+    index: u32,
+    msg: &[u8],
+    place: u32,
+    out: &mut [u8],
+    g: Gateway,
+) -> Written
+    ensures { λ r. ⌜ Sends g (said kind index (now (msg .entry))) place (now (out .entry)) r (now (out .exit)) ⌝ }
+{
+    sending::m2ua_order(g, number(kind), index as usize, msg, place as usize, out)
 }

@@ -3,6 +3,7 @@
 // A further command is a case of `Command`, a line of `command_of`, an arm of `answer` and a
 // function of its own, which writes at most 17,000 characters and hands the next state back.
 use config::Loaded;
+use encode::Written;
 use eventline::Event;
 use eventline::Parsed;
 use eventline::event_of;
@@ -13,10 +14,12 @@ use eventline::put_reached;
 use gateway::Gateway;
 use gateway::wide;
 use rules::Outcome;
+use text::Number;
 use text::Size;
 use text::bytes_of;
 use text::first;
 use text::is;
+use text::number_of;
 use text::put_byte;
 use text::put_bytes;
 use text::put_number;
@@ -38,6 +41,7 @@ pub enum Command {
     Write,
     Event,
     Reach,
+    Bytes,
     Other,
 }
 
@@ -77,6 +81,9 @@ fn command_of(line: &[u8]) -> Command {
     }
     if is(name, b"reach") {
         return Command::Reach;
+    }
+    if is(name, b"bytes") {
+        return Command::Bytes;
     }
     Command::Other
 }
@@ -307,6 +314,77 @@ fn reach(rest: &[u8], bytes: &mut [u8; 32768], out: &mut [u8; 65536], s: State) 
     show_reach(e, bytes, out, s)
 }
 
+// ---- `bytes PLACE BUFLEN` with one of these lines
+
+// The text of a message that is written.
+fn shown(w: Written, message: &[u8; 8192], out: &mut [u8; 65536], s: State) -> State
+    requires { ⌜ s .used + 17000 ≤ 65536 ⌝ }
+    ensures { λ r. ⌜ r .used ≤ s .used + 17000 ⌝ }
+{
+    at(s, writing::put_written(w, message, out, s.used))
+}
+
+// An action of an event as bytes; the gateway stays as it is.
+fn show_bytes(
+    e: Event,
+    place: u32,
+    room: u32,
+    bytes: &[u8; 32768],
+    out: &mut [u8; 65536],
+    s: State,
+) -> State
+    requires { ⌜ s .used + 17000 ≤ 65536 ⌝ }
+    ensures { λ r. ⌜ r .used ≤ s .used + 17000 ⌝ }
+{
+    let mut message = [0u8; 8192];
+    let n = writing::lent(room as usize);
+    let kind = e.kind;
+    let g = s.gateway;
+    let w = eventrun::written_by(
+        kind,
+        e.index,
+        first(bytes, e.size),
+        place,
+        &mut message[..n],
+        g,
+    );
+    shown(w, &message, out, s)
+}
+
+// The buffer's length and the event.
+fn action_in(
+    place: u32,
+    rest: &[u8],
+    bytes: &mut [u8; 32768],
+    out: &mut [u8; 65536],
+    s: State,
+) -> State
+    requires { ⌜ (s .used + 17000 ≤ 65536) × (length (now rest) ≤ 65535) ⌝ }
+    ensures { λ r. ⌜ r .used ≤ s .used + 17000 ⌝ }
+{
+    let number = number_of(word_of(rest));
+    let Number::Value(room) = number else {
+        return bad(out, s);
+    };
+    let parsed = event_of(rest_of(rest), bytes);
+    let Parsed::Line(e) = parsed else {
+        return bad(out, s);
+    };
+    show_bytes(e, place, room, bytes, out, s)
+}
+
+// The place among its actions, and what follows it.
+fn one_action(rest: &[u8], bytes: &mut [u8; 32768], out: &mut [u8; 65536], s: State) -> State
+    requires { ⌜ (s .used + 17000 ≤ 65536) × (length (now rest) ≤ 65535) ⌝ }
+    ensures { λ r. ⌜ r .used ≤ s .used + 17000 ⌝ }
+{
+    let number = number_of(word_of(rest));
+    let Number::Value(place) = number else {
+        return bad(out, s);
+    };
+    action_in(place, rest_of(rest), bytes, out, s)
+}
+
 // ---- Lines
 
 // The answer to a line of a command.
@@ -326,6 +404,7 @@ fn answer(
         Command::Write => write(rest_of(line), bytes, out, s),
         Command::Event => event(line, bytes, out, s),
         Command::Reach => reach(rest_of(line), bytes, out, s),
+        Command::Bytes => one_action(rest_of(line), bytes, out, s),
         Command::Other => bad(out, s),
     }
 }

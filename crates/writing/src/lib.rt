@@ -201,7 +201,7 @@ fn write_in(
 }
 
 // No more bytes than are lent.
-fn lent(n: usize) -> usize
+pub fn lent(n: usize) -> usize
     ensures { λ r. ⌜ r ≤ 8192 ⌝ }
 {
     if n < 8192 { n } else { 8192 }

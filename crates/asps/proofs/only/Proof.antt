@@ -25,5 +25,5 @@ only-spec =
     (λ c. search needs)
     (λ c. search needs)
     (λ c. search needs)
-    (λ c. (half-more _ (c .before .loop .inv .0) (omega arith) refl, search needs))
+    (λ c. (half-more _ (c .before .loop .inv .0) (c .loop-test .taken) refl, search needs))
     (λ c. half-end (c .before .loop .inv .0) (c .loop-test .left)))

@@ -1,19 +1,18 @@
--- `config::load`: the layout decides. Assumes nothing.
-use borrow.Author.Tests.{not-true, not-false}
-use mathlib.Core.Path.{_≡_, sym, _∙_}
-use mathlib.Core.Bool.{false}
+-- `config::load`: a number, and the state of the rows that are taken over. Assumes nothing.
+use mathlib.Core.Path.{sym, _∙_}
 use borrow.Author.Needs.{needs}
-use Rattle.config.specs.Plan.{loadOf, layoutOk}
-use Rattle.gateway.specs.Sound.{zeros}
+use Rattle.config.specs.Inner.Layout.{laid-out, whole, answer}
 use Rattle.config.proofs.load.Statement.{statement}
 use Rattle.config.proofs.load.Tie as tie
 
-returns : tie.Need-returns
-unfolding loadOf zeros
-returns c = let e : layoutOk _ ≡ false = sym (c .before .before .laid-out .ensures) ∙ not-true _ (c .before .if1 .taken) in rw (e, c .zeros .ensures)
+taken-requires : tie.Need-taken-requires
+taken-requires c κs = λ e. laid-out _ (sym (c .code-of .ensures) ∙ e)
 
-rows-requires : tie.Need-rows-requires
-rows-requires c κs = sym (c .before .laid-out .ensures) ∙ not-false _ (c .if1 .left)
+build-requires : tie.Need-build-requires
+build-requires c κs = rw (c .taken .ensures, c .before .code-of .ensures) (whole _)
+
+returns : tie.Need-returns
+returns c = c .build .ensures ∙ rw (c .before .taken .ensures, c .before .before .code-of .ensures) (answer _)
 
 pub load-spec : {M : Type 1} → statement M
-load-spec = tie.close (tie.spec (search needs) (search needs) returns rows-requires (λ c. search needs))
+load-spec = tie.close (tie.spec (search needs) taken-requires build-requires returns)

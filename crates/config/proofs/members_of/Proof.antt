@@ -7,7 +7,7 @@ use denote.Ref.{now}
 use Rattle.config.specs.Plan.{bit, members}
 use Rattle.laws.specs.Columns.{flagAt, numberAt}
 use Rattle.laws.specs.Inner.Columns.{HalfCol, half-more, half-end, half-at}
-use Rattle.config.proofs.Tables.{column-none, bit-at}
+use Rattle.config.proofs.Tables.{column-none, bit-at, row-start, row-next, row-in, row-end}
 use Rattle.config.proofs.members_of.Statement.{statement}
 use Rattle.config.proofs.members_of.Tie as tie
 
@@ -27,13 +27,13 @@ loop-holds : tie.Need-loop-holds Inv-loop2 μ-loop2 Inv-loop μ-loop
 loop-holds c = (column-none 256 _, search needs)
 
 loop2-holds : tie.Need-loop2-holds Inv-loop2 μ-loop2 Inv-loop μ-loop
-loop2-holds c = (half-at (omega arith) (c .before .loop .inv .0), search needs, search needs)
+loop2-holds c = (half-at (row-start _) (c .before .loop .inv .0), search needs, search needs)
 
 loop2-again : tie.Need-loop2-again Inv-loop2 μ-loop2 Inv-loop μ-loop
-loop2-again c = let at = c .before .before .before in (half-at (omega arith) (half-more _ (at .loop2 .inv .0) (omega arith) (c .bit-of .ensures ∙ bit-at (now (at .before .before .before .args .mask)) (at .before .before .loop .a) (at .loop2 .q) (omega arith))), search needs, search needs)
+loop2-again c = let at = c .before .before .before in let b = c .before .before .loop2-test .taken in (half-at (row-next _ _) (half-more _ (at .loop2 .inv .0) (row-in _ _ (at .loop2 .inv .2) b) (c .bit-of .ensures ∙ bit-at (now (at .before .before .before .args .mask)) (at .before .before .loop .a) (at .loop2 .q) b)), search needs, search needs)
 
 loop-again : tie.Need-loop-again Inv-loop2 μ-loop2 Inv-loop μ-loop
-loop-again c = (half-at (omega arith) (c .before .loop2 .inv .0), search needs)
+loop-again c = (half-at (row-end _ _ (c .loop2-test .left) (c .before .loop2 .inv .1)) (c .before .loop2 .inv .0), search needs)
 
 returns : tie.Need-returns Inv-loop2 μ-loop2 Inv-loop μ-loop
 unfolding members

@@ -1,20 +1,22 @@
 -- Tables that the code fills from rows, a word of each, and what the code asks of the words.
 -- Assumes nothing.
-use Prim.Native.Nat.{ℕ, _+_, _*_, _<_, _≤_}
-use mathlib.Core.Path.{_≡_, refl, sym, ap, _∙_}
-use mathlib.Core.Bool.{Bool, true, false, _&&_, cond}
+use Prim.Native.Nat.{ℕ, zero, suc, _+_, _*_, _-_, _<_, _≤_}
+use mathlib.Core.Path.{_≡_, refl, sym, _∙_}
+use mathlib.Core.Bool.{true, _&&_, cond}
 use mathlib.Core.List.{List}
+use native.Mathlib.Numerals.{add-one}
 use native.Mathlib.Omega.{arith}
 use native.Mathlib.Decide.{decLt}
 use lib.Dec.{eqb, leb, ltb}
 use lib.ListN.{length, getD, replicate, length-replicate, getD-replicate}
 use borrow.Author.Tests.{ltb-true, leb-true, lt-ltb, le-ltb, le-leb}
 use Rattle.laws.specs.Below.{allBelow}
+use Rattle.laws.specs.Inner.Below.{all-none, all-more}
 use Rattle.laws.specs.Inner.Every.{all-ext, all-two, same-truth}
-use Rattle.laws.specs.Columns.{numberAt, tabulate}
-use Rattle.laws.specs.Inner.Columns.{tabulate-ext, getD-tabulate, is-tabulate, HalfCol}
+use Rattle.laws.specs.Columns.{numberAt}
+use Rattle.laws.specs.Inner.Columns.{is-tabulate, HalfCol}
 use Rattle.wire.specs.Number.{be}
-use Rattle.gateway.specs.Sound.{allUnder}
+use Rattle.gateway.specs.Sound.{ascends, allUnder}
 use Rattle.config.specs.Plan.{high, low, column, bitsFrom, modesOk, masksOk, sparesOk}
 use Rattle.config.specs.Inner.Laws.{column-at, mode-small, owner-small}
 
@@ -30,12 +32,10 @@ RowsIn long at row n = (i : ℕ) → i < n → at + row * i + 4 ≤ long
 abbrev pub AllIn : (ℕ → ℕ) → ℕ → ℕ → Type 0
 AllIn f n end = (i : ℕ) → i < n → f i < end
 
--- the masks and the spares of the second words
-unfoldable pub highs : List ℕ → List ℕ
-highs c = tabulate 16 (λ p. high (numberAt c p))
-
-unfoldable pub lows : List ℕ → List ℕ
-lows c = tabulate 16 (λ p. low (numberAt c p))
+-- the least that number l may be in an ascending list: one more than the number before it
+unfoldable pub floorOf : (ℕ → ℕ) → ℕ → ℕ
+floorOf f zero = 0
+floorOf f (suc l) = f l + 1
 
 -- ---- laws
 
@@ -49,32 +49,55 @@ filled places n f l h = is-tabulate 0 l places (λ i. cond (ltb i n) (f i) 0) (h
     pick i b (no z) =
         h .old i (omega arith) (rw (length-replicate {A = ℕ} places 0) b) ∙ getD-replicate places i 0 0 b ∙ rw (le-ltb i n (omega arith))
 
--- a part of each word
-pub column-part : (h : ℕ → ℕ) → h 0 ≡ 0 → (n : ℕ) (f : ℕ → ℕ) → tabulate 16 (λ p. h (numberAt (column 16 n f) p)) ≡ column 16 n (λ p. h (f p))
-unfolding column
-column-part h e n f = tabulate-ext 0 16 _ _ (λ p b. ap h (getD-tabulate 16 (λ i. cond (ltb i n) (f i) 0) p 0 b) ∙ go (ltb p n) p)
-  where
-    go : (u : Bool) (p : ℕ) → h (cond u (f p) 0) ≡ cond u (h (f p)) 0
-    go true p = refl
-    go false p = e
-
-below-next : (x k : ℕ) → ltb x (k + 1) ≡ leb x k
-below-next x k = same-truth (ltb x (k + 1)) (leb x k) (λ h. le-leb x k (omega (arith, ltb-true x (k + 1) h))) (λ h. lt-ltb x (k + 1) (omega (arith, leb-true x k h)))
-
 -- the tests of words are those of the tables
-pub modes-read : (n : ℕ) (f : ℕ → ℕ) → n ≤ 16 → allBelow (λ i. leb 1 (f i) && ltb (f i) 4) n ≡ modesOk (column 16 n f) n
+pub modes-read : (n : ℕ) (f : ℕ → ℕ) → n ≤ 16 → allBelow (λ i. leb 1 (f i) && leb (f i) 3) n ≡ modesOk (column 16 n f) n
 unfolding modesOk
-modes-read n f b = all-ext _ _ n (λ i l. rw (column-at 16 n f i l b, below-next (f i) 3))
+modes-read n f b = all-ext _ _ n (λ i l. rw (column-at 16 n f i l b))
 
-pub owners-read : (n m : ℕ) (f : ℕ → ℕ) → n ≤ 128 → allBelow (λ i. leb 0 (f i) && ltb (f i) m) n ≡ allUnder (column 128 n f) m n
+pub masks-read : (n m : ℕ) (f : ℕ → ℕ) → n ≤ 16 → allBelow (λ p. eqb (bitsFrom (high (f p)) m) 0 && eqb (low (f p)) 0) n ≡ (masksOk (column 16 n (λ p. high (f p))) n m && sparesOk (column 16 n (λ p. low (f p))) n)
+unfolding masksOk sparesOk
+masks-read n m f b =
+    all-two (λ p. eqb (bitsFrom (high (f p)) m) 0) (λ p. eqb (low (f p)) 0) n
+    ∙ rw (all-ext (λ p. eqb (bitsFrom (high (f p)) m) 0) (λ p. eqb (bitsFrom (numberAt (column 16 n (λ p. high (f p))) p) m) 0) n (λ p l. rw (column-at 16 n (λ p. high (f p)) p l b)), all-ext (λ p. eqb (low (f p)) 0) (λ p. eqb (numberAt (column 16 n (λ p. low (f p))) p) 0) n (λ p l. rw (column-at 16 n (λ p. low (f p)) p l b)))
+
+pub floor-none : (f : ℕ → ℕ) → floorOf f 0 ≡ 0
+unfolding floorOf
+floor-none f = refl
+
+pub floor-more : (f : ℕ → ℕ) (l : ℕ) → floorOf f (l + 1) ≡ f l + 1
+unfolding floorOf
+floor-more f l = rw add-one
+
+-- not below its floor is above the number before it
+floor-next : (f : ℕ → ℕ) (k : ℕ) → leb (floorOf f (k + 1)) (f (k + 1)) ≡ ltb (f k) (f (k + 1))
+floor-next f k =
+    rw (floor-more f k)
+    (same-truth (leb (f k + 1) (f (k + 1))) (ltb (f k) (f (k + 1))) (λ h. lt-ltb (f k) (f (k + 1)) (omega (arith, leb-true (f k + 1) (f (k + 1)) h))) (λ h. le-leb (f k + 1) (f (k + 1)) (omega (arith, ltb-true (f k) (f (k + 1)) h))))
+
+floors : (f : ℕ → ℕ) (k : ℕ) → allBelow (λ l. leb (floorOf f l) (f l)) (k + 1) ≡ allBelow (λ l. ltb (f l) (f (l + 1))) k
+floors f zero = all-more (λ l. leb (floorOf f l) (f l)) 0 ∙ rw (all-none (λ l. leb (floorOf f l) (f l)), all-none (λ l. ltb (f l) (f (l + 1))), floor-none f) (le-leb 0 (f 0) (omega arith))
+floors f (suc k) =
+    rw (sym (add-one k))
+    (all-more (λ l. leb (floorOf f l) (f l)) (k + 1) ∙ rw (floors f k, floor-next f k) (sym (all-more (λ l. ltb (f l) (f (l + 1))) k)))
+
+ids-read : (n : ℕ) (f : ℕ → ℕ) → n ≤ 128 → allBelow (λ l. leb (floorOf f l) (f l)) n ≡ ascends (column 128 n f) n
+unfolding ascends
+ids-read zero f b = all-none _ ∙ sym (all-none _)
+ids-read (suc k) f b =
+    let e : suc k - 1 ≡ k = omega arith in
+    rw (e, sym (add-one k))
+    (floors f k ∙ all-ext (λ l. ltb (f l) (f (l + 1))) (λ l. ltb (numberAt (column 128 (k + 1) f) l) (numberAt (column 128 (k + 1) f) (l + 1))) k (λ l h. rw (column-at 128 (k + 1) f l (omega arith) (omega arith), column-at 128 (k + 1) f (l + 1) (omega arith) (omega arith))))
+
+pub links-read : (n m : ℕ) (f g : ℕ → ℕ) → n ≤ 128 → allBelow (λ l. leb (floorOf f l) (f l) && ltb (g l) m) n ≡ (ascends (column 128 n f) n && allUnder (column 128 n g) m n)
 unfolding allUnder
-owners-read n m f b = all-ext _ _ n (λ i l. rw (column-at 128 n f i l b, le-leb 0 (f i) (omega arith)))
+links-read n m f g b =
+    all-two (λ l. leb (floorOf f l) (f l)) (λ l. ltb (g l) m) n
+    ∙ rw (ids-read n f b, all-ext (λ l. ltb (g l) m) (λ l. ltb (numberAt (column 128 n g) l) m) n (λ l h. rw (column-at 128 n g l h b)))
 
-pub masks-read : (c : List ℕ) (n m : ℕ) → n ≤ 16 → allBelow (λ p. eqb (bitsFrom (high (numberAt c p)) m) 0 && eqb (low (numberAt c p)) 0) n ≡ (masksOk (highs c) n m && sparesOk (lows c) n)
-unfolding masksOk sparesOk highs lows
-masks-read c n m b =
-    all-two (λ p. eqb (bitsFrom (high (numberAt c p)) m) 0) (λ p. eqb (low (numberAt c p)) 0) n
-    ∙ rw (all-ext (λ p. eqb (bitsFrom (high (numberAt c p)) m) 0) (λ p. eqb (bitsFrom (numberAt (tabulate 16 (λ p. high (numberAt c p))) p) m) 0) n (λ p l. rw (getD-tabulate 16 (λ p. high (numberAt c p)) p 0 (omega arith))), all-ext (λ p. eqb (low (numberAt c p)) 0) (λ p. eqb (numberAt (tabulate 16 (λ p. low (numberAt c p))) p) 0) n (λ p l. rw (getD-tabulate 16 (λ p. low (numberAt c p)) p 0 (omega arith))))
+-- of no rows every place is zero
+pub column-zero : (places : ℕ) (f : ℕ → ℕ) → column places 0 f ≡ replicate places 0
+unfolding column
+column-zero places f = sym (is-tabulate 0 (replicate places 0) places (λ i. cond (ltb i 0) (f i) 0) (length-replicate places 0) (λ i b. getD-replicate places i 0 0 b ∙ rw (le-ltb i 0 (omega arith))))
 
 -- the modes and owners of good rows are bytes
 pub mode-bytes : (n : ℕ) (f : ℕ → ℕ) → n ≤ 16 → modesOk (column 16 n f) n ≡ true → AllIn f n 256

@@ -23,7 +23,7 @@ array-write-r : tie.Need-array-write-r Inv-loop μ-loop
 array-write-r c = search needs
 
 loop-again : tie.Need-loop-again Inv-loop μ-loop
-loop-again c = (half-more _ (c .before .before .before .loop .inv .0) (omega arith) (c .limit .ensures ∙ rw (c .before .before .before .loop .inv .2, place-at (c .before .before .before .loop .q) (omega arith))), search needs, search needs)
+loop-again c = (half-more _ (c .before .before .before .loop .inv .0) (c .before .before .loop-test .taken) (c .limit .ensures ∙ rw (c .before .before .before .loop .inv .2, place-at (c .before .before .before .loop .q) (omega arith))), search needs, search needs)
 
 returns : tie.Need-returns Inv-loop μ-loop
 unfolding limitsTo

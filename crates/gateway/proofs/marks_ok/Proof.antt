@@ -3,9 +3,9 @@ use Prim.Native.Nat.{_≤_, _-_}
 use mathlib.Core.Path.{_≡_, sym}
 use native.Mathlib.Omega.{arith}
 use borrow.Author.Needs.{needs}
-use Rattle.laws.specs.Inner.Below.{all-none, all-more, at-end}
-use Rattle.gateway.specs.Inner.Limits.{places, place-at}
-use Rattle.gateway.specs.Inner.Rows.{soundMarks}
+use Rattle.laws.specs.Inner.Below.{all-none, at-end}
+use Rattle.gateway.specs.Inner.Limits.{places}
+use Rattle.gateway.specs.Inner.Rows.{soundMarks, marks-turn}
 use Rattle.gateway.proofs.marks_ok.Statement.{statement}
 use Rattle.gateway.proofs.marks_ok.Tie as tie
 
@@ -20,8 +20,7 @@ unfolding soundMarks
 loop-holds c = (sym (all-none _), search needs, search needs)
 
 loop-again : tie.Need-loop-again Inv-loop μ-loop
-unfolding soundMarks
-loop-again c = (rw all-more (rw (c .before .before .before .before .before .before .before .before .before .before .loop .inv .0, c .override-ok .ensures, c .before .before .before .waiting-ok .ensures, c .before .before .before .before .before .before .mode-ok .ensures, c .before .before .before .before .before .before .before .before .before .before .loop .inv .2, place-at (c .before .before .before .before .before .before .before .before .before .before .loop .a) (omega arith))), search needs, search needs)
+loop-again c = let i = c .before .before .before .before .before .before .before .before .before .before .loop .inv in (marks-turn _ _ _ _ _ _ _ _ _ _ (c .before .before .before .before .before .before .before .before .before .loop-test .taken) (i .2) (i .0) (c .before .before .before .before .before .before .mode-ok .ensures) (c .before .before .before .waiting-ok .ensures) (c .override-ok .ensures), search needs, i .2)
 
 returns : tie.Need-returns Inv-loop μ-loop
 returns c = at-end (soundMarks _ _ _ _) (c .before .loop .inv .0) (c .loop-test .left) (c .before .loop .inv .1)

@@ -22,7 +22,7 @@ array-write-r : tie.Need-array-write-r Inv-loop μ-loop
 array-write-r c = search needs
 
 loop-again : tie.Need-loop-again Inv-loop μ-loop
-loop-again c = (half-more _ (c .before .loop .inv .0) (omega arith) refl, search needs)
+loop-again c = (half-more _ (c .before .loop .inv .0) (c .loop-test .taken) refl, search needs)
 
 returns : tie.Need-returns Inv-loop μ-loop
 unfolding places

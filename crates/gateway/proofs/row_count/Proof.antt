@@ -11,7 +11,7 @@ use Rattle.laws.specs.Columns.{isSet, numberAt}
 use Rattle.laws.specs.Inner.Choice.{at-yes, at-no}
 use Rattle.gateway.specs.Sound.{pair, activeIn}
 use Rattle.gateway.specs.Inner.Limits.{Flags}
-use Rattle.gateway.specs.Inner.Rows.{pairFails, rowFails, row-turn}
+use Rattle.gateway.specs.Inner.Rows.{pairFails, rowFails, row-turn, next-fits, next-in, next-less, sum-fits, sum-next}
 use Rattle.gateway.proofs.row_count.Statement.{statement}
 use Rattle.gateway.proofs.row_count.Tie as tie
 
@@ -25,15 +25,21 @@ loop-holds : tie.Need-loop-holds Inv-loop μ-loop
 loop-holds c = (sym (any-none _), λ e. sym (count-none _), search needs, search needs, search needs, c .pre .1)
 
 add-n : tie.Need-add-n Inv-loop μ-loop
-add-n c = omega (arith, c .word .ensures .1, c .before .before .before .before .before .before .before .loop .inv .2, c .before .before .before .before .before .before .before .loop .inv .3)
+add-n c = let i = c .before .before .before .before .before .before .before .loop .inv in record { fits = sum-fits _ _ _ (i .2) (i .3) (c .word .ensures .1) }
+
+add-q : tie.Need-add-q Inv-loop μ-loop
+add-q c = record { fits = next-fits _ (c .before .before .before .before .before .before .loop-test .taken) }
+
+loop-less : tie.Need-loop-less Inv-loop μ-loop
+loop-less c = next-less _ (c .before .before .before .before .before .before .loop-test .taken)
 
 loop-again : tie.Need-loop-again Inv-loop μ-loop
 loop-again c = (
   rw any-more (rw (c .before .before .before .before .before .before .before .loop .inv .0, c .before .least .ensures)),
-  λ h. rw (count-more, c .word .ensures .0) (row-turn (numberAt (now (c .before .before .before .before .before .before .before .before .args .top)) (c .before .before .before .before .before .before .before .loop .q)) (numberAt (now (c .before .before .before .before .before .before .before .before .args .member)) (pair (c .before .before .before .before .before .before .before .before .args .a) (c .before .before .before .before .before .before .before .loop .q))) (numberAt (now (c .before .before .before .before .before .before .before .before .args .up)) (c .before .before .before .before .before .before .before .loop .q)) (numberAt (now (c .before .before .before .before .before .before .before .before .args .active)) (pair (c .before .before .before .before .before .before .before .before .args .a) (c .before .before .before .before .before .before .before .loop .q))) (c .before .before .before .before .before .before .before .loop .n) _ (c .before .before .before .before .before .before .before .loop .bad) (c .before .before .before .before .before .before .before .loop .inv .5 (c .before .before .before .before .before .before .before .loop .q) (omega arith)) (c .before .before .before .before .before .before .before .loop .inv .1) (rw (c .before .least .ensures) at h)),
-  omega (arith, c .word .ensures .1, c .before .before .before .before .before .before .before .loop .inv .2),
-  search needs,
-  search needs,
+  λ h. rw (count-more, c .word .ensures .0) (row-turn (numberAt (now (c .before .before .before .before .before .before .before .before .args .top)) (c .before .before .before .before .before .before .before .loop .q)) (numberAt (now (c .before .before .before .before .before .before .before .before .args .member)) (pair (c .before .before .before .before .before .before .before .before .args .a) (c .before .before .before .before .before .before .before .loop .q))) (numberAt (now (c .before .before .before .before .before .before .before .before .args .up)) (c .before .before .before .before .before .before .before .loop .q)) (numberAt (now (c .before .before .before .before .before .before .before .before .args .active)) (pair (c .before .before .before .before .before .before .before .before .args .a) (c .before .before .before .before .before .before .before .loop .q))) (c .before .before .before .before .before .before .before .loop .n) _ (c .before .before .before .before .before .before .before .loop .bad) (c .before .before .before .before .before .before .before .loop .inv .5 (c .before .before .before .before .before .before .before .loop .q) (c .before .before .before .before .before .before .loop-test .taken)) (c .before .before .before .before .before .before .before .loop .inv .1) (rw (c .before .least .ensures) at h)),
+  sum-next _ (c .before .before .before .before .before .before .before .loop .q) _ (c .before .before .before .before .before .before .before .loop .inv .2) (c .word .ensures .1),
+  next-in _ (c .before .before .before .before .before .before .loop-test .taken),
+  c .before .before .before .before .before .before .before .loop .inv .4,
   c .before .before .before .before .before .before .before .loop .inv .5,
 )
 
@@ -49,5 +55,5 @@ pub row-count-spec : {M : Type 1} → statement M
 row-count-spec =
     tie.close
     (tie.spec Inv-loop μ-loop loop-holds (search needs) (search needs) (search needs) (search needs) (search needs) (search needs)
-    (search needs) (search needs) (search needs) (search needs) add-n (search needs) (search needs) loop-again returns
+    (search needs) (search needs) (search needs) (search needs) add-n add-q loop-less loop-again returns
     returns-2)

@@ -9,13 +9,13 @@ use native.Mathlib.Decide.{decLt}
 use lib.Dec.{eqb, leb, ltb}
 use borrow.Author.Tests.{lt-ltb, le-ltb, ltb-true, ltb-false, eqb-true}
 use Rattle.laws.specs.Below.{allBelow, anyBelow, one}
-use Rattle.laws.specs.Inner.Below.{all-at, all-of, all-not, count-small}
+use Rattle.laws.specs.Inner.Below.{all-at, all-of, all-not, all-more, count-small}
 use Rattle.laws.specs.Inner.Columns.{HalfCol}
 use Rattle.laws.specs.Columns.{numberAt, isSet}
 use Rattle.laws.specs.Inner.Every.{and-left, and-right, and-both, same-truth}
 use Rattle.gateway.specs.Sound.{pair, blankFrom, flagIf, memberAt, activeAt, soundRow, activeIn, modeAt, waitingAt, overrideAt, soundAs, soundAses}
 use Rattle.gateway.specs.Inner.Laws.{as-parts}
-use Rattle.gateway.specs.Inner.Limits.{limit, limitsTo, flagsOf, limits-at, flags-at, flag-limit, flag-above, le-not, any-fails}
+use Rattle.gateway.specs.Inner.Limits.{limit, places, place-at, limitsTo, flagsOf, limits-at, flags-at, flag-limit, flag-above, le-not, any-fails}
 
 -- the smaller of two numbers
 abbrev pub least : ℕ → ℕ → ℕ
@@ -95,6 +95,30 @@ row-under false n c e h = let z : ⊥ = omega arith in absurd z
 pub active-few : (active : List ℕ) (a : ℕ) → activeIn active a ≤ 16
 unfolding activeIn
 active-few active a = count-small (λ q. isSet active (pair a q)) 16
+
+-- a turn over the marks
+pub marks-turn : (place count mode waiting : List ℕ) (ases a : ℕ) (ok t w o : Bool) → a < 16 → place ≡ places → ok ≡ soundMarks count mode waiting ases a
+    → t ≡ modeAt (numberAt mode a) (ltb (numberAt place a) ases) → w ≡ waitingAt (numberAt waiting a) (numberAt count a) (ltb (numberAt place a) ases) → o ≡ overrideAt (numberAt mode a) (numberAt count a)
+    → (ok && ((t && w) && o)) ≡ soundMarks count mode waiting ases (a + 1)
+unfolding soundMarks
+marks-turn place count mode waiting ases a ok t w o b p h e f g = rw (h, e, f, g, p, place-at a (omega arith)) (sym (all-more (marksAt count mode waiting ases) a))
+
+-- the next of 16 places. (Said here, since a proof in the middle of a loop's body has too many facts to choose from.)
+pub next-fits : (q : ℕ) → q < 16 → q + 1 < 18446744073709551616
+next-fits q b = omega arith
+
+pub next-in : (q : ℕ) → q < 16 → q + 1 ≤ 16
+next-in q b = omega arith
+
+pub next-less : (q : ℕ) → q < 16 → 16 - (q + 1) < 16 - q
+next-less q b = omega arith
+
+-- the sum of a row of bytes so far, and with one more
+pub sum-fits : (n q x : ℕ) → n ≤ q * 255 → q ≤ 16 → x ≤ 255 → n + x < 4294967296
+sum-fits n q x a b d = omega arith
+
+pub sum-next : (n q x : ℕ) → n ≤ q * 255 → x ≤ 255 → n + x ≤ (q + 1) * 255
+sum-next n q x a d = omega arith
 
 -- a turn over a row: so long as no pair fails, what is active is a flag, and the sum of the flags is their count
 pub row-turn : (t m u x n k : ℕ) (b : Bool) → u ≤ 1 → (b ≡ false → n ≡ k) → (b || (leb t m || ltb (least m u) x)) ≡ false → n + x ≡ k + one (eqb x 1)

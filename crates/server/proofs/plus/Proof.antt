@@ -21,7 +21,7 @@ loop-holds : tie.Need-loop-holds Inv-loop μ-loop
 loop-holds c = (half-none _ 16 _ refl, omega arith)
 
 loop-again : tie.Need-loop-again Inv-loop μ-loop
-loop-again c = (half-more _ (c .before .loop .inv .0) (omega arith) refl, search needs)
+loop-again c = (half-more _ (c .before .loop .inv .0) (c .loop-test .taken) refl, search needs)
 
 returns : tie.Need-returns Inv-loop μ-loop
 unfolding more
