@@ -1,9 +1,7 @@
-// Links the archives that tools/archives makes.
+// Links the archive that hosts link; tools/library makes it.
 fn main() {
-    let dir = concat!(env!("CARGO_MANIFEST_DIR"), "/../target/staticlib");
+    let dir = concat!(env!("CARGO_MANIFEST_DIR"), "/../target/lib");
     println!("cargo:rustc-link-search=native={dir}");
-    for name in ["host", "host_write", "events", "sending"] {
-        println!("cargo:rustc-link-lib=static={name}");
-        println!("cargo:rerun-if-changed={dir}/lib{name}.a");
-    }
+    println!("cargo:rustc-link-lib=static=m2ua");
+    println!("cargo:rerun-if-changed={dir}/libm2ua.a");
 }

@@ -1,4 +1,4 @@
-//! The proved library's entries, as the archives of tools/archives export them. Nothing checks these declarations against the Rattle source: each is
+//! The proved library's entries, as libm2ua.a exports them. Nothing checks these declarations against the Rattle source: each is
 //! compared with the second program before it is timed.
 use second::read::Reading;
 use second::{Gateway, Loaded};

@@ -1,0 +1,198 @@
+/* A small host: it loads a plan, lets two ASPs take turns, a link come up, units go both ways, an association break and the recovery time run out. What a host
+ * sends, and which timers it starts, is printed. (rust/m2ua/examples/scenario.rs is the same in Rust; tools/hosts compares what both print.)
+ * Usage: scenario PLAN, with examples/plans/sample.txt compiled; or scenario words. */
+#include <stdlib.h>
+#include <string.h>
+#include "m2ua.h"
+#include "m2ua_text.h"
+
+/* What a host keeps: the state. */
+static m2ua_gateway gateway;
+
+static void fail(const char *what, uint32_t code) {
+    fprintf(stderr, "%s: %u (%s)\n", what, code, m2ua_code_text(code));
+    exit(1);
+}
+
+/* ---- Messages: what the ASPs and the links would send */
+
+typedef struct {
+    uint8_t bytes[M2UA_MAX_MESSAGE];
+    size_t length;
+} message;
+
+/* One message, whose parameters have values of 4 bytes or more. */
+static message written(uint8_t class_, uint8_t type, size_t count, const uint16_t *tags, const uint32_t *lens, const uint8_t *values) {
+    static const uint16_t no_tags[1];
+    static const uint32_t no_lens[1];
+    static const uint8_t no_values[1];
+    message m;
+    size_t bytes = 0;
+    for (size_t i = 0; i < count; i++) bytes += lens[i];
+    m2ua_written w = m2ua_write(class_, type, count ? tags : no_tags, count, count ? lens : no_lens, count, count ? values : no_values, bytes, m.bytes, sizeof m.bytes);
+    if (w.code) fail("m2ua_write", w.code);
+    if (m2ua_read(m.bytes, w.length).code) fail("m2ua_read", m2ua_read(m.bytes, w.length).code);
+    m.length = w.length;
+    return m;
+}
+
+static message plain(uint8_t class_, uint8_t type) { return written(class_, type, 0, NULL, NULL, NULL); }
+
+/* ---- Orders: what a host does with them */
+
+/* Sends a message to an ASP. Here it is printed; a host writes it to the ASP's association. */
+static void send_to_asp(uint32_t asp, const uint8_t *bytes, size_t length) {
+    printf("    %zu bytes to ASP %u: ", length, asp);
+    for (size_t i = 0; i < length; i++) printf("%02x", bytes[i]);
+    printf("\n");
+}
+
+/* Hands a unit to a link. Here it is printed; a host gives it to MTP2. */
+static void send_to_link(uint32_t id, const uint8_t *msg, size_t len) {
+    m2ua_data_at unit = m2ua_data(msg, len);
+    printf("    unit (%s) to link %u: ", m2ua_parameter(msg, len, M2UA_TAG_DATA_1).found ? "0x300" : "0x301", id);
+    for (size_t i = 0; i < unit.length; i++) printf("%02x", msg[unit.start + i]);
+    printf("\n");
+}
+
+/* What has changed: the states of ASes, and the timers that start and stop. */
+static void changes(m2ua_gateway before, m2ua_gateway after) {
+    static const char *const names[] = {"down", "?", "inactive", "active", "pending"};
+    m2ua_timers t = m2ua_waits(before, after);
+    for (unsigned a = 0; a < after.ases; a++) {
+        m2ua_answer was = m2ua_as_state(before, a), is = m2ua_as_state(after, a);
+        if (was.code || is.code) fail("m2ua_as_state", was.code ? was.code : is.code);
+        if (was.value != is.value) printf("  AS %u is %s\n", a, names[is.value]);
+        if (t.began[a]) printf("  timer: start T(r) of AS %u\n", a);
+        if (t.ended[a]) printf("  timer: stop T(r) of AS %u\n", a);
+    }
+}
+
+static size_t place_of(uint32_t id) {
+    m2ua_answer place = m2ua_link_place(gateway, id);
+    if (place.code) fail("m2ua_link_place", place.code);
+    return place.value;
+}
+
+/* An event: its orders in words, then as bytes, which come from the state before the event; then what has changed. */
+static void happens(const char *what, uint32_t kind, size_t index, const uint8_t *msg, size_t len) {
+    /* each call of m2ua_orders runs the event again: with so much room one is enough, or two */
+    static uint32_t words[M2UA_LIST_WORDS], lens[M2UA_MAX_ORDERS];
+    static uint8_t out[16384], single[M2UA_MAX_MESSAGE];
+    char line[128];
+    printf("%s\n", what);
+    m2ua_outcome r = m2ua_event(gateway, kind, index, msg, len, words, M2UA_LIST_WORDS);
+    if (r.refusal) {
+        printf("  refused: %u (%s)\n", r.refusal, m2ua_code_text(r.refusal));
+        return;
+    }
+    m2ua_batch b;
+    for (size_t place = 0; place < r.count; place += b.count) {
+        b = m2ua_orders(gateway, kind, index, msg, len, place, lens, M2UA_MAX_ORDERS, out, sizeof out);
+        if (b.code) fail("m2ua_orders", b.code);
+        const uint8_t *next = out;
+        for (size_t j = 0; j < b.count; next += lens[j++]) {
+            const uint32_t *order = words + M2UA_ORDER_WORDS * (place + j);
+            m2ua_order_text(order, line, sizeof line);
+            printf("  %s\n", line);
+            if (order[0] == M2UA_LINK_SIDE) {
+                if (order[1] == M2UA_ORDER_DATA) send_to_link(order[2], msg, len);
+                continue;
+            }
+            send_to_asp(order[0], next, lens[j]);
+            /* one order by itself is the same message */
+            m2ua_written w = m2ua_order(gateway, kind, index, msg, len, place + j, single, sizeof single);
+            if (w.code || w.length != lens[j] || memcmp(single, next, lens[j])) fail("m2ua_order", w.code);
+        }
+    }
+    changes(gateway, r.gateway);
+    gateway = r.gateway;
+}
+
+static void asp_sends(const char *what, size_t asp, message m) { happens(what, M2UA_MESSAGE, asp, m.bytes, m.length); }
+static const uint8_t none[1];
+static void other(const char *what, uint32_t kind, size_t index) { happens(what, kind, index, none, 0); }
+
+/* ---- The scenario */
+
+static void scenario(void) {
+    const uint8_t seven[4] = {0, 0, 0, 7}, link100[4] = {0, 0, 0, 100}, link200[4] = {0, 0, 0, 200};
+    const uint8_t take[12] = {0, 0, 0, 1, 0, 0, 0, 100, 0, 0, 0, 115};
+    /* link 100, a test message of MTP3 as the unit, a correlation id */
+    const uint8_t unit[19] = {0, 0, 0, 100, 0x81, 0x02, 0x40, 0x00, 0x10, 0x11, 0x40, 'T', 'E', 'S', 'T', 0, 0, 0, 5};
+    message up = plain(M2UA_CLASS_ASPSM, M2UA_TYPE_UP), active = plain(M2UA_CLASS_ASPTM, M2UA_TYPE_ACTIVE);
+    message data = written(M2UA_CLASS_MAUP, M2UA_TYPE_DATA, 3, (const uint16_t[]){M2UA_TAG_INTERFACE_ID, M2UA_TAG_DATA_1, M2UA_TAG_CORRELATION_ID},
+                           (const uint32_t[]){4, 11, 4}, unit);
+    message received = written(M2UA_CLASS_MAUP, M2UA_TYPE_DATA, 2, (const uint16_t[]){M2UA_TAG_INTERFACE_ID, M2UA_TAG_DATA_1}, (const uint32_t[]){4, 11}, unit);
+    asp_sends("left comes up", 0, written(M2UA_CLASS_ASPSM, M2UA_TYPE_UP, 1, (const uint16_t[]){M2UA_TAG_ASP_ID}, (const uint32_t[]){4}, seven));
+    asp_sends("left takes links 100 to 115", 0,
+              written(M2UA_CLASS_ASPTM, M2UA_TYPE_ACTIVE, 2, (const uint16_t[]){M2UA_TAG_TRAFFIC_MODE, M2UA_TAG_INTERFACE_ID_RANGE}, (const uint32_t[]){4, 8}, take));
+    asp_sends("right comes up", 1, up);
+    asp_sends("right takes over", 1, active);
+    asp_sends("right starts link 100", 1,
+              written(M2UA_CLASS_MAUP, M2UA_TYPE_ESTABLISH_REQUEST, 1, (const uint16_t[]){M2UA_TAG_INTERFACE_ID}, (const uint32_t[]){4}, link100));
+    other("link 100 is in service", M2UA_LINK_UP, place_of(100));
+    asp_sends("right sends a unit on link 100", 1, data);
+    happens("a unit comes in on link 100", M2UA_LINK_MESSAGE, 0, received.bytes, received.length);
+    asp_sends("right sends a heartbeat", 1,
+              written(M2UA_CLASS_ASPSM, M2UA_TYPE_BEAT, 1, (const uint16_t[]){M2UA_TAG_HEARTBEAT}, (const uint32_t[]){5}, (const uint8_t *)"alive"));
+    asp_sends("left asks for a link of another AS", 0,
+              written(M2UA_CLASS_ASPTM, M2UA_TYPE_ACTIVE, 1, (const uint16_t[]){M2UA_TAG_INTERFACE_ID}, (const uint32_t[]){4}, link200));
+    happens("left sends three bytes", M2UA_MESSAGE, 0, up.bytes, 3);
+    other("the association of right is lost", M2UA_LOST, 1);
+    asp_sends("left takes over in time", 0, active);
+    asp_sends("left goes down", 0, plain(M2UA_CLASS_ASPSM, M2UA_TYPE_DOWN));
+    other("the recovery time of AS 0 is over", M2UA_RECOVERY, 0);
+    other("link 100 fails", M2UA_LINK_DOWN, place_of(100));
+    other("an event of an ASP that there is not", M2UA_LOST, 3);
+}
+
+/* Every name, to be compared with the Rust crate's. */
+static void words(void) {
+    char line[128];
+    for (uint32_t word = 0; word < 2048; word++) {
+        if (!m2ua_message_name(word)) continue;
+        for (uint32_t value = 0; value < 3; value++) {
+            uint32_t order[4] = {value ? value : M2UA_LINK_SIDE, word, 100 + value, value};
+            m2ua_order_text(order, line, sizeof line);
+            printf("%s\n", line);
+        }
+    }
+    for (uint32_t status = 65537; status < 65542; status++) {
+        uint32_t order[4] = {1, M2UA_ORDER_NOTIFY, 2, status};
+        m2ua_order_text(order, line, sizeof line);
+        printf("%s\n", line);
+    }
+    for (uint32_t code = 0; code < 100; code++) {
+        uint32_t order[4] = {1, M2UA_ORDER_ERROR, 5, code};
+        m2ua_order_text(order, line, sizeof line);
+        printf("%s\n", line);
+    }
+    for (uint32_t code = 1; code < 300; code++) printf("%u (%s)\n", code, m2ua_code_text(code));
+}
+
+int main(int argc, char **argv) {
+    if (argc == 2 && strcmp(argv[1], "words") == 0) {
+        words();
+        return 0;
+    }
+    if (m2ua_abi() != M2UA_ABI) {
+        fprintf(stderr, "the library has ABI %u, this program was compiled for %d\n", m2ua_abi(), M2UA_ABI);
+        return 1;
+    }
+    static uint8_t file[M2UA_MAX_PLAN + 1];
+    FILE *plan = argc == 2 ? fopen(argv[1], "rb") : NULL;
+    if (!plan) {
+        fprintf(stderr, "usage: scenario PLAN (a file that m2ua-plan compile has made)\n");
+        return 2;
+    }
+    size_t length = fread(file, 1, sizeof file, plan);
+    fclose(plan);
+    m2ua_loaded loaded = m2ua_load(file, length);
+    if (loaded.code) fail(argv[1], loaded.code);
+    if (!m2ua_is_sound(loaded.gateway)) fail("a fresh state", M2UA_REFUSED_STATE);
+    gateway = loaded.gateway;
+    printf("plan: %u ASPs, %u ASes, %u links\n", gateway.asps, gateway.ases, gateway.links);
+    scenario();
+    return 0;
+}

@@ -1,0 +1,140 @@
+//! A plan: what text and file both say.
+use m2ua::{Gateway, TrafficMode};
+use std::fmt;
+
+/// An ASP row. (Document 02 gives it options: whether a list may succeed in part, an owner, text identifiers.)
+#[derive(Clone, Debug, PartialEq, Eq)]
+pub struct Asp {
+    pub name: String,
+    pub id: u32,
+}
+
+/// An AS row. (Document 02: a sharing rule, an owner.)
+#[derive(Clone, Debug, PartialEq, Eq)]
+pub struct As {
+    pub name: String,
+    pub mode: TrafficMode,
+    /// Numbers of ASPs, ascending.
+    pub members: Vec<usize>,
+}
+
+/// A link row. (Document 02: a kind, fill numbers, a name.)
+#[derive(Clone, Copy, Debug, PartialEq, Eq)]
+pub struct Link {
+    pub id: u32,
+    /// The number of its AS.
+    pub owner: usize,
+}
+
+/// A plan: rows in their order; links ascend.
+#[derive(Clone, Debug, PartialEq, Eq, Default)]
+pub struct Plan {
+    pub asps: Vec<Asp>,
+    pub ases: Vec<As>,
+    pub links: Vec<Link>,
+}
+
+impl Plan {
+    /// The plan of a state that was loaded, with names made up from the numbers.
+    pub fn of(g: &Gateway) -> Plan {
+        Plan {
+            asps: (0..g.asps())
+                .map(|p| Asp {
+                    name: format!("asp{p}"),
+                    id: g.asp_id(p).unwrap_or_default(),
+                })
+                .collect(),
+            ases: (0..g.ases())
+                .map(|a| As {
+                    name: format!("as{a}"),
+                    mode: g.mode(a).unwrap_or(TrafficMode::Override),
+                    members: (0..g.asps()).filter(|&p| g.is_member(a, p)).collect(),
+                })
+                .collect(),
+            links: (0..g.links())
+                .map(|l| Link {
+                    id: g.interface_id(l).unwrap_or_default(),
+                    owner: g.owner(l).unwrap_or_default(),
+                })
+                .collect(),
+        }
+    }
+
+    /// The same rows, whatever the names.
+    pub fn is_like(&self, other: &Plan) -> bool {
+        let ids = |p: &Plan| p.asps.iter().map(|a| a.id).collect::<Vec<_>>();
+        let ases = |p: &Plan| {
+            p.ases
+                .iter()
+                .map(|a| (a.mode, a.members.clone()))
+                .collect::<Vec<_>>()
+        };
+        ids(self) == ids(other) && ases(self) == ases(other) && self.links == other.links
+    }
+
+    /// The plan file (Rules 4.1 to 4.3): contents, ASP rows, AS rows, link rows.
+    pub fn encode(&self) -> Vec<u8> {
+        let bodies = [
+            self.asps
+                .iter()
+                .enumerate()
+                .flat_map(|(p, asp)| [asp.id, self.mask(p) << 16])
+                .collect::<Vec<u32>>(),
+            self.ases.iter().map(|r#as| r#as.mode.number()).collect(),
+            self.links
+                .iter()
+                .flat_map(|link| [link.id, link.owner as u32])
+                .collect(),
+        ];
+        let counts = [self.asps.len(), self.ases.len(), self.links.len()];
+        let mut at = 8 * bodies.len();
+        let mut words = Vec::new();
+        for (body, count) in bodies.iter().zip(counts) {
+            words.extend([at as u32, count as u32]);
+            at += 4 * body.len();
+        }
+        words.extend(bodies.concat());
+        words.iter().flat_map(|w| w.to_be_bytes()).collect()
+    }
+
+    /// The ASes of an ASP as bits.
+    fn mask(&self, asp: usize) -> u32 {
+        let of = |(a, r#as): (usize, &As)| u32::from(r#as.members.contains(&asp)) << a;
+        self.ases.iter().enumerate().map(of).sum()
+    }
+}
+
+impl fmt::Display for Plan {
+    /// Canonical text: rows in their order, links of one AS that follow one another as a range.
+    fn fmt(&self, f: &mut fmt::Formatter<'_>) -> fmt::Result {
+        for asp in &self.asps {
+            writeln!(f, "asp {} id {}", asp.name, asp.id)?;
+        }
+        for r#as in &self.ases {
+            write!(f, "as {} mode {}", r#as.name, r#as.mode)?;
+            if !r#as.members.is_empty() {
+                f.write_str(" members")?;
+                r#as.members
+                    .iter()
+                    .try_for_each(|&p| write!(f, " {}", self.asps[p].name))?;
+            }
+            writeln!(f)?;
+        }
+        let mut rest = &self.links[..];
+        while let Some(first) = rest.first() {
+            let run = rest
+                .iter()
+                .zip(first.id..=u32::MAX)
+                .take_while(|(l, id)| l.id == *id && l.owner == first.owner)
+                .count();
+            let owner = &self.ases[first.owner].name;
+            if run == 1 {
+                writeln!(f, "link {} as {owner}", first.id)?;
+            } else {
+                writeln!(f, "link {}-{} as {owner}", first.id, rest[run - 1].id)?;
+            }
+            rest = &rest[run..];
+        }
+        Ok(())
+    }
+}

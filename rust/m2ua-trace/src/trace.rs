@@ -1,0 +1,212 @@
+//! What went to and fro in a script.
+use crate::script::{Command, Happening};
+use m2ua::{sys, Addressee, Event, Gateway, MessageType, Orders};
+
+/// Who takes part.
+#[derive(Clone, Copy, Debug, PartialEq, Eq)]
+pub enum Lane {
+    LinkSide,
+    Gateway,
+    Asp(usize),
+}
+
+/// One thing that is seen.
+#[derive(Clone, Debug, PartialEq, Eq)]
+pub enum What {
+    /// A message of an association, with its bytes.
+    Message(Lane, Lane, Vec<u8>),
+    /// A primitive between the gateway and the link side.
+    Primitive(Lane, Lane),
+    /// An association breaks.
+    Lost(usize),
+    /// Something about the gateway itself.
+    Note,
+}
+
+/// A line of the chart: what is seen, in words; and the number of the event that it belongs to.
+#[derive(Clone, Debug, PartialEq, Eq)]
+pub struct Step {
+    pub event: usize,
+    pub what: What,
+    pub label: String,
+}
+
+/// All of it, and how many ASPs take part.
+#[derive(Clone, Debug, PartialEq, Eq)]
+pub struct Trace {
+    pub asps: usize,
+    pub steps: Vec<Step>,
+}
+
+/// Runs a script, from a state that no event accepts until a plan is loaded.
+pub fn run(commands: &[Command]) -> Trace {
+    let mut runner = Runner {
+        gateway: None,
+        orders: Orders::new(),
+        event: 0,
+        trace: Trace {
+            asps: 0,
+            steps: Vec::new(),
+        },
+    };
+    for command in commands {
+        runner.event += 1;
+        match command {
+            Command::Plan(file) => runner.plan(file),
+            Command::Event(happening, list) => runner.happens(happening, *list),
+        }
+    }
+    runner.trace
+}
+
+struct Runner {
+    gateway: Option<Gateway>,
+    orders: Orders,
+    event: usize,
+    trace: Trace,
+}
+
+impl Runner {
+    fn step(&mut self, what: What, label: impl Into<String>) {
+        for lane in lanes(&what) {
+            if let Lane::Asp(p) = lane {
+                self.trace.asps = self.trace.asps.max(p + 1);
+            }
+        }
+        self.trace.steps.push(Step {
+            event: self.event,
+            what,
+            label: label.into(),
+        });
+    }
+
+    fn plan(&mut self, file: &[u8]) {
+        match Gateway::load(file) {
+            Ok(g) => {
+                self.trace.asps = self.trace.asps.max(g.asps());
+                self.step(
+                    What::Note,
+                    format!(
+                        "plan: {} ASPs, {} ASes, {} links",
+                        g.asps(),
+                        g.ases(),
+                        g.links()
+                    ),
+                );
+                self.gateway = Some(g);
+            }
+            Err(no) => {
+                self.step(What::Note, format!("plan refused: {no}"));
+                self.gateway = None;
+            }
+        }
+    }
+
+    /// What comes in is seen first, then the orders, then what has changed.
+    fn happens(&mut self, happening: &Happening, list: usize) {
+        let event = match happening {
+            Happening::Message(asp, message) => Event::Message { asp: *asp, message },
+            Happening::Lost(asp) => Event::Lost { asp: *asp },
+            Happening::Recovery(server) => Event::Recovery { r#as: *server },
+            Happening::LinkUp(link) => Event::LinkUp { link: *link },
+            Happening::LinkDown(link) => Event::LinkDown { link: *link },
+            Happening::LinkMessage(message) => Event::LinkMessage { message },
+        };
+        self.comes_in(&event);
+        let Some(g) = self.gateway else {
+            return self.step(What::Note, "refused: 105 (the state is not sound)");
+        };
+        let next = match g.event(&event, &mut self.orders) {
+            Ok(_) if list < sys::LIST_WORDS => {
+                return self.step(
+                    What::Note,
+                    "refused: 101 (the lent list of words is too short)",
+                )
+            }
+            Ok(next) => next,
+            Err(no) => return self.step(What::Note, format!("refused: {no}")),
+        };
+        let orders: Vec<_> = self.orders.iter().collect();
+        for (order, message) in orders.iter().zip(g.messages(&event)) {
+            let text = order.to_string();
+            let label = text
+                .split_once(": ")
+                .map_or(text.as_str(), |(_, words)| words);
+            match (order.to, message) {
+                (Addressee::Asp(p), Ok(Some(bytes))) => {
+                    self.step(What::Message(Lane::Gateway, Lane::Asp(p), bytes), label)
+                }
+                _ => self.step(What::Primitive(Lane::Gateway, Lane::LinkSide), label),
+            }
+        }
+        self.changes(&g, &next);
+        self.gateway = Some(next);
+    }
+
+    fn comes_in(&mut self, event: &Event<'_>) {
+        let text = event.to_string();
+        let label = text
+            .split_once(": ")
+            .map_or(text.as_str(), |(_, words)| words)
+            .to_string();
+        match *event {
+            Event::Message { asp, message } => self.step(
+                What::Message(Lane::Asp(asp.min(255)), Lane::Gateway, message.to_vec()),
+                label,
+            ),
+            Event::Lost { asp } => self.step(What::Lost(asp.min(255)), label),
+            Event::Recovery { r#as } => {
+                self.step(What::Note, format!("T(r) of AS {} is over", r#as))
+            }
+            Event::LinkUp { link } => self.step(
+                What::Primitive(Lane::LinkSide, Lane::Gateway),
+                format!("{} in service", self.link(link)),
+            ),
+            Event::LinkDown { link } => self.step(
+                What::Primitive(Lane::LinkSide, Lane::Gateway),
+                format!("{} out of service", self.link(link)),
+            ),
+            Event::LinkMessage { .. } => {
+                self.step(What::Primitive(Lane::LinkSide, Lane::Gateway), label)
+            }
+        }
+    }
+
+    fn link(&self, place: usize) -> String {
+        match self.gateway.and_then(|g| g.interface_id(place)) {
+            Some(id) => format!("link {id}"),
+            None => format!("link at place {place}"),
+        }
+    }
+
+    fn changes(&mut self, before: &Gateway, after: &Gateway) {
+        let timers = before.timers(after);
+        for a in 0..after.ases() {
+            match (before.as_state(a), after.as_state(a)) {
+                (was, Some(is)) if was != Some(is) => {
+                    let timer = if timers.started().any(|b| a == b) {
+                        ", T(r) starts"
+                    } else {
+                        ""
+                    };
+                    self.step(What::Note, format!("AS {a} is {is}{timer}"));
+                }
+                _ => {}
+            }
+        }
+    }
+}
+
+/// The lanes of a step.
+pub fn lanes(what: &What) -> Vec<Lane> {
+    match what {
+        What::Message(from, to, _) | What::Primitive(from, to) => vec![*from, *to],
+        What::Lost(p) => vec![Lane::Asp(*p)],
+        What::Note => vec![Lane::Gateway],
+    }
+}
+
+/// Whether a message is of class 6, from its bytes.
+pub fn is_traffic(message: &[u8]) -> bool {
+    m2ua::read(message).is_ok_and(|r| r.message.class() == MessageType::Data.class())
+}

@@ -1,0 +1,121 @@
+//! Charts and captures of small scripts.
+use m2ua_trace::{capture, chart, script, svg, trace};
+
+const PLAN: &str = "plan 000000180000000100000020000000010000002400000001000000070001000000000001000000640000 0000";
+
+fn source(lines: &str) -> String {
+    format!("{}\n{lines}", PLAN.replace("0000 0000", "00000000"))
+}
+
+fn traced(lines: &str) -> trace::Trace {
+    trace::run(&script::parse(&source(lines)).unwrap())
+}
+
+#[test]
+fn a_chart() {
+    let t = traced("msg 0 1032 0100030100000008\nmsg 0 1032 0100040100000008\nmsg 0 1032 01000602000000100001000800000064\nup 0 1032\nlost 0 1032\nrecovery 0 1032\nmsg 0 1031 -\nlost 1 1032\n");
+    let expected = "
+ link side  gateway    ASP 0     ASP 1
+     |         |         |         |
+     |         *         |         |  plan: 1 ASPs, 1 ASes, 1 links
+     |         |         |         |
+     |         |<--------|         |  ASP Up
+     |         |-------->|         |  ASP Up Ack
+     |         |-------->|         |  Notify, AS 0 inactive
+     |         *         |         |  AS 0 is inactive
+     |         |         |         |
+     |         |<--------|         |  ASP Active
+     |         |-------->|         |  ASP Active Ack
+     |         |-------->|         |  Notify, AS 0 active
+     |         *         |         |  AS 0 is active
+     |         |         |         |
+     |         |<--------|         |  Establish Request of link 100
+     |<--------|         |         |  Establish Request of link 100
+     |         |         |         |
+     |-------->|         |         |  link 100 in service
+     |         |-------->|         |  Establish Confirm of link 100
+     |         |         |         |
+     |         |.........X         |  association lost
+     |         *         |         |  AS 0 is pending, T(r) starts
+     |         |         |         |
+     |         *         |         |  T(r) of AS 0 is over
+     |         *         |         |  AS 0 is down
+     |         |         |         |
+     |         |<--------|         |  0 bytes that do not read: 7 (protocol error)
+     |         *         |         |  refused: 101 (the lent list of words is too short)
+     |         |         |         |
+     |         |...................X  association lost
+     |         *         |         |  refused: 102 (no such ASP, AS or link in the plan, or a message of the link side that does not fit)
+";
+    assert_eq!(format!("\n{}", chart::text(&t)), expected);
+    let picture = svg::picture(&t);
+    assert_eq!(picture.matches("<text").count(), 4 + t.steps.len());
+    assert!(picture.starts_with("<svg ") && picture.ends_with("</svg>\n"));
+}
+
+#[test]
+fn a_capture_has_each_message_of_an_association() {
+    let t = traced("msg 0 1032 0100030100000008\nup 0 1032\nlost 0 1032\n");
+    let file = capture::pcap(&t);
+    assert_eq!(file[..4], [0xd4, 0xc3, 0xb2, 0xa1]);
+    let (mut at, mut chunks) = (24, Vec::new());
+    while at < file.len() {
+        let length = u32::from_le_bytes(file[at + 8..at + 12].try_into().unwrap()) as usize;
+        let packet = &file[at + 16..at + 16 + length];
+        assert_eq!((packet[0], packet[9]), (0x45, 132));
+        assert_eq!(
+            usize::from(u16::from_be_bytes([packet[2], packet[3]])),
+            length
+        );
+        let mut segment = packet[20..].to_vec();
+        let sum = u32::from_le_bytes(segment[8..12].try_into().unwrap());
+        segment[8..12].fill(0);
+        assert_eq!(capture::crc32c(&segment), sum);
+        chunks.push((packet[15], packet[19], packet[32]));
+        at += 16 + length;
+    }
+    // last byte of source and destination, kind of chunk
+    assert_eq!(chunks, [(1, 1, 0), (1, 1, 0), (1, 1, 0), (1, 1, 6)]);
+    assert_eq!(capture::crc32c(b"123456789"), 0xe306_9283);
+}
+
+#[test]
+fn wrong_lines_are_named() {
+    for (line, why) in [
+        ("nonsense", "line 2: no command of docs/SCRIPT.md: nonsense"),
+        ("lost x 1032", "line 2: 'x' is no number of 32 bits"),
+        (
+            "lost 4294967296 1",
+            "line 2: '4294967296' is no number of 32 bits",
+        ),
+        (
+            "msg 0 1032 0",
+            "line 2: bytes are pairs of hex digits, or -",
+        ),
+        (
+            "msg 0 1032 é1",
+            "line 2: bytes are pairs of hex digits, or -",
+        ),
+        ("lost 0", "line 2: no command of docs/SCRIPT.md: lost 0"),
+    ] {
+        assert_eq!(script::parse(&source(line)).unwrap_err(), why);
+    }
+    assert_eq!(
+        script::parse("# nothing\n\nstate\nread 00\nreach lost 0 1032\n").unwrap(),
+        []
+    );
+}
+
+#[test]
+fn without_a_plan_every_event_is_refused() {
+    let t = trace::run(&script::parse("plan 00\nlost 0 1032\n").unwrap());
+    let labels: Vec<&str> = t.steps.iter().map(|s| s.label.as_str()).collect();
+    assert_eq!(
+        labels,
+        [
+            "plan refused: 201 (plan file: a count, an offset or the length is wrong)",
+            "association lost",
+            "refused: 105 (the state is not sound)"
+        ]
+    );
+}

@@ -1,0 +1,328 @@
+//! A small host: it loads a plan, lets two ASPs take turns, a link come up, units go both ways, an association break and the recovery time run out. What a host sends, and which
+//! timers it starts, is printed. (examples/c/scenario.c is the same in C; tools/hosts compares what both print.)
+//! Usage: scenario PLAN, with examples/plans/sample.txt compiled; or scenario words.
+use m2ua::{
+    parameter, protocol_data, read, sys, write, Addressee, Event, Gateway, MessageType, Order,
+    Orders, Parameter, Refusal,
+};
+use std::process::ExitCode;
+
+/// What a host keeps: the state, and a list to lend.
+struct Host {
+    gateway: Gateway,
+    orders: Orders,
+}
+
+impl Host {
+    /// An event: its orders in words, then as bytes, which come from the state before the event; then what has changed.
+    fn happens(&mut self, what: &str, event: Event<'_>) -> Result<(), Refusal> {
+        println!("{what}");
+        let next = match self.gateway.event(&event, &mut self.orders) {
+            Ok(next) => next,
+            Err(no) => {
+                println!("  refused: {no}");
+                return Ok(());
+            }
+        };
+        for (place, message) in self.gateway.messages(&event).enumerate() {
+            let order = self.orders.get(place).expect("as many messages as orders");
+            println!("  {order}");
+            match (order.to, message?, event) {
+                (Addressee::Asp(asp), Some(bytes), _) => {
+                    send_to_asp(asp, &bytes);
+                    // one order by itself is the same message
+                    assert_eq!(self.gateway.order(&event, place)?, bytes);
+                }
+                (Addressee::LinkSide, _, Event::Message { message, .. })
+                    if order.message == MessageType::Data =>
+                {
+                    send_to_link(order.subject, message)
+                }
+                _ => {}
+            }
+        }
+        self.changes(&next);
+        self.gateway = next;
+        Ok(())
+    }
+
+    /// What has changed: the states of ASes, and the timers that start and stop.
+    fn changes(&self, next: &Gateway) {
+        let timers = self.gateway.timers(next);
+        for a in 0..next.ases() {
+            match next.as_state(a) {
+                Some(state) if self.gateway.as_state(a) != Some(state) => {
+                    println!("  AS {a} is {state}")
+                }
+                _ => {}
+            }
+            timers
+                .started()
+                .filter(|&b| a == b)
+                .for_each(|_| println!("  timer: start T(r) of AS {a}"));
+            timers
+                .stopped()
+                .filter(|&b| a == b)
+                .for_each(|_| println!("  timer: stop T(r) of AS {a}"));
+        }
+    }
+
+    fn place_of(&self, id: u32) -> usize {
+        self.gateway.link_place(id).expect("a link of the plan")
+    }
+}
+
+/// Hands a unit to a link. Here it is printed; a host gives it to MTP2.
+fn send_to_link(id: u32, message: &[u8]) {
+    let tag = if parameter(message, sys::TAG_DATA_1).is_some() {
+        "0x300"
+    } else {
+        "0x301"
+    };
+    println!(
+        "    unit ({tag}) to link {id}: {}",
+        hex(protocol_data(message))
+    );
+}
+
+/// Sends a message to an ASP. Here it is printed; a host writes it to the ASP's association.
+fn send_to_asp(asp: usize, bytes: &[u8]) {
+    println!("    {} bytes to ASP {asp}: {}", bytes.len(), hex(bytes));
+}
+
+fn hex(bytes: &[u8]) -> String {
+    bytes.iter().map(|b| format!("{b:02x}")).collect()
+}
+
+/// One message; what is written reads.
+fn message(kind: MessageType, parameters: &[(u16, &[u8])]) -> Result<Vec<u8>, Refusal> {
+    let parameters: Vec<Parameter> = parameters
+        .iter()
+        .map(|&(tag, value)| Parameter::new(tag, value))
+        .collect();
+    let bytes = write(kind, &parameters)?;
+    read(&bytes)?;
+    Ok(bytes)
+}
+
+fn scenario(host: &mut Host) -> Result<(), Refusal> {
+    use MessageType::*;
+    let (link100, link200) = (
+        (sys::TAG_INTERFACE_ID, &[0, 0, 0, 100][..]),
+        (sys::TAG_INTERFACE_ID, &[0, 0, 0, 200][..]),
+    );
+    // a test message of MTP3
+    let unit = (sys::TAG_DATA_1, &b"\x81\x02\x40\x00\x10\x11\x40TEST"[..]);
+    let identified = message(Up, &[(sys::TAG_ASP_ID, &[0, 0, 0, 7])])?;
+    let (up, active, down) = (
+        message(Up, &[])?,
+        message(Active, &[])?,
+        message(Down, &[])?,
+    );
+    let take = message(
+        Active,
+        &[
+            (sys::TAG_TRAFFIC_MODE, &[0, 0, 0, 1]),
+            (sys::TAG_INTERFACE_ID_RANGE, &[0, 0, 0, 100, 0, 0, 0, 115]),
+        ],
+    )?;
+    let establish = message(EstablishRequest, &[link100])?;
+    let data = message(
+        Data,
+        &[link100, unit, (sys::TAG_CORRELATION_ID, &[0, 0, 0, 5])],
+    )?;
+    let received = message(Data, &[link100, unit])?;
+    let beat = message(Beat, &[(sys::TAG_HEARTBEAT, b"alive")])?;
+    let other = message(Active, &[link200])?;
+    host.happens(
+        "left comes up",
+        Event::Message {
+            asp: 0,
+            message: &identified,
+        },
+    )?;
+    host.happens(
+        "left takes links 100 to 115",
+        Event::Message {
+            asp: 0,
+            message: &take,
+        },
+    )?;
+    host.happens(
+        "right comes up",
+        Event::Message {
+            asp: 1,
+            message: &up,
+        },
+    )?;
+    host.happens(
+        "right takes over",
+        Event::Message {
+            asp: 1,
+            message: &active,
+        },
+    )?;
+    host.happens(
+        "right starts link 100",
+        Event::Message {
+            asp: 1,
+            message: &establish,
+        },
+    )?;
+    host.happens(
+        "link 100 is in service",
+        Event::LinkUp {
+            link: host.place_of(100),
+        },
+    )?;
+    host.happens(
+        "right sends a unit on link 100",
+        Event::Message {
+            asp: 1,
+            message: &data,
+        },
+    )?;
+    host.happens(
+        "a unit comes in on link 100",
+        Event::LinkMessage { message: &received },
+    )?;
+    host.happens(
+        "right sends a heartbeat",
+        Event::Message {
+            asp: 1,
+            message: &beat,
+        },
+    )?;
+    host.happens(
+        "left asks for a link of another AS",
+        Event::Message {
+            asp: 0,
+            message: &other,
+        },
+    )?;
+    host.happens(
+        "left sends three bytes",
+        Event::Message {
+            asp: 0,
+            message: &up[..3],
+        },
+    )?;
+    host.happens("the association of right is lost", Event::Lost { asp: 1 })?;
+    host.happens(
+        "left takes over in time",
+        Event::Message {
+            asp: 0,
+            message: &active,
+        },
+    )?;
+    host.happens(
+        "left goes down",
+        Event::Message {
+            asp: 0,
+            message: &down,
+        },
+    )?;
+    host.happens(
+        "the recovery time of AS 0 is over",
+        Event::Recovery { r#as: 0 },
+    )?;
+    host.happens(
+        "link 100 fails",
+        Event::LinkDown {
+            link: host.place_of(100),
+        },
+    )?;
+    host.happens(
+        "an event of an ASP that there is not",
+        Event::Lost { asp: 3 },
+    )
+}
+
+/// Every name, to be compared with include/m2ua_text.h.
+fn words() {
+    for &message in MessageType::ALL {
+        for value in 0..3 {
+            let to = if value == 0 {
+                Addressee::LinkSide
+            } else {
+                Addressee::Asp(value as usize)
+            };
+            println!(
+                "{}",
+                Order {
+                    to,
+                    message,
+                    subject: 100 + value,
+                    value
+                }
+            );
+        }
+    }
+    for value in 65537..65542 {
+        println!(
+            "{}",
+            Order {
+                to: Addressee::Asp(1),
+                message: MessageType::Notify,
+                subject: 2,
+                value
+            }
+        );
+    }
+    for value in 0..100 {
+        println!(
+            "{}",
+            Order {
+                to: Addressee::Asp(1),
+                message: MessageType::Error,
+                subject: 5,
+                value
+            }
+        );
+    }
+    for code in 1..300 {
+        println!("{}", Refusal::of(code).expect("0 alone is none"));
+    }
+}
+
+fn run(path: &str) -> Result<(), String> {
+    if m2ua::abi() != sys::ABI {
+        return Err(format!(
+            "the library has ABI {}, this program was compiled for {}",
+            m2ua::abi(),
+            sys::ABI
+        ));
+    }
+    let file = std::fs::read(path).map_err(|e| format!("{path}: {e}"))?;
+    let gateway = Gateway::load(&file).map_err(|no| format!("{path}: {no}"))?;
+    let gateway = Gateway::from_raw(*gateway.raw()).map_err(|no| no.to_string())?;
+    println!(
+        "plan: {} ASPs, {} ASes, {} links",
+        gateway.asps(),
+        gateway.ases(),
+        gateway.links()
+    );
+    scenario(&mut Host {
+        gateway,
+        orders: Orders::new(),
+    })
+    .map_err(|no| no.to_string())
+}
+
+fn main() -> ExitCode {
+    let arguments: Vec<String> = std::env::args().skip(1).collect();
+    match &arguments[..] {
+        [word] if word == "words" => words(),
+        [path] => {
+            if let Err(why) = run(path) {
+                eprintln!("{why}");
+                return ExitCode::from(1);
+            }
+        }
+        _ => {
+            eprintln!("usage: scenario PLAN (a file that m2ua-plan compile has made)");
+            return ExitCode::from(2);
+        }
+    }
+    ExitCode::SUCCESS
+}

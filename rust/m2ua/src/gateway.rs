@@ -1,0 +1,305 @@
+//! The gateway's state.
+use crate::event::Event;
+use crate::order::Orders;
+use crate::refusal::Refusal;
+use crate::sys;
+use std::fmt;
+
+/// How the ASPs of an AS share its traffic.
+#[derive(Clone, Copy, Debug, PartialEq, Eq, Hash)]
+pub enum TrafficMode {
+    /// One at a time.
+    Override,
+    /// Each link to one of them.
+    LoadShare,
+    /// All to all of them.
+    Broadcast,
+}
+
+impl TrafficMode {
+    /// The mode of a number of RFC 3331.
+    pub fn of(number: u32) -> Option<TrafficMode> {
+        match number {
+            sys::MODE_OVERRIDE => Some(TrafficMode::Override),
+            sys::MODE_LOADSHARE => Some(TrafficMode::LoadShare),
+            sys::MODE_BROADCAST => Some(TrafficMode::Broadcast),
+            _ => None,
+        }
+    }
+
+    /// Its number.
+    pub fn number(self) -> u32 {
+        match self {
+            TrafficMode::Override => sys::MODE_OVERRIDE,
+            TrafficMode::LoadShare => sys::MODE_LOADSHARE,
+            TrafficMode::Broadcast => sys::MODE_BROADCAST,
+        }
+    }
+}
+
+impl fmt::Display for TrafficMode {
+    fn fmt(&self, f: &mut fmt::Formatter<'_>) -> fmt::Result {
+        f.pad(match self {
+            TrafficMode::Override => "override",
+            TrafficMode::LoadShare => "load-share",
+            TrafficMode::Broadcast => "broadcast",
+        })
+    }
+}
+
+/// The state of a link (Rule 5.1).
+#[derive(Clone, Copy, Debug, PartialEq, Eq, Hash)]
+pub enum LinkState {
+    /// Out of service.
+    Idle,
+    /// An Establish Request is under way.
+    Starting,
+    /// In service.
+    InService,
+    /// A Release Request is under way.
+    Stopping,
+}
+
+impl fmt::Display for LinkState {
+    fn fmt(&self, f: &mut fmt::Formatter<'_>) -> fmt::Result {
+        f.pad(match self {
+            LinkState::Idle => "idle",
+            LinkState::Starting => "starting",
+            LinkState::InService => "in service",
+            LinkState::Stopping => "stopping",
+        })
+    }
+}
+
+/// The state of an AS (Rule 5.2).
+#[derive(Clone, Copy, Debug, PartialEq, Eq, Hash)]
+pub enum AsState {
+    /// No member is up, and it does not wait.
+    Down,
+    /// A member is up, none is active, and it does not wait.
+    Inactive,
+    /// A member is active.
+    Active,
+    /// No member is active, and it waits for one.
+    Pending,
+}
+
+impl fmt::Display for AsState {
+    fn fmt(&self, f: &mut fmt::Formatter<'_>) -> fmt::Result {
+        f.pad(match self {
+            AsState::Down => "down",
+            AsState::Inactive => "inactive",
+            AsState::Active => "active",
+            AsState::Pending => "pending",
+        })
+    }
+}
+
+/// The recovery timers T(r) that an event asks for (Rule 5.19).
+#[derive(Clone, Copy, Debug, PartialEq, Eq)]
+pub struct Timers {
+    waits: sys::Waits,
+}
+
+impl Timers {
+    /// The ASes whose timer is to be started.
+    pub fn started(&self) -> impl Iterator<Item = usize> + '_ {
+        (0..sys::MAX_ASES).filter(|&a| self.waits.began[a] == 1)
+    }
+
+    /// The ASes whose timer is to be stopped.
+    pub fn stopped(&self) -> impl Iterator<Item = usize> + '_ {
+        (0..sys::MAX_ASES).filter(|&a| self.waits.ended[a] == 1)
+    }
+}
+
+/// The gateway's state (Rule 5.1): the plan, and what events have made of it. A value: copy it, keep it, throw it away.
+///
+/// ASPs and ASes are named by number and links by place, all from 0 in the plan's order. What lies beyond the plan is `false`, 0 or `None`.
+#[derive(Clone, Copy, PartialEq, Eq)]
+pub struct Gateway {
+    pub(crate) state: sys::Gateway,
+}
+
+impl Gateway {
+    /// The fresh state of a plan file (section 4 of the rules), or 201 or 202. The program `m2ua-plan` makes such files from text.
+    ///
+    /// ```
+    /// assert_eq!(m2ua::Gateway::load(b"no plan").unwrap_err().code(), 201);
+    /// ```
+    pub fn load(file: &[u8]) -> Result<Gateway, Refusal> {
+        let loaded = sys::load(file);
+        Refusal::check(loaded.code)?;
+        Ok(Gateway {
+            state: loaded.gateway,
+        })
+    }
+
+    /// A state that comes from elsewhere, as from another node: refused with 105 where it is not sound (Rule 5.4).
+    pub fn from_raw(state: sys::Gateway) -> Result<Gateway, Refusal> {
+        let code = if sys::is_sound(&state) {
+            sys::OK
+        } else {
+            sys::REFUSED_STATE
+        };
+        Refusal::check(code).map(|()| Gateway { state })
+    }
+
+    /// The C struct.
+    pub fn raw(&self) -> &sys::Gateway {
+        &self.state
+    }
+
+    /// An event on this state: its orders go to `orders`, and the next state is handed back. Refused (102), there are no orders; this state is as it was in either case.
+    pub fn event(&self, event: &Event<'_>, orders: &mut Orders) -> Result<Gateway, Refusal> {
+        let (kind, index, message) = event.parts();
+        orders.count = 0;
+        let outcome = sys::event(&self.state, kind, index, message, &mut orders.words[..]);
+        Refusal::check(outcome.refusal)?;
+        orders.count = outcome.count;
+        Ok(Gateway {
+            state: outcome.gateway,
+        })
+    }
+
+    /// The recovery timers to start and to stop after an event that led from this state to the next.
+    pub fn timers(&self, next: &Gateway) -> Timers {
+        Timers {
+            waits: sys::waits(&self.state, &next.state),
+        }
+    }
+
+    /// The state of an AS.
+    pub fn as_state(&self, r#as: usize) -> Option<AsState> {
+        let answer = sys::as_state(&self.state, r#as);
+        match (answer.code, answer.value) {
+            (sys::OK, sys::AS_DOWN) => Some(AsState::Down),
+            (sys::OK, sys::AS_INACTIVE) => Some(AsState::Inactive),
+            (sys::OK, sys::AS_ACTIVE) => Some(AsState::Active),
+            (sys::OK, sys::AS_PENDING) => Some(AsState::Pending),
+            _ => None,
+        }
+    }
+
+    /// The place of the link with an interface identifier.
+    pub fn link_place(&self, id: u32) -> Option<usize> {
+        let answer = sys::link_place(&self.state, id);
+        (answer.code == sys::OK).then_some(answer.value as usize)
+    }
+
+    /// How many ASPs the plan has.
+    pub fn asps(&self) -> usize {
+        self.state.asps.into()
+    }
+
+    /// How many ASes the plan has.
+    pub fn ases(&self) -> usize {
+        self.state.ases.into()
+    }
+
+    /// How many links the plan has.
+    pub fn links(&self) -> usize {
+        self.state.links.into()
+    }
+
+    /// The identifier of an ASP.
+    pub fn asp_id(&self, asp: usize) -> Option<u32> {
+        (asp < self.asps()).then(|| self.state.aspid[asp])
+    }
+
+    /// The traffic mode of an AS.
+    pub fn mode(&self, r#as: usize) -> Option<TrafficMode> {
+        TrafficMode::of((*self.state.mode.get(r#as)?).into())
+    }
+
+    /// The interface identifier of the link at a place.
+    pub fn interface_id(&self, link: usize) -> Option<u32> {
+        (link < self.links()).then(|| self.state.iid[link])
+    }
+
+    /// The AS that owns the link at a place.
+    pub fn owner(&self, link: usize) -> Option<usize> {
+        (link < self.links()).then(|| self.state.owner[link].into())
+    }
+
+    /// Whether an ASP has part in an AS.
+    pub fn is_member(&self, r#as: usize, asp: usize) -> bool {
+        pair(&self.state.member, r#as, asp)
+    }
+
+    /// Whether an ASP is up.
+    pub fn is_up(&self, asp: usize) -> bool {
+        self.state.up.get(asp) == Some(&1)
+    }
+
+    /// Whether an ASP is active in an AS.
+    pub fn is_active(&self, r#as: usize, asp: usize) -> bool {
+        pair(&self.state.active, r#as, asp)
+    }
+
+    /// Whether an AS waits: then its recovery timer T(r) has to run.
+    pub fn is_waiting(&self, r#as: usize) -> bool {
+        self.state.waiting.get(r#as) == Some(&1)
+    }
+
+    /// The state of the link at a place.
+    pub fn link_state(&self, link: usize) -> Option<LinkState> {
+        (link < self.links()).then(|| match u32::from(self.state.state[link]) {
+            sys::LINK_IDLE => LinkState::Idle,
+            sys::LINK_STARTING => LinkState::Starting,
+            sys::LINK_IN_SERVICE => LinkState::InService,
+            _ => LinkState::Stopping,
+        })
+    }
+}
+
+fn pair(table: &[u8; sys::PAIRS], r#as: usize, asp: usize) -> bool {
+    r#as < sys::MAX_ASES && asp < sys::MAX_ASPS && table[r#as * sys::MAX_ASPS + asp] == 1
+}
+
+impl fmt::Display for Gateway {
+    /// One line: what is up, active and waiting, and the links that are not idle.
+    fn fmt(&self, f: &mut fmt::Formatter<'_>) -> fmt::Result {
+        let asps = (0..self.asps()).filter(|&p| self.is_up(p));
+        write!(f, "up: {}", listed(asps.map(|p| format!("ASP {p}"))))?;
+        for a in 0..self.ases() {
+            let active = (0..self.asps()).filter(|&p| self.is_active(a, p));
+            write!(
+                f,
+                "; AS {a}: {}",
+                listed(active.map(|p| format!("ASP {p} active")))
+            )?;
+            if self.is_waiting(a) {
+                f.write_str(", waits")?;
+            }
+        }
+        for l in 0..self.links() {
+            if let (Some(id), Some(state)) = (self.interface_id(l), self.link_state(l)) {
+                if state != LinkState::Idle {
+                    write!(f, "; link {id} {state}")?;
+                }
+            }
+        }
+        Ok(())
+    }
+}
+
+fn listed(items: impl Iterator<Item = String>) -> String {
+    let all: Vec<String> = items.collect();
+    if all.is_empty() {
+        return "none".into();
+    }
+    all.join(", ")
+}
+
+impl fmt::Debug for Gateway {
+    fn fmt(&self, f: &mut fmt::Formatter<'_>) -> fmt::Result {
+        write!(
+            f,
+            "Gateway({} ASPs, {} ASes, {} links; {self})",
+            self.asps(),
+            self.ases(),
+            self.links()
+        )
+    }
+}

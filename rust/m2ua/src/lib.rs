@@ -1,0 +1,55 @@
+//! The M2UA side (RFC 3331) of a signalling gateway: SS7 links come in, call controllers (ASPs) take them over by M2UA messages. This crate is a safe layer over the
+//! proved library `libm2ua.a`; it adds types, words and no rule of its own. The rules are in docs/RULES.md, the guide for hosts is docs/HOST.md.
+//!
+//! A host has SCTP, timers and MTP2. It loads a [`Gateway`] from a plan file, and for each thing that happens it makes an [`Event`], calls [`Gateway::event`], carries out the
+//! [`Orders`] and keeps the next state:
+//!
+//! ```
+//! use m2ua::{Addressee, Event, Gateway, MessageType, Orders};
+//!
+//! // One ASP with identifier 7 in one AS, override; one link with identifier 100.
+//! let plan = [
+//!     0, 0, 0, 24, 0, 0, 0, 1, 0, 0, 0, 32, 0, 0, 0, 1, 0, 0, 0, 36, 0, 0, 0, 1, // where the rows are, and how many
+//!     0, 0, 0, 7, 0, 1, 0, 0, // an ASP: identifier, its ASes as bits, spare
+//!     0, 0, 0, 1, // an AS: mode
+//!     0, 0, 0, 100, 0, 0, 0, 0, // a link: identifier, owner
+//! ];
+//! let gateway = Gateway::load(&plan)?;
+//! let mut orders = Orders::new();
+//! let up = m2ua::write(MessageType::Up, &[])?;
+//! let next = gateway.event(&Event::Message { asp: 0, message: &up }, &mut orders)?;
+//! assert!(next.is_up(0));
+//! let first = orders.iter().next().unwrap();
+//! assert_eq!((first.to, first.message), (Addressee::Asp(0), MessageType::UpAck));
+//! assert_eq!(first.to_string(), "to ASP 0: ASP Up Ack");
+//! # Ok::<(), m2ua::Refusal>(())
+//! ```
+//!
+//! A state is a value: [`Gateway`] is `Copy`, an event leaves the one it was called on as it was, and any thread may use any of them.
+#![deny(unsafe_code)]
+#![warn(missing_docs)]
+
+mod bytes;
+mod event;
+mod gateway;
+mod message;
+mod order;
+mod refusal;
+#[allow(missing_docs)]
+pub mod sys;
+mod words;
+
+pub use bytes::Messages;
+pub use event::Event;
+pub use gateway::{AsState, Gateway, LinkState, Timers, TrafficMode};
+pub use message::{
+    parameter, parameters, protocol_data, read, write, write_into, MessageType, Parameter,
+    Parameters, Reading,
+};
+pub use order::{Addressee, Order, Orders, Status};
+pub use refusal::Refusal;
+
+/// The ABI of the library that is linked (`sys::ABI` is the one that this crate was written for).
+pub fn abi() -> u32 {
+    sys::abi()
+}

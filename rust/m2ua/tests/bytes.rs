@@ -1,0 +1,218 @@
+//! Orders as bytes: one by one and many at a time, the same; and each reads as the order says.
+use m2ua::{read, sys, write, Addressee, Event, Gateway, MessageType, Orders, Parameter};
+
+/// 16 ASPs in 16 ASes of broadcast, with 8 links each.
+fn full() -> Gateway {
+    let mut words: Vec<u32> = vec![24, 16, 152, 16, 216, 128];
+    words.extend((0..16).flat_map(|id| [id, 0xffff_0000]));
+    words.extend([3; 16]);
+    words.extend((0..128).flat_map(|id| [id, id / 8]));
+    let file: Vec<u8> = words.iter().flat_map(|w| w.to_be_bytes()).collect();
+    Gateway::load(&file).unwrap()
+}
+
+/// The event is done, its orders are as bytes what they are as words, and the next state is handed back.
+fn sent(g: &Gateway, event: &Event<'_>, orders: &mut Orders) -> Gateway {
+    let next = g.event(event, orders).unwrap();
+    let messages: Vec<_> = g.messages(event).map(|m| m.unwrap()).collect();
+    assert_eq!(messages.len(), orders.len(), "{event}");
+    for (place, (order, message)) in orders.iter().zip(&messages).enumerate() {
+        let one = g.order(event, place);
+        match (order.to, message) {
+            (Addressee::LinkSide, None) => assert_eq!(one.unwrap_err().code(), 104),
+            (Addressee::Asp(_), Some(bytes)) => {
+                assert_eq!(one.as_ref(), Ok(bytes));
+                assert_eq!(read(bytes).unwrap().message, order.message);
+            }
+            _ => panic!("{order}: {message:?}"),
+        }
+    }
+    assert_eq!(g.order(event, orders.len()).unwrap_err().code(), 104);
+    next
+}
+
+#[test]
+fn every_kind_of_event() {
+    let mut orders = Orders::new();
+    let mut g = full();
+    let plain = |message| write(message, &[]).unwrap();
+    let id = 9u32.to_be_bytes();
+    let link = Parameter::new(sys::TAG_INTERFACE_ID, &id);
+    let (up, down, active) = (
+        plain(MessageType::Up),
+        plain(MessageType::Down),
+        plain(MessageType::Active),
+    );
+    let beat = write(
+        MessageType::Beat,
+        &[Parameter::new(sys::TAG_HEARTBEAT, &[7; 1000])],
+    )
+    .unwrap();
+    let establish = write(MessageType::EstablishRequest, &[link]).unwrap();
+    let data = write(
+        MessageType::Data,
+        &[
+            link,
+            Parameter::new(sys::TAG_DATA_1, &[1, 2, 3, 4, 5]),
+            Parameter::new(sys::TAG_CORRELATION_ID, &[0, 0, 0, 3]),
+        ],
+    )
+    .unwrap();
+    let unknown = write(
+        MessageType::Active,
+        &[Parameter::new(sys::TAG_INTERFACE_ID, &[0, 0, 1, 0])],
+    )
+    .unwrap();
+    for asp in 0..16 {
+        g = sent(&g, &Event::Message { asp, message: &up }, &mut orders);
+    }
+    for message in [&active, &beat, &establish, &unknown] {
+        g = sent(&g, &Event::Message { asp: 1, message }, &mut orders);
+    }
+    g = sent(&g, &Event::LinkUp { link: 9 }, &mut orders);
+    g = sent(
+        &g,
+        &Event::Message {
+            asp: 1,
+            message: &data,
+        },
+        &mut orders,
+    );
+    assert_eq!(orders.len(), 2);
+    g = sent(&g, &Event::LinkMessage { message: &data }, &mut orders);
+    g = sent(&g, &Event::LinkDown { link: 9 }, &mut orders);
+    g = sent(
+        &g,
+        &Event::Message {
+            asp: 1,
+            message: &up,
+        },
+        &mut orders,
+    );
+    assert_eq!(orders.len(), sys::MAX_ORDERS);
+    g = sent(&g, &Event::Recovery { r#as: 3 }, &mut orders);
+    g = sent(&g, &Event::Lost { asp: 2 }, &mut orders);
+    sent(
+        &g,
+        &Event::Message {
+            asp: 1,
+            message: &down,
+        },
+        &mut orders,
+    );
+    sent(
+        &g,
+        &Event::Message {
+            asp: 1,
+            message: &[1, 2, 3],
+        },
+        &mut orders,
+    );
+}
+
+#[test]
+fn a_notify_names_the_links() {
+    let mut orders = Orders::new();
+    let g = full();
+    let up = write(MessageType::Up, &[]).unwrap();
+    let event = Event::Message {
+        asp: 0,
+        message: &up,
+    };
+    g.event(&event, &mut orders).unwrap();
+    let notify = g.order(&event, 2).unwrap();
+    let listed: Vec<String> = m2ua::parameters(&notify).map(|p| p.to_string()).collect();
+    assert_eq!(listed[0], "status (0xd) 65538");
+    assert_eq!(
+        m2ua::parameters(&notify).nth(1).unwrap().value[..8],
+        [0, 0, 0, 8, 0, 0, 0, 9]
+    );
+}
+
+#[test]
+fn batches() {
+    let mut orders = Orders::new();
+    let mut g = full();
+    let (up, active) = (
+        write(MessageType::Up, &[]).unwrap(),
+        write(MessageType::Active, &[]).unwrap(),
+    );
+    for asp in 0..16 {
+        g = g
+            .event(&Event::Message { asp, message: &up }, &mut orders)
+            .unwrap();
+    }
+    g = g
+        .event(
+            &Event::Message {
+                asp: 0,
+                message: &active,
+            },
+            &mut orders,
+        )
+        .unwrap();
+    let event = Event::Message {
+        asp: 0,
+        message: &up,
+    };
+    let one_by_one: Vec<u8> = g
+        .messages(&event)
+        .flat_map(|m| m.unwrap().unwrap())
+        .collect();
+    assert_eq!(one_by_one.len(), 13336);
+    let (mut lens, mut out) = ([0; sys::MAX_ORDERS], [0; 13337]);
+    assert_eq!(
+        g.orders_into(&event, 0, &mut lens, &mut out),
+        Ok((sys::MAX_ORDERS, 13336))
+    );
+    assert_eq!(out[..13336], one_by_one);
+    // an Up Ack of 8 bytes, an Error of 16, Notifies of 52
+    assert_eq!(
+        g.orders_into(&event, 0, &mut lens, &mut out[..8 + 16 + 2 * 52 + 51]),
+        Ok((4, 128))
+    );
+    assert_eq!(
+        g.orders_into(&event, 0, &mut lens[..3], &mut out),
+        Ok((3, 76))
+    );
+    assert_eq!(
+        g.orders_into(&event, 0, &mut [], &mut out)
+            .unwrap_err()
+            .code(),
+        103
+    );
+    assert_eq!(
+        g.orders_into(&event, 2, &mut lens, &mut out[..51])
+            .unwrap_err()
+            .code(),
+        103
+    );
+    assert_eq!(
+        g.orders_into(&event, 258, &mut lens, &mut out)
+            .unwrap_err()
+            .code(),
+        104
+    );
+}
+
+#[test]
+fn refusals() {
+    let g = full();
+    let up = write(MessageType::Up, &[]).unwrap();
+    let beyond = Event::Lost { asp: 16 };
+    assert_eq!(
+        g.messages(&beyond)
+            .map(|m| m.unwrap_err().code())
+            .collect::<Vec<_>>(),
+        [102]
+    );
+    assert_eq!(g.order(&beyond, 0).unwrap_err().code(), 102);
+    let event = Event::Message {
+        asp: 0,
+        message: &up,
+    };
+    let mut out = [0xaa; 7];
+    assert_eq!(g.order_into(&event, 0, &mut out).unwrap_err().code(), 103);
+    assert_eq!(out, [0xaa; 7]);
+    assert_eq!(g.messages(&Event::Lost { asp: 0 }).count(), 0);
+}
