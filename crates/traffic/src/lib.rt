@@ -165,10 +165,7 @@ fn ases_of(member: &[u8; 256], p: usize) -> u32
 fn names_none(ids: bool, named: u32) -> bool
     ensures { λ r. ⌜ r ≡ (not ids && not (some (flagsOf named))) ⌝ }
 {
-    if ids {
-        return false;
-    }
-    !server::has_some(naming::flags_of(named))
+    !ids & (named % 65536 == 0)
 }
 
 // What a message names: by its identifiers, and without any all of p's ASes.

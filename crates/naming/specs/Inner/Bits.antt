@@ -1,7 +1,7 @@
 -- A set of ASes as the bits of a number: AS a is bit a.
 -- Assumes nothing.
 use mathlib.Core.Path.{_≡_, refl, sym, ap, _∙_}
-use mathlib.Core.Bool.{Bool, true, false, cond, _||_}
+use mathlib.Core.Bool.{Bool, true, false, cond, not, _||_}
 use mathlib.Core.List.{List}
 use Prim.Native.Nat.{ℕ, zero, suc, _+_, _*_, _/_, _%_, _^_, _<_, _≤_, max}
 use native.Mathlib.Nat.{max-le, max-zero, le-max-right}
@@ -10,9 +10,11 @@ use native.Mathlib.Decide.{ℕ-discrete}
 use lib.ListN.{length, getD, set, replicate, getD-replicate, length-set}
 use lib.Seq.{getD-set-same, getD-set-other}
 use lib.Bits.{bitOr, or-step, or-zero-r, shifted-half, shifted-even}
-use lib.Pow.{shr-shr}
+use lib.Pow.{pow-pos, shr-shr, mod-pow-add}
 use lib.Dec.{eqb}
 use borrow.Author.Tests.{eq-eqb, ne-eqb}
+use Rattle.laws.specs.Below.{anyBelow}
+use Rattle.laws.specs.Inner.Below.{any-ext}
 use Rattle.laws.specs.Columns.{flagAt, tabulate}
 use Rattle.laws.specs.Inner.Columns.{Half, half-none, half-more, half-keep, is-tabulate, getD-tabulate, length-tabulate}
 
@@ -110,3 +112,27 @@ half-zero f = half-none f 16 (flagsOf 0) (flags-long 0)
 pub half-if : (f : ℕ → Bool) (k : ℕ) {l next : List Bool} (t : Bool) → Half f (flagAt (flagsOf 0)) 16 k l → k < 16 → t ≡ f k → next ≡ cond t (set l k true) l → Half f (flagAt (flagsOf 0)) 16 (k + 1) next
 half-if f k true h b e q = rw q (half-more true h b e)
 half-if f k false h b e q = rw q (half-keep h b (flag-zero k b ∙ e))
+
+-- ---- whether some AS is in the set
+
+-- two digits are zero exactly where both are
+split-zero : (d p r : ℕ) → d < 2 → 0 < p → not (eqb (d * p + r) 0) ≡ (not (eqb r 0) || eqb d 1)
+split-zero zero p r h b = let e : 0 * p + r ≡ r = omega arith in ap (λ (x : ℕ). not (eqb x 0)) e ∙ or-none (not (eqb r 0))
+split-zero (suc zero) p r h b = ap not (ne-eqb (1 * p + r) 0 (λ e. omega arith)) ∙ or-true (not (eqb r 0))
+  where
+    or-true : (u : Bool) → true ≡ (u || true)
+    or-true true = refl
+    or-true false = refl
+split-zero (suc (suc d)) p r h b = absurd (let w : ⊥ = omega arith in w)
+
+some-below : (n k : ℕ) → anyBelow (bitAt n) k ≡ not (eqb (n % 2 ^ k) 0)
+unfolding anyBelow bitAt
+some-below n zero = let e : n % 1 ≡ 0 = omega arith in sym (ap (λ (x : ℕ). not (eqb x 0)) e)
+some-below n (suc k) =
+    let e : 1 + k ≡ suc k = omega arith in
+    ap (λ (u : Bool). u || bitAt n k) (some-below n k)
+    ∙ sym (split-zero (n / 2 ^ k % 2) (2 ^ k) (n % 2 ^ k) (omega arith) (pow-pos k))
+    ∙ ap (λ (x : ℕ). not (eqb x 0)) (sym (mod-pow-add n 1 k) ∙ ap (λ (j : ℕ). n % 2 ^ j) e)
+
+pub some-bits : (n : ℕ) → anyBelow (flagAt (flagsOf n)) 16 ≡ not (eqb (n % 65536) 0)
+some-bits n = any-ext (flagAt (flagsOf n)) (bitAt n) 16 (λ a b. flag-is n a b) ∙ some-below n 16
