@@ -8,6 +8,8 @@ ghost use Prim.Native.Nat.{_<_, _≤_};
 ghost use lib.Dec.{eqb};
 ghost use Rattle.action.specs.Words.{action, linkSide, toAll};
 ghost use Rattle.gateway.specs.Sound.{ascends};
+ghost use Rattle.laws.specs.Columns.{tabulate};
+ghost use Rattle.lookup.specs.Servers.{receives};
 ghost use Rattle.ranges.specs.Inner.Laws.{Table};
 ghost use Rattle.rules.specs.Link.{establish, release, dataEffect, linkEffect, classSixEffect, linkUpEffect, linkDownEffect, linkMessageEffect};
 ghost use Rattle.rules.specs.Effect.{send, setLink};
@@ -156,6 +158,17 @@ pub fn class_six<'a>(
 
 // ---- to the recipients of the link at l
 
+// Who gets a message of a link of AS a (Rule 5.15): only in load-share are the active members counted.
+fn receivers(active: &[u8; 256], mode: u8, a: usize, x: u32) -> [bool; 16]
+    requires { ⌜ a < 16 ⌝ }
+    ensures { λ r. ⌜ r ≡ tabulate 16 (receives (now (active .entry)) mode a x) ⌝ }
+{
+    if mode == 2 {
+        return lookup::recipients(active, mode, a, x);
+    }
+    server::row_of(active, a)
+}
+
 // Who they are.
 fn recipients_at<'a>(
     links: usize,
@@ -169,7 +182,7 @@ fn recipients_at<'a>(
     ensures { λ r. ⌜ r ≡ recipientsAt (now (active .entry)) (now (mode .entry)) (now (iid .entry)) (now (owner .entry)) l ⌝ }
 {
     let a = owner[l] as usize;
-    lookup::recipients(active, mode[a], a, iid[l])
+    receivers(active, mode[a], a, iid[l])
 }
 
 // Link up, where they are given.

@@ -3,3 +3,4 @@ pub mod Turns
 pub mod Order
 pub mod Samples
 pub mod Places
+pub mod NoParameters

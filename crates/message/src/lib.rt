@@ -13,6 +13,7 @@ use wire::UNSUPPORTED_TYPE;
 ghost use mathlib.Core.Path.{_≡_};
 ghost use Prim.Native.Nat.{_+_, _≤_, _<_};
 ghost use mathlib.Core.Bool.{cond, not, true, false};
+ghost use mathlib.Core.List.{[]};
 ghost use lib.ListN.{length, getD};
 ghost use lib.Dec.{eqb};
 ghost use Rattle.laws.specs.Choice.{_orElse_, _if_};
@@ -20,8 +21,8 @@ ghost use Rattle.wire.specs.Walk.{walk};
 ghost use Rattle.parameter.specs.Table.{table, rowIn};
 ghost use Rattle.parameter.specs.Inner.Slot.{slot, infoOf};
 ghost use Rattle.message.specs.Verdict.{exactly, head, lastChecks};
-ghost use Rattle.message.specs.Meaning.{flag, refusal, outcome, readingOf, dataAt, dataOf};
-ghost use Rattle.message.specs.Inner.Seen.{sequenceAt, endAt, meaningAt, outcomeAt, placeAt, rowOutcome, kindOutcome, checksOutcome};
+ghost use Rattle.message.specs.Meaning.{flag, refusal, meaning, outcome, readingOf, dataAt, dataOf};
+ghost use Rattle.message.specs.Inner.Seen.{sequenceAt, endAt, meaningAt, outcomeAt, placeAt, rowCode, rowOutcome, kindOutcome, checksOutcome};
 
 // The slots of the tags that are asked for.
 const ID: usize = 1;
@@ -277,24 +278,68 @@ fn read_pars(s: &[u8], info: RowInfo) -> Reading
     }
 }
 
-// The checks 3 to 8, of whether the class is listed, the row, and the length field.
-fn read_row(listed: bool, row: usize, n: u32, s: &[u8]) -> Reading
-    requires { ⌜ (8 ≤ length (now s)) × ((row ≤ 17) × (row ≡ rowIn table (getD (now s) 2 0) (getD (now s) 3 0))) ⌝ }
-    ensures { λ r. ⌜ r ≡ rowOutcome listed row n (now (s .entry)) ⌝ }
+// A message without parameters, of a row whose mandatory slots are packed. Answered without a walk: Up, Down, Active and Beat often have none.
+fn bare(musts: u32, c: u8, t: u8) -> Reading
+    ensures { λ r. ⌜ r ≡ cond (eqb musts 0) (meaning c t []) (refusal 22) ⌝ }
+{
+    if musts != 0 {
+        return refused(MISSING_PARAMETER);
+    }
+    Reading {
+        code: 0,
+        class: c as u32,
+        msgtype: t as u32,
+        ids: 0,
+        id: 0,
+        mode: 0,
+        identified: 0,
+        aspid: 0,
+        correlated: 0,
+        correlation: 0,
+        state: 0,
+        retrieval: 0,
+    }
+}
+
+// The checks 6 to 8, of a message whose row is known.
+fn read_body(s: &[u8], info: RowInfo) -> Reading
+    requires { ⌜ (8 ≤ length (now s)) × ((rowIn table (getD (now s) 2 0) (getD (now s) 3 0) < 17) × (info ≡ infoOf (rowIn table (getD (now s) 2 0) (getD (now s) 3 0)))) ⌝ }
+    ensures { λ r. ⌜ r ≡ outcome (lastChecks (now (s .entry))) (now (s .entry)) ⌝ }
+{
+    if s.len() == HEADER {
+        return bare(info.musts, s[2], s[3]);
+    }
+    read_pars(s, info)
+}
+
+// The checks 3 to 5, of whether the class is listed, the row, the length field and the number of bytes.
+fn row_code(listed: bool, row: usize, n: u32, len: usize) -> u32
+    ensures { λ r. ⌜ r ≡ rowCode listed row n len ⌝ }
 {
     if !listed {
-        return refused(UNSUPPORTED_CLASS);
+        return UNSUPPORTED_CLASS;
     }
     if row == NO_ROW {
-        return refused(UNSUPPORTED_TYPE);
+        return UNSUPPORTED_TYPE;
     }
-    if n as usize != s.len() {
-        return refused(PROTOCOL_ERROR);
+    if n as usize != len {
+        return PROTOCOL_ERROR;
     }
-    if s.len() % 4 != 0 {
-        return refused(PROTOCOL_ERROR);
+    if len % 4 != 0 {
+        return PROTOCOL_ERROR;
     }
-    read_pars(s, parameter::row_info(row))
+    0
+}
+
+// The checks 3 to 8, of what the checks 3 to 5 gave and the row. (One refusal for the three: so the message's fields stay in registers.)
+fn read_row(code: u32, row: usize, s: &[u8]) -> Reading
+    requires { ⌜ (8 ≤ length (now s)) × ((code ≡ 0 → row < 17) × (row ≡ rowIn table (getD (now s) 2 0) (getD (now s) 3 0))) ⌝ }
+    ensures { λ r. ⌜ r ≡ rowOutcome code (now (s .entry)) ⌝ }
+{
+    if code != 0 {
+        return refused(code);
+    }
+    read_body(s, parameter::row_info(row))
 }
 
 // The checks 3 to 8.
@@ -304,12 +349,9 @@ fn read_kind(s: &[u8]) -> Reading
 {
     let c = s[2];
     let t = s[3];
-    read_row(
-        parameter::class_ok(c),
-        parameter::row_of(c, t),
-        wire::get32(s, 4),
-        s,
-    )
+    let row = parameter::row_of(c, t);
+    let code = row_code(parameter::class_ok(c), row, wire::get32(s, 4), s.len());
+    read_row(code, row, s)
 }
 
 // The checks in their order.

@@ -1,22 +1,58 @@
 // The identifiers that a message names, looked up once: the first that is refused or, where none is, the ASes that own them.
 use ranges::Refused;
 ghost use mathlib.Core.Path.{_≡_};
-ghost use mathlib.Core.Bool.{true, false, _||_};
+ghost use mathlib.Core.Bool.{true, false, cond, _||_};
+ghost use lib.ListN.{set};
 ghost use Prim.Native.Nat.{_<_, _≤_};
 ghost use Rattle.laws.specs.Columns.{flagAt, tabulate};
 ghost use Rattle.gateway.specs.Sound.{ascends};
 ghost use Rattle.lookup.specs.Inner.Links.{rank};
 ghost use Rattle.ranges.specs.Named.{isRefused, isOwnedBy, nothing, refusing, firstIn, someIn, startAt, stopAt, refusedIn, someOf};
 ghost use Rattle.ranges.specs.Inner.Laws.{Table};
+ghost use Rattle.naming.specs.Inner.Bits.{flagsOf};
 ghost use Rattle.naming.specs.Inner.Names.{Names};
 
-// The flags are of use where nothing is refused.
+// The ASes are of use where nothing is refused: AS a is bit a of the number. (A table of flags would be kept in sixteen registers, element by element.)
 pub struct Named {
     pub refused: Refused,
-    pub set: [bool; 16],
+    pub set: u32,
 }
 
-pub fn passes(set: [bool; 16]) -> Named
+// ---- a set of ASes, as the bits of a number
+
+// The set, with AS a.
+fn with_as(bits: u32, a: usize) -> u32
+    requires { ⌜ a < 16 ⌝ }
+    ensures { λ r. ⌜ flagsOf r ≡ set (flagsOf bits) a true ⌝ }
+{
+    bits | (1u32 << (a as u32))
+}
+
+// The set, with AS a where t holds.
+pub fn with_if(bits: u32, a: usize, t: bool) -> u32
+    requires { ⌜ a < 16 ⌝ }
+    ensures { λ r. ⌜ flagsOf r ≡ cond t (set (flagsOf bits) a true) (flagsOf bits) ⌝ }
+{
+    if t {
+        return with_as(bits, a);
+    }
+    bits
+}
+
+// The set as flags.
+pub fn flags_of(bits: u32) -> [bool; 16]
+    ensures { λ r. ⌜ r ≡ flagsOf bits ⌝ }
+{
+    let mut r = [false; 16];
+    for a in 0..16usize {
+        r[a] = (bits >> (a as u32)) % 2 == 1;
+    }
+    r
+}
+
+// ---- what is handed back
+
+pub fn passes(set: u32) -> Named
     ensures { λ r. ⌜ (r .refused ≡ nothing) × (r .set ≡ set) ⌝ }
 {
     Named {
@@ -28,7 +64,7 @@ pub fn passes(set: [bool; 16]) -> Named
     }
 }
 
-fn refuses(x: u32, set: [bool; 16]) -> Named
+fn refuses(x: u32, set: u32) -> Named
     ensures { λ r. ⌜ r .refused ≡ refusing x ⌝ }
 {
     Named {
@@ -36,6 +72,8 @@ fn refuses(x: u32, set: [bool; 16]) -> Named
         set: set,
     }
 }
+
+// ---- the identifiers
 
 // How many identifiers are below x. They often come in order: so the place `near` is tried first.
 fn rank_near(iid: &[u32; 128], links: usize, x: u32, near: usize) -> usize
@@ -70,9 +108,9 @@ fn is_refused<'a>(
     (iid[l] != x) | !lookup::is_member(member, a, p)
 }
 
-// The identifiers of the value of a 0x1, beside the flags set.
+// The identifiers of the value of a 0x1, beside those of the set.
 pub fn of_ids<'a>(
-    set: [bool; 16],
+    set: u32,
     value: &[u8],
     iid: &'a [u32; 128],
     owner: &'a [u8; 128],
@@ -81,7 +119,7 @@ pub fn of_ids<'a>(
     p: usize,
 ) -> Named
     requires { ⌜ Table (now iid) (now owner) links × (p < 16) ⌝ }
-    ensures { λ r. ⌜ Names r (refusedIn (isRefused (now (iid .entry)) (now (owner .entry)) (now (member .entry)) links p) false (now (value .entry))) (tabulate 16 (λ a. flagAt set a || someOf (isOwnedBy (now (iid .entry)) (now (owner .entry)) links a) false (now (value .entry)))) ⌝ }
+    ensures { λ r. ⌜ Names r (refusedIn (isRefused (now (iid .entry)) (now (owner .entry)) (now (member .entry)) links p) false (now (value .entry))) (tabulate 16 (λ a. flagAt (flagsOf set) a || someOf (isOwnedBy (now (iid .entry)) (now (owner .entry)) links a) false (now (value .entry)))) ⌝ }
 {
     let n = value.len() / 4;
     let mut r = set;
@@ -92,8 +130,7 @@ pub fn of_ids<'a>(
         if is_refused(iid, owner, member, links, p, l, x) {
             return refuses(x, r);
         }
-        let a = gateway::wide(owner[l]);
-        r[a] = true;
+        r = with_as(r, gateway::wide(owner[l]));
         near = l + 1;
     }
     passes(r)
@@ -101,7 +138,7 @@ pub fn of_ids<'a>(
 
 // The identifiers from start to stop, both ends meant.
 fn of_range<'a>(
-    set: [bool; 16],
+    set: u32,
     iid: &'a [u32; 128],
     owner: &'a [u8; 128],
     member: &'a [u8; 256],
@@ -111,7 +148,7 @@ fn of_range<'a>(
     stop: u32,
 ) -> Named
     requires { ⌜ Table (now iid) (now owner) links × (p < 16) ⌝ }
-    ensures { λ r. ⌜ Names r (firstIn (isRefused (now (iid .entry)) (now (owner .entry)) (now (member .entry)) links p) start stop) (tabulate 16 (λ a. flagAt set a || someIn (isOwnedBy (now (iid .entry)) (now (owner .entry)) links a) start stop)) ⌝ }
+    ensures { λ r. ⌜ Names r (firstIn (isRefused (now (iid .entry)) (now (owner .entry)) (now (member .entry)) links p) start stop) (tabulate 16 (λ a. flagAt (flagsOf set) a || someIn (isOwnedBy (now (iid .entry)) (now (owner .entry)) links a) start stop)) ⌝ }
 {
     if stop < start {
         return passes(set);
@@ -123,8 +160,7 @@ fn of_range<'a>(
         if is_refused(iid, owner, member, links, p, l, x) {
             return refuses(x, r);
         }
-        let o = gateway::wide(owner[l]);
-        r[o] = true;
+        r = with_as(r, gateway::wide(owner[l]));
         if x == stop {
             return passes(r);
         }
@@ -135,7 +171,7 @@ fn of_range<'a>(
 
 // The identifiers of the value of a 0x8.
 pub fn of_ranges<'a>(
-    set: [bool; 16],
+    set: u32,
     value: &[u8],
     iid: &'a [u32; 128],
     owner: &'a [u8; 128],
@@ -144,7 +180,7 @@ pub fn of_ranges<'a>(
     p: usize,
 ) -> Named
     requires { ⌜ Table (now iid) (now owner) links × (p < 16) ⌝ }
-    ensures { λ r. ⌜ Names r (refusedIn (isRefused (now (iid .entry)) (now (owner .entry)) (now (member .entry)) links p) true (now (value .entry))) (tabulate 16 (λ a. flagAt set a || someOf (isOwnedBy (now (iid .entry)) (now (owner .entry)) links a) true (now (value .entry)))) ⌝ }
+    ensures { λ r. ⌜ Names r (refusedIn (isRefused (now (iid .entry)) (now (owner .entry)) (now (member .entry)) links p) true (now (value .entry))) (tabulate 16 (λ a. flagAt (flagsOf set) a || someOf (isOwnedBy (now (iid .entry)) (now (owner .entry)) links a) true (now (value .entry)))) ⌝ }
 {
     let n = value.len() / 8;
     let mut r = set;

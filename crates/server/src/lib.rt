@@ -49,7 +49,7 @@ pub fn has_some(x: [bool; 16]) -> bool
 // ---- cut out and put back
 
 // The row of AS a.
-fn row_of(column: &[u8; 256], a: usize) -> [bool; 16]
+pub fn row_of(column: &[u8; 256], a: usize) -> [bool; 16]
     requires { ⌜ a < 16 ⌝ }
     ensures { λ r. ⌜ r ≡ row (now (column .entry)) a ⌝ }
 {

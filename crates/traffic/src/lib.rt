@@ -15,7 +15,9 @@ ghost use Rattle.wire.specs.Walk.{walk};
 ghost use Rattle.action.specs.Words.{action};
 ghost use Rattle.ranges.specs.Inner.Laws.{Table};
 ghost use Rattle.ranges.specs.Named.{isRefused, isOwnedBy};
+ghost use Rattle.naming.specs.Inner.Bits.{flagsOf};
 ghost use Rattle.naming.specs.Inner.Names.{Names};
+ghost use Rattle.server.specs.Record.{some};
 ghost use Rattle.servers.specs.Changed.{columnOf};
 ghost use Rattle.server.specs.declared.Change.the-variants.{Activate};
 ghost use Rattle.rules.specs.Effect.{send, changeIn};
@@ -27,9 +29,9 @@ ghost use Rattle.action.specs.Types.{aspActiveAck};
 
 // ---- the identifiers of a message
 
-// Those of a parameter, beside the flags set.
+// Those of a parameter, beside those of the set.
 fn named_par<'a>(
-    set: [bool; 16],
+    set: u32,
     t: u16,
     v: &[u8],
     links: usize,
@@ -39,7 +41,7 @@ fn named_par<'a>(
     p: usize,
 ) -> Named
     requires { ⌜ Table (now iid) (now owner) links × (p < 16) ⌝ }
-    ensures { λ r. ⌜ Names r (refusedPar (isRefused (now (iid .entry)) (now (owner .entry)) (now (member .entry)) links p) t (now (v .entry))) (withPar set (isOwnedBy (now (iid .entry)) (now (owner .entry)) links) t (now (v .entry))) ⌝ }
+    ensures { λ r. ⌜ Names r (refusedPar (isRefused (now (iid .entry)) (now (owner .entry)) (now (member .entry)) links p) t (now (v .entry))) (withPar (flagsOf set) (isOwnedBy (now (iid .entry)) (now (owner .entry)) links) t (now (v .entry))) ⌝ }
 {
     if t == 1 {
         return naming::of_ids(set, v, iid, owner, member, links, p);
@@ -62,7 +64,7 @@ fn named_of<'a>(
     requires { ⌜ Table (now iid) (now owner) links × (p < 16) ⌝ }
     ensures { λ r. ⌜ Names r (refusedPars (isRefused (now (iid .entry)) (now (owner .entry)) (now (member .entry)) links p) (walk (now (s .entry)) 8 .pars)) (ownersPars (isOwnedBy (now (iid .entry)) (now (owner .entry)) links) (walk (now (s .entry)) 8 .pars)) ⌝ }
 {
-    let mut set = [false; 16];
+    let mut set: u32 = 0;
     let mut at: usize = 8;
     loop {
         let w = wire::step_at(s, at);
@@ -85,19 +87,20 @@ fn named_of<'a>(
 // ---- Active and Inactive
 
 // Whether the mode of some AS named is not m.
-fn some_other(mode: &[u8; 16], m: usize, named: [bool; 16]) -> bool
-    ensures { λ r. ⌜ r ≡ anyBelow (λ a. flagAt named a && not (eqb (numberAt (now (mode .entry)) a) m)) 16 ⌝ }
+fn some_other(mode: &[u8; 16], m: usize, named: u32) -> bool
+    ensures { λ r. ⌜ r ≡ anyBelow (λ a. flagAt (flagsOf named) a && not (eqb (numberAt (now (mode .entry)) a) m)) 16 ⌝ }
 {
     let mut found = false;
     for a in 0..16usize {
-        found = found | (named[a] & (gateway::wide(mode[a]) != m));
+        let is = (named >> (a as u32)) % 2 == 1;
+        found = found | (is & (gateway::wide(mode[a]) != m));
     }
     found
 }
 
 // Whether a mode is given that is not that of some AS named (Rule 7.9).
-fn other_mode(mode: &[u8; 16], m: u32, named: [bool; 16]) -> bool
-    ensures { λ r. ⌜ r ≡ otherModeIn (now (mode .entry)) m named ⌝ }
+fn other_mode(mode: &[u8; 16], m: u32, named: u32) -> bool
+    ensures { λ r. ⌜ r ≡ otherModeIn (now (mode .entry)) m (flagsOf named) ⌝ }
 {
     (m != 0) & some_other(mode, m as usize, named)
 }
@@ -117,11 +120,11 @@ fn active_at(p: usize, other: bool, named: [bool; 16]) -> Decision
     )
 }
 
-fn active_work(mode: &[u8; 16], p: usize, m: u32, named: [bool; 16]) -> Decision
+fn active_work(mode: &[u8; 16], p: usize, m: u32, named: u32) -> Decision
     requires { ⌜ p < 16 ⌝ }
-    ensures { λ w. ⌜ DecidesOn (λ g. g .mode ≡ now (mode .entry)) (λ g. activeEffect g p m named) w ⌝ }
+    ensures { λ w. ⌜ DecidesOn (λ g. g .mode ≡ now (mode .entry)) (λ g. activeEffect g p m (flagsOf named)) w ⌝ }
 {
-    active_at(p, other_mode(mode, m, named), named)
+    active_at(p, other_mode(mode, m, named), naming::flags_of(named))
 }
 
 fn inactive_work(p: usize, named: [bool; 16]) -> Decision
@@ -136,14 +139,33 @@ fn inactive_work(p: usize, named: [bool; 16]) -> Decision
 }
 
 // Active where on holds, else Inactive, in the ASes named.
-fn act_in(on: bool, mode: &[u8; 16], p: usize, m: u32, named: [bool; 16]) -> Decision
+fn act_in(on: bool, mode: &[u8; 16], p: usize, m: u32, named: u32) -> Decision
     requires { ⌜ p < 16 ⌝ }
-    ensures { λ w. ⌜ DecidesOn (λ g. g .mode ≡ now (mode .entry)) (λ g. act g p on m named) w ⌝ }
+    ensures { λ w. ⌜ DecidesOn (λ g. g .mode ≡ now (mode .entry)) (λ g. act g p on m (flagsOf named)) w ⌝ }
 {
     if on {
         return active_work(mode, p, m, named);
     }
-    inactive_work(p, named)
+    inactive_work(p, naming::flags_of(named))
+}
+
+// The ASes of ASP p.
+fn ases_of(member: &[u8; 256], p: usize) -> u32
+    requires { ⌜ p < 16 ⌝ }
+    ensures { λ r. ⌜ flagsOf r ≡ columnOf (now (member .entry)) p ⌝ }
+{
+    let mut r: u32 = 0;
+    for a in 0..16usize {
+        r = naming::with_if(r, a, member[a * 16 + p] == 1);
+    }
+    r
+}
+
+// Whether a message without identifiers names no AS.
+fn names_none(ids: bool, named: u32) -> bool
+    ensures { λ r. ⌜ r ≡ (not ids && not (some (flagsOf named))) ⌝ }
+{
+    !ids & (named % 65536 == 0)
 }
 
 // What a message names: by its identifiers, and without any all of p's ASes.
@@ -162,7 +184,7 @@ fn aim<'a>(
     if ids {
         return named_of(s, links, member, iid, owner, p);
     }
-    naming::passes(servers::column_of(member, p))
+    naming::passes(ases_of(member, p))
 }
 
 // Active, where on holds, and Inactive (Rules 7.8 to 7.10).
@@ -191,7 +213,7 @@ pub fn traffic_work<'a>(
         return work::error_two(p, f.id);
     }
     let named = e.set;
-    if !ids & !server::has_some(named) {
+    if names_none(ids, named) {
         return work::error(p, 6);
     }
     act_in(on, mode, p, r.mode, named)

@@ -13,7 +13,7 @@ small c = owner-small _ _ _ (c .pre .0) (c .args .l) (c .pre .1)
 
 returns : tie.Need-returns
 unfolding recipientsAt
-returns c = c .recipients .ensures
+returns c = c .receivers .ensures
 
 pub recipients-at-spec : {M : Type 1} → statement M
 recipients-at-spec =

@@ -73,15 +73,16 @@ unfoldable pub placeAt : ℕ → ℕ → List Par → DataAt
 placeAt k at [] = record { start = 0; length = 0 }
 placeAt k at (p ∷ ps) = cond (eqb (slot (p .tag)) k) (record { start = at + 4; length = length (p .body) }) (placeAt k (at + padded (4 + length (p .body))) ps)
 
--- The checks in the order in which the code asks: 3 to 8, of whether the class is listed, the row and the length field
-unfoldable pub rowOutcome : Bool → ℕ → ℕ → List ℕ → Reading
-rowOutcome listed i n s =
-    cond (not listed) (refusal 3)
-    (cond (eqb i 17) (refusal 4)
-    (cond (eqb n (length s)) (cond (eqb (length s % 4) 0) (outcome (lastChecks s) s) (refusal 7)) (refusal 7)))
+-- The checks in the order in which the code asks: 3 to 5, of whether the class is listed, the row, the length field and the number of bytes
+unfoldable pub rowCode : Bool → ℕ → ℕ → ℕ → ℕ
+rowCode listed i n len = cond (not listed) 3 (cond (eqb i 17) 4 (cond (eqb n len) (cond (eqb (len % 4) 0) 0 7) 7))
+
+-- 3 to 8, of what they gave
+unfoldable pub rowOutcome : ℕ → List ℕ → Reading
+rowOutcome n s = cond (eqb n 0) (outcome (lastChecks s) s) (refusal n)
 
 abbrev pub kindOutcome : List ℕ → Reading
-kindOutcome s = rowOutcome (hasClass table (getD s 2 0)) (rowIn table (getD s 2 0) (getD s 3 0)) (be 4 s 4) s
+kindOutcome s = rowOutcome (rowCode (hasClass table (getD s 2 0)) (rowIn table (getD s 2 0) (getD s 3 0)) (be 4 s 4) (length s)) s
 
 -- and all of them
 unfoldable pub checksOutcome : List ℕ → Reading

@@ -19,6 +19,7 @@ use Rattle.ranges.specs.Named.{isRefused, isOwnedBy, nothing, refusing, firstIn
 use Rattle.ranges.specs.Inner.Laws.{Table, named, refused-past, good-none, good-more, refuses-at, none-refused, first-of-none, entry-good, entry-refused, entries-good}
 use Rattle.ranges.specs.Inner.Marks.{Marked, Flags, flags-none, flags-more, flags-end, owners-start, owners-more, owners-end}
 use Rattle.naming.specs.declared.Named.{Named}
+use Rattle.naming.specs.Inner.Bits.{flagsOf}
 use Rattle.naming.specs.Inner.Names.{Names}
 
 or-none : (u : Bool) → u ≡ (u || false)
@@ -51,8 +52,8 @@ names-refused x e f = record { refused = e ∙ f; set = λ h. absurd (false≢tr
 pub names-found : {r : Named} {first : Refused} {owners : List Bool} → r .refused .found ≡ true → r .refused ≡ first → Names r first owners
 names-found f e = record { refused = e; set = λ h. absurd (false≢true (sym h ∙ f)) }
 
-pub names-none : {r : Named} {first : Refused} {owners s : List Bool} → r .refused ≡ nothing → nothing ≡ first → r .set ≡ s → s ≡ owners → Names r first owners
-names-none e f g h = record { refused = e ∙ f; set = λ z. g ∙ h }
+pub names-none : {r : Named} {first : Refused} {owners : List Bool} {s : ℕ} → r .refused ≡ nothing → nothing ≡ first → r .set ≡ s → flagsOf s ≡ owners → Names r first owners
+names-none e f g h = record { refused = e ∙ f; set = λ z. ap flagsOf g ∙ h }
 
 -- ---- an identifier alone is a range of one
 

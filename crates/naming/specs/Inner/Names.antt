@@ -5,8 +5,9 @@ use mathlib.Core.Bool.{Bool, false}
 use mathlib.Core.List.{List}
 use Rattle.ranges.specs.declared.Refused.{Refused}
 use Rattle.naming.specs.declared.Named.{Named}
+use Rattle.naming.specs.Inner.Bits.{flagsOf}
 
 -- the first refused identifier, and where there is none the owners' flags
 pub record Names (r : Named) (first : Refused) (owners : List Bool) : Type 0 where
   pub refused : r .refused ≡ first
-  pub set : r .refused .found ≡ false → r .set ≡ owners
+  pub set : r .refused .found ≡ false → flagsOf (r .set) ≡ owners

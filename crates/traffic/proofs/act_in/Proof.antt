@@ -9,7 +9,7 @@ returns c = record { on = λ g h. let d = c .active-work .ensures .on g h in sea
 
 returns-2 : tie.Need-returns-2
 unfolding act
-returns-2 c = record { on = λ g h. search decisions depth 5 }
+returns-2 c = let d = rw (c .before .flags-of .ensures) at (c .inactive-work .ensures) in record { on = λ g h. search decisions depth 5 }
 
 pub act-in-spec : {M : Type 1} → statement M
-act-in-spec = tie.close (tie.spec (λ c κs. search needs) returns (λ c κs. search needs) returns-2)
+act-in-spec = tie.close (tie.spec (λ c κs. search needs) returns (λ c κs. search needs) (λ c κs. search needs) returns-2)

@@ -1,6 +1,7 @@
 use Rattle.traffic.specs.Inner.Named.{refusedPars, refused-here, refused-later, Owners, owners-none, owners-more, owners-end}
 use Rattle.ranges.specs.Named.{isRefused, isOwnedBy}
 use Rattle.naming.specs.Inner.Laws.{names-found, names-none}
+use Rattle.naming.specs.Inner.Bits.{flagsOf, flags-zero}
 use Rattle.ranges.specs.Inner.Laws.{Table}
 use Rattle.wire.proofs.Steps.{step-next, Next, pars-next, pars-stop}
 use Rattle.wire.specs.declared.Step.the-variants.{Param}
@@ -14,7 +15,7 @@ use Rattle.traffic.proofs.named_of.Statement.{statement}
 use Rattle.traffic.proofs.named_of.Tie as tie
 
 abbrev Inv-loop : tie.InvT-loop
-Inv-loop s links member iid owner p set₀ at₀ set at = (refusedPars (isRefused iid owner member links p) (walk s at .pars) ≡ refusedPars (isRefused iid owner member links p) (walk s 8 .pars)) × Owners (isOwnedBy iid owner links) (walk s at .pars) (walk s 8 .pars) set × Table iid owner links × (p < 16)
+Inv-loop s links member iid owner p set₀ at₀ set at = (refusedPars (isRefused iid owner member links p) (walk s at .pars) ≡ refusedPars (isRefused iid owner member links p) (walk s 8 .pars)) × Owners (isOwnedBy iid owner links) (walk s at .pars) (walk s 8 .pars) (flagsOf set) × Table iid owner links × (p < 16)
 
 abbrev μ-loop : tie.MeasureT-loop
 μ-loop s links member iid owner p set₀ at₀ set at = length s - at
@@ -38,15 +39,15 @@ returns-2 : tie.Need-returns-2 Inv-loop μ-loop
 returns-2 c = let k = c .before .before .before .before in names-found (c .if1 .taken) (refused-here _ _ _ _ (c .before .before .named-par .ensures .refused) (c .if1 .taken) ∙ ap (refusedPars _) (sym (pars-next _ _ _ _ _ (reads-at k))) ∙ k .before .before .before .before .loop .inv .0)
 
 loop-again : tie.Need-loop-again Inv-loop μ-loop
-loop-again c = let k = c .before .before .before .before .before in let i = k .before .before .before .before .loop .inv in let e = c .before .before .before .named-par .ensures in let z = pars-next _ _ _ _ _ (reads-at k) in (refused-later _ _ _ _ (e .refused) (c .before .if1 .left) ∙ ap (refusedPars _) (sym z) ∙ i .0, owners-more _ _ _ _ _ _ (rw z at (i .1)) (e .set (c .before .if1 .left)), i .2, i .3)
+loop-again c = let k = c .before .before .before .before in let i = k .before .before .before .before .loop .inv in let e = c .before .before .named-par .ensures in let z = pars-next _ _ _ _ _ (reads-at k) in (refused-later _ _ _ _ (e .refused) (c .if1 .left) ∙ ap (refusedPars _) (sym z) ∙ i .0, owners-more _ _ _ _ _ _ (rw z at (i .1)) (e .set (c .if1 .left)), i .2, i .3)
 
 pub named-of-spec : {M : Type 1} → statement M
 named-of-spec =
     tie.close
-    (tie.spec Inv-loop μ-loop (λ c. (refl, owners-none _ _, c .before .pre .0, c .before .pre .1))
+    (tie.spec Inv-loop μ-loop (λ c. (refl, rw flags-zero (owners-none _ _), c .before .pre .0, c .before .pre .1))
     (λ c κs. search needs) (λ c. search needs) (λ c κs. search needs) returns (λ c. let k = next-at c in omega arith)
     (λ c. let k = next-at c in omega arith) (λ c. let k = next-at c in omega arith)
     (λ c. let k = next-at c in omega arith) (λ c. let k = next-at c in omega arith)
     (λ c. let k = next-at c in omega arith)
     (λ c κs. let i = c .before .before .before .before .before .loop .inv in (i .2, i .3)) returns-2
-    (λ c. let k = next-at (c .before .before .before .before .before) in omega arith) loop-again)
+    (λ c. let k = next-at (c .before .before .before .before) in omega arith) loop-again)

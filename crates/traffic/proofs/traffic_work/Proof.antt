@@ -1,4 +1,4 @@
-use mathlib.Core.Path.{_≡_}
+use mathlib.Core.Path.{_≡_, sym, _∙_}
 use mathlib.Core.Bool.{true}
 use mathlib.Core.List.{List}
 use Prim.Native.Nat.{ℕ}
@@ -27,13 +27,13 @@ returns-2 c =
 
 returns-3 : tie.Need-returns-3
 returns-3 c =
-    let k = c .before .before .before .before .before .before in
-    record { on = λ g h. aimed-none g _ _ _ _ _ (up-on _ (h .up-is) (k .before .before .if1 .left)) (aims-on g _ _ h (k .aim .ensures)) (rw (c .before .before .has-some .ensures) at (c .before .if3 .taken)) (c .error2 .ensures) }
+    let k = c .before .before .before .before .before in
+    record { on = λ g h. aimed-none g _ _ _ _ _ (up-on _ (h .up-is) (k .before .before .if1 .left)) (aims-on g _ _ h (k .aim .ensures)) (sym (c .before .before .names-none .ensures) ∙ c .before .if3 .taken) (c .error2 .ensures) }
 
 returns-4 : tie.Need-returns-4
 returns-4 c =
-    let k = c .before .before .before .before .before .before in
-    record { on = λ g h. aimed-acts g _ _ _ _ _ (up-on _ (h .up-is) (k .before .before .if1 .left)) (aims-on g _ _ h (k .aim .ensures)) (c .before .before .before .before .if2 .left) (rw (c .before .before .has-some .ensures) at (c .before .if3 .left)) (c .act-in .ensures .on g (h .mode-is)) }
+    let k = c .before .before .before .before .before in
+    record { on = λ g h. aimed-acts g _ _ _ _ _ (up-on _ (h .up-is) (k .before .before .if1 .left)) (aims-on g _ _ h (k .aim .ensures)) (c .before .before .before .if2 .left) (sym (c .before .before .names-none .ensures) ∙ c .before .if3 .left) (c .act-in .ensures .on g (h .mode-is)) }
 
 pub traffic-work-spec : {M : Type 1} → statement M
 traffic-work-spec =

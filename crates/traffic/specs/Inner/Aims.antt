@@ -7,6 +7,7 @@ use borrow.Author.Tests.{not-true, not-false}
 use mathlib.Core.List.{List}
 use Prim.Native.Nat.{ℕ}
 use Rattle.laws.specs.Below.{anyBelow}
+use Rattle.laws.specs.Inner.Below.{any-ext}
 use Rattle.laws.specs.Columns.{flagAt, numberAt}
 use Rattle.wire.specs.Walk.{Par}
 use Rattle.message.specs.declared.Reading.{Reading}
@@ -16,6 +17,7 @@ use Rattle.servers.specs.Changed.{columnOf}
 use Rattle.ranges.specs.declared.Refused.{Refused}
 use Rattle.ranges.specs.Named.{isRefused, isOwnedBy, nothing}
 use Rattle.naming.specs.declared.Named.{Named}
+use Rattle.naming.specs.Inner.Bits.{bitAt, flagsOf, flag-is}
 use Rattle.naming.specs.Inner.Names.{Names}
 use Rattle.work.specs.Inner.Decides.{Decides, DecidesOn, act}
 use Rattle.rules.specs.declared.Decision.{Decision}
@@ -37,6 +39,13 @@ pub record TrafficColumns (links : ℕ) (up member mode iid owner : List ℕ) (g
 unfoldable pub otherModeIn : List ℕ → ℕ → List Bool → Bool
 otherModeIn mode m named = not (eqb m 0) && anyBelow (λ a. flagAt named a && not (eqb (numberAt mode a) m)) 16
 
+-- the same, asked of the set's bits
+pub other-bits : (mode : List ℕ) (m n : ℕ)
+    → anyBelow (λ a. bitAt n a && not (eqb (numberAt mode a) m)) 16 ≡ anyBelow (λ a. flagAt (flagsOf n) a && not (eqb (numberAt mode a) m)) 16
+other-bits mode m n =
+    any-ext (λ a. bitAt n a && not (eqb (numberAt mode a) m)) (λ a. flagAt (flagsOf n) a && not (eqb (numberAt mode a) m)) 16
+    (λ a b. ap (λ (u : Bool). u && not (eqb (numberAt mode a) m)) (sym (flag-is n a b)))
+
 pub mode-is-other : (g : Gateway) (m : ℕ) (named : List Bool) {mode : List ℕ} → g .mode ≡ mode → otherMode g m named ≡ otherModeIn mode m named
 unfolding otherMode otherModeIn
 mode-is-other g m named e = ap (λ (l : List ℕ). otherModeIn l m named) e
@@ -44,7 +53,7 @@ mode-is-other g m named e = ap (λ (l : List ℕ). otherModeIn l m named) e
 -- what a message is aimed at: the first refused of its identifiers or their owners, and without any all of p's ASes
 pub record Aims (e : Named) (ids : Bool) (first : Refused) (owners mine : List Bool) : Type 0 where
   pub named : ids ≡ true → Names e first owners
-  pub all : ids ≡ false → (e .refused ≡ nothing) × (e .set ≡ mine)
+  pub all : ids ≡ false → (e .refused ≡ nothing) × (flagsOf (e .set) ≡ mine)
 
 -- the same of the state g, by the rules
 pub aims-on : {links : ℕ} {up member mode iid owner : List ℕ} (g : Gateway) (p : ℕ) (ps : List Par) {e : Named} {ids : Bool} → TrafficColumns links up member mode iid owner g
@@ -72,18 +81,18 @@ module _ (g : Gateway) (p : ℕ) (ps : List Par) (r : Reading) (on : Bool) {w : 
       go true i = rw (u, ← h .named i .refused, f) d
       go false i = absurd (false≢true (sym (ap (λ z. z .found) (h .all i .0)) ∙ f))
 
-  pub aimed-none : (not (eqb (r .ids) 1) && not (some (e .set))) ≡ true → Decides w (send (error p 6)) → Decides w (trafficEffect g p r ps (act g p on (r .mode)))
+  pub aimed-none : (not (eqb (r .ids) 1) && not (some (flagsOf (e .set)))) ≡ true → Decides w (send (error p 6)) → Decides w (trafficEffect g p r ps (act g p on (r .mode)))
   unfolding trafficEffect
   aimed-none f d = go (eqb (r .ids) 1) refl f
     where
-      go : (i : Bool) → eqb (r .ids) 1 ≡ i → (not i && not (some (e .set))) ≡ true → Decides w (does g p ps r on i)
+      go : (i : Bool) → eqb (r .ids) 1 ≡ i → (not i && not (some (flagsOf (e .set)))) ≡ true → Decides w (does g p ps r on i)
       go true i q = absurd (false≢true q)
       go false i q = let z : some (asesOf g p) ≡ false = not-true _ (rw (h .all i .1) at q) in rw (u, z) d
 
-  pub aimed-acts : e .refused .found ≡ false → (not (eqb (r .ids) 1) && not (some (e .set))) ≡ false → Decides w (act g p on (r .mode) (e .set)) → Decides w (trafficEffect g p r ps (act g p on (r .mode)))
+  pub aimed-acts : e .refused .found ≡ false → (not (eqb (r .ids) 1) && not (some (flagsOf (e .set)))) ≡ false → Decides w (act g p on (r .mode) (flagsOf (e .set))) → Decides w (trafficEffect g p r ps (act g p on (r .mode)))
   unfolding trafficEffect
   aimed-acts n f d = go (eqb (r .ids) 1) refl f
     where
-      go : (i : Bool) → eqb (r .ids) 1 ≡ i → (not i && not (some (e .set))) ≡ false → Decides w (does g p ps r on i)
+      go : (i : Bool) → eqb (r .ids) 1 ≡ i → (not i && not (some (flagsOf (e .set)))) ≡ false → Decides w (does g p ps r on i)
       go true i q = rw (u, ← h .named i .refused, n, ← h .named i .set n) d
       go false i q = let z : some (asesOf g p) ≡ true = not-false _ (rw (h .all i .1) at q) in rw (u, z) (rw (h .all i .1) at d)
