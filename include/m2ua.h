@@ -377,7 +377,7 @@ static inline m2ua_outcome m2ua_link_message(m2ua_gateway g, const uint8_t *msg,
 
 /* Writes the order at a place, from 0, as the message that goes to its ASP (Rule 8.15). M2UA_MAX_MESSAGE bytes of `out` are always enough.
  * Answers: `code` 0 and the message's length, the bytes behind it unchanged; or, in this order: M2UA_REFUSED_STATE; M2UA_REFUSED_PLACE, as the event itself;
- * M2UA_REFUSED_ORDER, a place beyond the orders, or an order to the link side; M2UA_REFUSED_BUFFER. Refused: length 0, `out` unchanged. */
+ * M2UA_REFUSED_ORDER, where the event has no order at the place or sends it to the link side; M2UA_REFUSED_BUFFER. Refused: length 0, `out` unchanged. */
 m2ua_written m2ua_order(m2ua_gateway g, uint32_t kind, size_t index, const uint8_t *msg, size_t len, size_t place, uint8_t *out, size_t out_bytes);
 
 /* What writing several did: 0, how many orders and how many bytes; or the number of the refusal and zeros. */
