@@ -5,16 +5,18 @@ use events::m2ua_event;
 use gateway::Gateway;
 use outgoing::Batch;
 ghost use mathlib.Core.Path.{_≡_};
-ghost use Prim.Native.Nat.{ℕ, _+_, _<_, _≤_};
+ghost use mathlib.Core.Bool.{true};
+ghost use Prim.Native.Nat.{ℕ, _+_, _-_, _<_, _≤_};
 ghost use lib.Dec.{leb};
-ghost use lib.ListN.{length};
+ghost use lib.ListN.{length, take, drop};
 ghost use Rattle.put.specs.Bytes.{overlay};
 ghost use Rattle.ask.specs.Happened.{happened};
 ghost use Rattle.outgoing.specs.Send.{Sends, SendsMany};
 ghost use Rattle.outgoing.specs.Inner.Kinds.{lentBy};
 ghost use Rattle.sending.specs.Inner.Words.{actionIn};
+ghost use Rattle.sending.specs.Inner.Alike.{areAlike, repeatsIn};
 ghost use Rattle.sending.specs.Inner.Part.{partOf, partIn};
-ghost use Rattle.sending.specs.Inner.Batch.{Ended};
+ghost use Rattle.sending.specs.Inner.Batch.{Ended, StandsBefore};
 ghost use Rattle.sending.specs.Inner.Many.{batchOf};
 
 // A buffer that is short; no action at the place that goes to an ASP.
@@ -155,8 +157,92 @@ struct Reached {
     length: usize,
 }
 
+// Whether two actions have the same message: both go to an ASP, and nothing but the ASP differs.
+fn alike(o: Action, last: Action) -> bool
+    ensures { λ r. ⌜ r ≡ areAlike o last ⌝ }
+{
+    (o.to != LINK_SIDE)
+        & (last.to != LINK_SIDE)
+        & (o.classtype == last.classtype)
+        & (o.subject == last.subject)
+        & (o.value == last.value)
+}
+
+// Whether the action n places on has the message of the one before it. The first has none before it.
+fn repeats(words: &[u32; 1032], place: usize, n: usize) -> bool
+    requires { ⌜ place + n < 258 ⌝ }
+    ensures { λ r. ⌜ r ≡ repeatsIn (now (words .entry)) place n ⌝ }
+{
+    if n == 0 {
+        return false;
+    }
+    alike(action_at(words, place + n), action_at(words, place + n - 1))
+}
+
+// The size bytes before a position, at most 2,048, written from there on again. They go through a block, as in put_block of crate put.
+fn again(out: &mut [u8], at: usize, size: usize)
+    requires { ⌜ (size ≤ 2048) × (size ≤ at) × (at + size ≤ length (now out)) ⌝ }
+    ensures { λ _. ⌜ now (out .exit) ≡ overlay (now (out .entry)) at (take size (drop (at - size) (now (out .entry)))) ⌝ }
+{
+    let from = at - size;
+    let mut block = [0u8; 2048];
+    let mut i: usize = 0;
+    while i < size {
+        block[i] = out[from + i];
+        i += 1;
+    }
+    let mut j: usize = 0;
+    while j < size {
+        out[at + j] = block[j];
+        j += 1;
+    }
+}
+
+// How many bytes are written for an action: as many as the last time, where it has the same message.
+fn next_size<'a>(
+    same: bool,
+    last: usize,
+    o: Action,
+    passed: bool,
+    msg: &[u8],
+    iid: &'a [u32; 128],
+    owner: &'a [u8; 128],
+    links: usize,
+) -> usize
+    requires { ⌜ (links ≤ 128) × (length (partOf (now iid) (now owner) links (now msg) passed o) ≤ 2048) × (same ≡ true → last ≡ length (partOf (now iid) (now owner) links (now msg) passed o)) ⌝ }
+    ensures { λ r. ⌜ r ≡ length (partOf (now (iid .entry)) (now (owner .entry)) links (now (msg .entry)) passed o) ⌝ }
+{
+    if same {
+        return last;
+    }
+    part_size(o, passed, msg, iid, owner, links)
+}
+
+// What is written for an action, at a position: where it has the same message as the last time, the bytes before.
+fn put_next<'a>(
+    same: bool,
+    o: Action,
+    size: usize,
+    passed: bool,
+    msg: &[u8],
+    iid: &'a [u32; 128],
+    owner: &'a [u8; 128],
+    links: usize,
+    out: &mut [u8],
+    at: usize,
+)
+    requires { ⌜ (links ≤ 128) × (size ≡ length (partOf (now iid) (now owner) links (now msg) passed o)) × (size ≤ 2048) × (at + size ≤ length (now out)) × (same ≡ true → StandsBefore (now out) at (partOf (now iid) (now owner) links (now msg) passed o)) ⌝ }
+    ensures { λ _. ⌜ now (out .exit) ≡ overlay (now (out .entry)) at (partOf (now (iid .entry)) (now (owner .entry)) links (now (msg .entry)) passed o) ⌝ }
+{
+    if same {
+        again(out, at, size);
+        return;
+    }
+    put_part(o, size, passed, msg, iid, owner, links, out, at);
+}
+
 // From a place on what is written for each action, one behind the other, and its length: up to the last action, the last length of the list, or the first message
-// that does not go in.
+// that does not go in. Where an action differs from the one before it in the ASP alone, the bytes are copied and not made anew.
 fn put_many<'a>(
     words: &[u32; 1032],
     count: usize,
@@ -175,6 +261,7 @@ fn put_many<'a>(
 {
     let mut n: usize = 0;
     let mut at: usize = 0;
+    let mut size: usize = 0;
     loop {
         if count <= place + n {
             return Reached {
@@ -189,14 +276,15 @@ fn put_many<'a>(
             };
         }
         let o = action_at(words, place + n);
-        let size = part_size(o, passed, msg, iid, owner, links);
+        let same = repeats(words, place, n);
+        size = next_size(same, size, o, passed, msg, iid, owner, links);
         if out.len() - at < size {
             return Reached {
                 count: n,
                 length: at,
             };
         }
-        put_part(o, size, passed, msg, iid, owner, links, out, at);
+        put_next(same, o, size, passed, msg, iid, owner, links, out, at);
         lens[n] = size as u32;
         at += size;
         n += 1;

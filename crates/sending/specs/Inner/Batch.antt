@@ -3,10 +3,11 @@
 use Prim.Native.Nat.{ℕ, suc, _+_, _-_, _<_, _≤_}
 use mathlib.Core.Path.{_≡_, refl, ap, sym, _∙_}
 use mathlib.Core.Bool.{Bool, true, false, _||_}
-use mathlib.Core.List.{List, [], _∷_, _++_}
+use mathlib.Core.List.{List, [], _∷_, _++_, append-assoc}
 use native.Mathlib.Omega.{arith}
 use native.Mathlib.Nat.{zero-add, add-zero}
-use lib.ListN.{length, set, length-append}
+use lib.ListN.{length, set, take, drop, length-append}
+use lib.Seq.{sets-eq, take-append-seam, drop-append-seam}
 use lib.Dec.{ltb, leb}
 use native.Mathlib.Decide.{decLt}
 use borrow.Author.Tests.{lt-leb, le-leb, lt-ltb, le-ltb}
@@ -29,6 +30,17 @@ pub record Filled (part : ℕ → List ℕ) (all : ℕ → Bool) (lens₀ out₀
   pub out-is : out ≡ overlay out₀ 0 (concatBelow part n)
   pub goes-in : at ≤ length out₀
   pub none : firstBelow (endsIn part all (length lens₀) (length out₀)) n ≡ n
+
+-- the bytes p stand before a position
+pub record StandsBefore (out : List ℕ) (at : ℕ) (p : List ℕ) : Type 0 where
+  pub far : length p ≤ at
+  pub stand : take (length p) (drop (at - length p) out) ≡ p
+
+stands-over : (out₀ xs p : List ℕ) → length xs + length p ≤ length out₀ → take (length p) (drop (length xs) (overlay out₀ 0 (xs ++ p))) ≡ p
+unfolding overlay
+stands-over out₀ xs p h =
+    let e : length (xs ++ p) ≡ length xs + length p = length-append xs p in
+    rw (sets-eq (xs ++ p) out₀ 0 (omega arith), append-assoc xs p (drop (0 + length (xs ++ p)) out₀), drop-append-seam xs (p ++ drop (0 + length (xs ++ p)) out₀)) (take-append-seam p (drop (0 + length (xs ++ p)) out₀))
 
 pub filled-none : (part : ℕ → List ℕ) (all : ℕ → Bool) (lens out : List ℕ) → Filled part all lens out 0 0 lens out
 unfolding overlay concatBelow tabulate firstBelow
@@ -64,6 +76,18 @@ module _ {part : ℕ → List ℕ} {all : ℕ → Bool} {lens₀ out₀ : List �
         out-is = over-two out₀ (concatBelow part n) (part n) out out′ 0 at (h .out-is) (h .at-is ∙ sym (zero-add (length (concatBelow part n)))) eo ∙ ap (overlay out₀ 0) (sym (concat-more part n));
         goes-in = c;
         none = first-more (endsIn part all (length lens₀) (length out₀)) n (h .none) (rw (a, lt-leb (length lens₀) n b, longer, le-ltb (length out₀) (at + length (part n)) c));
+      }
+
+  -- the part before stands there
+  pub filled-before : (p : List ℕ) → 0 < n → p ≡ part (n - 1) → StandsBefore out at p
+  filled-before p l e =
+      let z : n ≡ n - 1 + 1 = omega arith in
+      let c : concatBelow part n ≡ concatBelow part (n - 1) ++ p = ap (concatBelow part) z ∙ concat-more part (n - 1) ∙ ap (λ (x : List ℕ). concatBelow part (n - 1) ++ x) (sym e) in
+      let a : at ≡ length (concatBelow part (n - 1)) + length p = h .at-is ∙ ap length c ∙ length-append (concatBelow part (n - 1)) p in
+      let d : at - length p ≡ length (concatBelow part (n - 1)) = omega (arith, a) in
+      record {
+        far = omega (arith, a);
+        stand = (λ i. take (length p) (drop (d i) ((h .out-is ∙ ap (overlay out₀ 0) c) i))) ∙ stands-over out₀ (concatBelow part (n - 1)) p (omega (arith, a, h .goes-in));
       }
 
   -- where an end is met, so many go in
