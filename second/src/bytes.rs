@@ -57,6 +57,14 @@ impl Sink for Fill<'_> {
     }
 }
 
+/// Writes the message that ends here once more, if the buffer has room.
+fn copy_message(out: &mut [u8], at: usize, length: usize) -> Option<usize> {
+    let (before, after) = out.split_at_mut(at);
+    let to = after.get_mut(..length)?;
+    to.copy_from_slice(&before[at - length..]);
+    Some(length)
+}
+
 fn links_of(gateway: &Gateway, server: u32) -> impl Iterator<Item = u32> + '_ {
     let owned = gateway.link_ids().iter().zip(&gateway.owner);
     owned
@@ -128,13 +136,23 @@ impl Gateway {
         }
         let orders = &list.as_chunks::<4>().0[place as usize..next.count as usize];
         let (mut count, mut at) = (0, 0);
+        // The last message and what it says: to several it is written once.
+        let mut last = (0, &[][..]);
         for (order, len) in orders.iter().zip(lens) {
-            let length = match order[0] {
-                LINK_SIDE => Some(0),
-                _ => self.put_message(event, *order, &mut out[at..]),
+            let (to, says) = (order[0], &order[1..]);
+            let length = if to == LINK_SIDE {
+                Some(0)
+            } else if says == last.1 {
+                copy_message(out, at, last.0)
+            } else {
+                self.put_message(event, *order, &mut out[at..])
             };
             let Some(length) = length else {
                 break;
+            };
+            last = match to {
+                LINK_SIDE => (0, &[]),
+                _ => (length, says),
             };
             *len = length as u32;
             at += length;
