@@ -264,6 +264,7 @@ typedef struct {
     uint8_t asps;                           /* how many of each the plan has */
     uint8_t ases;
     uint8_t links;
+    uint8_t spare;                          /* 0 */
     uint32_t aspid[M2UA_MAX_ASPS];          /* ASP identifiers */
     uint8_t up[M2UA_MAX_ASPS];              /* 1: the ASP is up */
     uint8_t member[M2UA_PAIRS];             /* 1: the ASP has part in the AS; the place of a pair is as * 16 + asp */
@@ -476,6 +477,7 @@ M2UA_STATIC_ASSERT(sizeof(m2ua_gateway) == 1396, "m2ua_gateway");
 M2UA_STATIC_ASSERT(offsetof(m2ua_gateway, asps) == 0, "m2ua_gateway.asps");
 M2UA_STATIC_ASSERT(offsetof(m2ua_gateway, ases) == 1, "m2ua_gateway.ases");
 M2UA_STATIC_ASSERT(offsetof(m2ua_gateway, links) == 2, "m2ua_gateway.links");
+M2UA_STATIC_ASSERT(offsetof(m2ua_gateway, spare) == 3, "m2ua_gateway.spare");
 M2UA_STATIC_ASSERT(offsetof(m2ua_gateway, aspid) == 4, "m2ua_gateway.aspid");
 M2UA_STATIC_ASSERT(offsetof(m2ua_gateway, up) == 68, "m2ua_gateway.up");
 M2UA_STATIC_ASSERT(offsetof(m2ua_gateway, member) == 84, "m2ua_gateway.member");

@@ -24,6 +24,8 @@ pub struct Gateway {
     pub asps: u8,
     pub ases: u8,
     pub links: u8,
+    /// 0 in a sound state (Rule 5.20).
+    pub spare: u8,
     pub asp_id: [u32; 16],
     /// 1 for an ASP that is up.
     pub up: [u8; 16],
@@ -93,6 +95,7 @@ impl Gateway {
         asps: 0,
         ases: 0,
         links: 0,
+        spare: 0,
         asp_id: [0; 16],
         up: [0; 16],
         member: [0; 256],
@@ -193,7 +196,7 @@ impl Gateway {
         if asps.wrapping_sub(1) >= MAX_ASPS || ases.wrapping_sub(1) >= MAX_ASES {
             return false;
         }
-        if links > MAX_LINKS {
+        if links > MAX_LINKS || self.spare != 0 {
             return false;
         }
         self.asps_sound(asps) & self.ases_sound(asps, ases) & self.links_sound(ases, links)

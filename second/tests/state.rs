@@ -142,10 +142,10 @@ fn rows() {
     assert_eq!(two(&asp, &[1, 1], &[(5, 1)]), 0);
 }
 
-/// Soundness as the rules say it (5.5 to 5.13), place by place.
+/// Soundness as the rules say it (5.5 to 5.13 and 5.20), place by place.
 fn plainly_sound(g: &Gateway) -> bool {
     let (n, m, l) = (g.asps as usize, g.ases as usize, g.links as usize);
-    if !(1..=16).contains(&n) || !(1..=16).contains(&m) || l > 128 {
+    if !(1..=16).contains(&n) || !(1..=16).contains(&m) || l > 128 || g.spare != 0 {
         return false;
     }
     for p in 0..16 {
@@ -245,6 +245,7 @@ fn every_byte_of_a_state() {
         check(&|g, b| g.asps = b);
         check(&|g, b| g.ases = b);
         check(&|g, b| g.links = b);
+        check(&|g, b| g.spare = b);
         for i in 0..16 {
             check(&|g, b| g.asp_id[i] = b as u32);
             check(&|g, b| g.asp_id[i] = g.asp_id[b as usize % 16]);

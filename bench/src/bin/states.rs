@@ -14,6 +14,7 @@ const BREAKS: &[Break] = &[
     ("17 ASes", |g| g.ases = 17),
     ("129 links", |g| g.links = 129),
     ("one link fewer than the tables have", |g| g.links -= 1),
+    ("a spare byte of 1", |g| g.spare = 1),
     ("two equal ASP identifiers", |g| g.asp_id[1] = g.asp_id[0]),
     ("an ASP identifier beyond the ASPs", |g| g.asp_id[3] = 1),
     ("an up flag of 2", |g| g.up[1] = 2),

@@ -55,7 +55,7 @@ fn untouched(call: &Call, before: &Gateway, after: &Gateway) -> bool {
     let outside = |a: usize| reached >> a & 1 == 0;
     let plan = |g: &Gateway| {
         (
-            (g.asps, g.ases, g.links, g.asp_id),
+            (g.asps, g.ases, g.links, g.spare, g.asp_id),
             (g.member, g.mode, g.link_id, g.owner),
         )
     };

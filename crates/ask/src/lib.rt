@@ -78,6 +78,7 @@ pub fn refused<'a>(
     asps: u8,
     ases: u8,
     links: u8,
+    spare: u8,
     aspid: &'a [u32; 16],
     up: &'a [u8; 16],
     member: &'a [u8; 256],
@@ -90,12 +91,13 @@ pub fn refused<'a>(
     ask: Ask,
     room: usize,
 ) -> u32
-    ensures { λ r. ⌜ r ≡ refusalOf (isSoundOf asps ases links (now (aspid .entry)) (now (up .entry)) (now (member .entry)) (now (active .entry)) (now (mode .entry)) (now (waiting .entry)) (now (iid .entry)) (now (owner .entry)) (now (state .entry))) (askKnown asps ases links (now (iid .entry)) ask) room ⌝ }
+    ensures { λ r. ⌜ r ≡ refusalOf (isSoundOf asps ases links spare (now (aspid .entry)) (now (up .entry)) (now (member .entry)) (now (active .entry)) (now (mode .entry)) (now (waiting .entry)) (now (iid .entry)) (now (owner .entry)) (now (state .entry))) (askKnown asps ases links (now (iid .entry)) ask) room ⌝ }
 {
     let sound = gateway::sound_of(
         asps,
         ases,
         links,
+        spare,
         aspid,
         up,
         member,

@@ -131,6 +131,7 @@ fresh asps ases links aspid mask mode iid owner =
       asps = asps;
       ases = ases;
       links = links;
+      spare = 0;
       aspid = aspid;
       up = replicate 16 0;
       member = members mask;

@@ -284,6 +284,7 @@ fn build(s: &[u8], t: Places, code: u32) -> Loaded
             asps: t.asps as u8,
             ases: t.ases as u8,
             links: t.links as u8,
+            spare: 0,
             aspid: aspid,
             up: [0; 16],
             member: member,

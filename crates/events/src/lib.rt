@@ -136,10 +136,12 @@ pub extern "C" fn m2ua_event(
     let asps = g.asps;
     let ases = g.ases;
     let links = g.links;
+    let spare = g.spare;
     let no = ask::refused(
         asps,
         ases,
         links,
+        spare,
         &g.aspid,
         &g.up,
         &g.member,

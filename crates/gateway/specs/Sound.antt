@@ -110,10 +110,10 @@ soundLinks iid owner state ases links =
 
 -- ---- the whole
 
--- A new column has a condition of its own, which joins as one more conjunct.
+-- The byte behind the counts is 0 (Rule 5.20). A new column has a condition of its own, which joins as one more conjunct.
 unfoldable pub isSound : Gateway → Bool
 isSound g =
-    countsIn (g .asps) (g .ases) (g .links)
+    (countsIn (g .asps) (g .ases) (g .links) && eqb (g .spare) 0)
     && (soundAsps (g .aspid) (g .up) (g .asps)
     && (soundAses (g .up) (g .member) (g .active) (g .mode) (g .waiting) (g .asps) (g .ases)
     && soundLinks (g .iid) (g .owner) (g .state) (g .ases) (g .links)))
@@ -126,6 +126,7 @@ zeros =
       asps = 0;
       ases = 0;
       links = 0;
+      spare = 0;
       aspid = replicate 16 0;
       up = replicate 16 0;
       member = replicate 256 0;

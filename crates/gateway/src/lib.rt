@@ -13,11 +13,13 @@ ghost use Rattle.gateway.specs.Inner.Sound.{isSoundOf};
 
 // Index of a pair: as * 16 + asp. Flags are 0 or 1. Traffic modes: 1 override, 2 load-share, 3 broadcast. States of a link:
 // 0 idle, 1 starting, 2 in service, 3 stopping. `iid` is the interface identifier, `waiting` that the recovery time runs.
+// `spare` is 0 (Rule 5.20): it stands where padding would, which goes out as whatever the stack held.
 #[repr(C)]
 pub struct Gateway {
     pub asps: u8,
     pub ases: u8,
     pub links: u8,
+    pub spare: u8,
     pub aspid: [u32; 16],
     pub up: [u8; 16],
     pub member: [u8; 256],
@@ -391,6 +393,7 @@ pub fn sound_of<'a>(
     asps: u8,
     ases: u8,
     links: u8,
+    spare: u8,
     aspid: &'a [u32; 16],
     up: &'a [u8; 16],
     member: &'a [u8; 256],
@@ -401,14 +404,15 @@ pub fn sound_of<'a>(
     owner: &'a [u8; 128],
     state: &'a [u8; 128],
 ) -> bool
-    ensures { λ r. ⌜ r ≡ isSoundOf asps ases links (now (aspid .entry)) (now (up .entry)) (now (member .entry)) (now (active .entry)) (now (mode .entry)) (now (waiting .entry)) (now (iid .entry)) (now (owner .entry)) (now (state .entry)) ⌝ }
+    ensures { λ r. ⌜ r ≡ isSoundOf asps ases links spare (now (aspid .entry)) (now (up .entry)) (now (member .entry)) (now (active .entry)) (now (mode .entry)) (now (waiting .entry)) (now (iid .entry)) (now (owner .entry)) (now (state .entry)) ⌝ }
 {
     let c = counts_ok(asps, ases, links);
+    let e = spare == 0;
     let place = places();
     let x = asps_ok(&place, asps, aspid, up);
     let y = ases_ok(&place, asps, ases, up, member, active, mode, waiting);
     let z = links_ok(ases, links, iid, owner, state);
-    c & (x & (y & z))
+    (c & e) & (x & (y & z))
 }
 
 impl Gateway {
@@ -420,6 +424,7 @@ impl Gateway {
             asps: 0,
             ases: 0,
             links: 0,
+            spare: 0,
             aspid: [0; 16],
             up: [0; 16],
             member: [0; 256],
@@ -438,10 +443,12 @@ impl Gateway {
         let asps = self.asps;
         let ases = self.ases;
         let links = self.links;
+        let spare = self.spare;
         sound_of(
             asps,
             ases,
             links,
+            spare,
             &self.aspid,
             &self.up,
             &self.member,

@@ -45,6 +45,7 @@ pub record Plan : Type 0 where
   pub asps : ℕ
   pub ases : ℕ
   pub links : ℕ
+  pub spare : ℕ
   pub aspid : List ℕ
   pub member : List ℕ
   pub mode : List ℕ
@@ -57,6 +58,7 @@ planOf g =
       asps = g .asps;
       ases = g .ases;
       links = g .links;
+      spare = g .spare;
       aspid = g .aspid;
       member = g .member;
       mode = g .mode;
@@ -168,6 +170,7 @@ ext g h e s = λ j. record {
   asps = e plan j .asps;
   ases = e plan j .ases;
   links = e plan j .links;
+  spare = e plan j .spare;
   aspid = e plan j .aspid;
   up = ups j;
   member = e plan j .member;
@@ -360,6 +363,7 @@ module _ (b b′ : Gateway) (P : planOf b′ ≡ planOf b) where
     asps = P j .asps;
     ases = P j .ases;
     links = P j .links;
+    spare = P j .spare;
     aspid = P j .aspid;
     up = b′ .up;
     member = P j .member;

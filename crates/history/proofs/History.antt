@@ -65,6 +65,7 @@ one-outside g e =
       asps = ap (λ (x : Plan). x .asps) same;
       ases = ap (λ (x : Plan). x .ases) same;
       links = ap (λ (x : Plan). x .links) same;
+      spare = ap (λ (x : Plan). x .spare) same;
       aspid = ap (λ (x : Plan). x .aspid) same;
       member = ap (λ (x : Plan). x .member) same;
       mode = ap (λ (x : Plan). x .mode) same;

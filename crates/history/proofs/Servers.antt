@@ -27,6 +27,7 @@ dyn g u c w s =
       asps = g .asps;
       ases = g .ases;
       links = g .links;
+      spare = g .spare;
       aspid = g .aspid;
       up = u;
       member = g .member;

@@ -73,6 +73,7 @@ pub record Untouched (g : Gateway) (e : Event) (c : Gateway) : Type 0 where
   pub asps : c .asps ≡ g .asps
   pub ases : c .ases ≡ g .ases
   pub links : c .links ≡ g .links
+  pub spare : c .spare ≡ g .spare
   pub aspid : c .aspid ≡ g .aspid
   pub member : c .member ≡ g .member
   pub mode : c .mode ≡ g .mode

@@ -171,10 +171,12 @@ pub fn of_event(g: Gateway, kind: u32, i: usize, msg: &[u8], room: usize) -> [bo
     let asps = g.asps;
     let ases = g.ases;
     let links = g.links;
+    let spare = g.spare;
     let no = ask::refused(
         asps,
         ases,
         links,
+        spare,
         &g.aspid,
         &g.up,
         &g.member,

@@ -218,6 +218,7 @@ pub struct Gateway {
     pub asps: u8,
     pub ases: u8,
     pub links: u8,
+    pub spare: u8,
     pub aspid: [u32; 16],
     pub up: [u8; 16],
     pub member: [u8; 256],
@@ -494,6 +495,7 @@ const _: () = assert!(size_of::<Gateway>() == 1396);
 const _: () = assert!(offset_of!(Gateway, asps) == 0);
 const _: () = assert!(offset_of!(Gateway, ases) == 1);
 const _: () = assert!(offset_of!(Gateway, links) == 2);
+const _: () = assert!(offset_of!(Gateway, spare) == 3);
 const _: () = assert!(offset_of!(Gateway, aspid) == 4);
 const _: () = assert!(offset_of!(Gateway, up) == 68);
 const _: () = assert!(offset_of!(Gateway, member) == 84);

@@ -215,6 +215,9 @@ fn refusals_leave_all_as_it_was() {
         Gateway::from_raw(raw).unwrap_err().to_string(),
         "105 (the state is not sound)"
     );
+    raw = *g.raw();
+    raw.spare = 1;
+    assert_eq!(Gateway::from_raw(raw).unwrap_err().code(), 105);
 }
 
 #[test]

@@ -10,7 +10,7 @@ use Rattle.ask.proofs.refused.Tie as tie
 
 is-known-requires : tie.Need-is-known-requires
 is-known-requires c κs =
-    let g : Gateway = record { asps = c .before .before .before .before .before .args .asps; ases = c .before .before .before .before .before .args .ases; links = c .before .before .before .before .before .args .links; aspid = c .before .before .before .before .before .args .aspid .now; up = c .before .before .before .before .before .args .up .now; member = c .before .before .before .before .before .args .member .now; active = c .before .before .before .before .before .args .active .now; mode = c .before .before .before .before .before .args .mode .now; waiting = c .before .before .before .before .before .args .waiting .now; iid = c .before .before .before .before .before .args .iid .now; owner = c .before .before .before .before .before .args .owner .now; state = c .before .before .before .before .before .args .state .now } in
+    let g : Gateway = record { asps = c .before .before .before .before .before .args .asps; ases = c .before .before .before .before .before .args .ases; links = c .before .before .before .before .before .args .links; spare = c .before .before .before .before .before .args .spare; aspid = c .before .before .before .before .before .args .aspid .now; up = c .before .before .before .before .before .args .up .now; member = c .before .before .before .before .before .args .member .now; active = c .before .before .before .before .before .args .active .now; mode = c .before .before .before .before .before .args .mode .now; waiting = c .before .before .before .before .before .args .waiting .now; iid = c .before .before .before .before .before .args .iid .now; owner = c .before .before .before .before .before .args .owner .now; state = c .before .before .before .before .before .args .state .now } in
     let t = table g (sym (c .before .before .before .before .sound-of .ensures) ∙ not-false _ (c .before .before .before .if1 .left)) in
     (rw (c .wide3 .ensures) (t .few), rw (c .wide3 .ensures) (t .order))
 

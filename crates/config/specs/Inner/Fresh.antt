@@ -117,7 +117,7 @@ module _ (n m k : ℕ) (aspid mask spare mode iid owner : List ℕ) (r : Rows n 
 
 -- ---- the whole
 
-counts-in : (s : List ℕ) → Layout s → countsIn (count s 0) (count s 1) (count s 2) ≡ true
+counts-in : (s : List ℕ) → Layout s → (countsIn (count s 0) (count s 1) (count s 2) && eqb 0 0) ≡ true
 unfolding countsIn
 counts-in s l =
     rw (

@@ -173,6 +173,7 @@ laidIn g up active waiting state =
       asps = g .asps;
       ases = g .ases;
       links = g .links;
+      spare = g .spare;
       aspid = g .aspid;
       up = up;
       member = g .member;

@@ -1,4 +1,5 @@
 -- `gateway::sound_of`: the groups together. Assumes nothing.
+use mathlib.Core.Path.{refl}
 use borrow.Author.Needs.{needs}
 use Rattle.gateway.specs.Inner.Laws.{joined}
 use Rattle.gateway.proofs.sound_of.Statement.{statement}
@@ -11,7 +12,7 @@ ases-ok-requires : tie.Need-ases-ok-requires
 ases-ok-requires c κs = c .before .before .before .places .ensures
 
 returns : tie.Need-returns
-returns c = joined _ _ _ _ _ (c .before .before .before .before .before .before .counts-ok .ensures) (c .before .before .before .asps-ok .ensures) (c .before .ases-ok .ensures) (c .links-ok .ensures)
+returns c = joined _ _ _ _ _ _ (c .before .before .before .before .before .before .counts-ok .ensures) refl (c .before .before .before .asps-ok .ensures) (c .before .ases-ok .ensures) (c .links-ok .ensures)
 
 pub sound-of-spec : {M : Type 1} → statement M
 sound-of-spec = tie.close (tie.spec (search needs) (search needs) asps-ok-requires ases-ok-requires (search needs) returns)

@@ -31,6 +31,7 @@ limits n m k h =
 -- the conditions table by table
 pub record Parts (g : Gateway) : Type 0 where
   pub counts : Limits (g .asps) (g .ases) (g .links)
+  pub counted : (countsIn (g .asps) (g .ases) (g .links) && eqb (g .spare) 0) ≡ true
   pub inAsps : soundAsps (g .aspid) (g .up) (g .asps) ≡ true
   pub inAses : soundAses (g .up) (g .member) (g .active) (g .mode) (g .waiting) (g .asps) (g .ases) ≡ true
   pub inLinks : soundLinks (g .iid) (g .owner) (g .state) (g .ases) (g .links) ≡ true
@@ -38,6 +39,9 @@ pub record Parts (g : Gateway) : Type 0 where
 module _ (g : Gateway) where
   abbrev countsOf : Bool
   countsOf = countsIn (g .asps) (g .ases) (g .links)
+
+  abbrev spareOf : Bool
+  spareOf = eqb (g .spare) 0
 
   abbrev aspsOf : Bool
   aspsOf = soundAsps (g .aspid) (g .up) (g .asps)
@@ -51,27 +55,29 @@ module _ (g : Gateway) where
   pub parts : isSound g ≡ true → Parts g
   unfolding isSound
   parts h =
-      let r = and-right countsOf (aspsOf && (asesOf && linksOf)) h in
+      let c = and-left (countsOf && spareOf) (aspsOf && (asesOf && linksOf)) h in
+      let r = and-right (countsOf && spareOf) (aspsOf && (asesOf && linksOf)) h in
       let s = and-right aspsOf (asesOf && linksOf) r in
       record {
-        counts = limits (g .asps) (g .ases) (g .links) (and-left countsOf (aspsOf && (asesOf && linksOf)) h);
+        counts = limits (g .asps) (g .ases) (g .links) (and-left countsOf spareOf c);
+        counted = c;
         inAsps = and-left aspsOf (asesOf && linksOf) r;
         inAses = and-left asesOf linksOf s;
         inLinks = and-right asesOf linksOf s;
       }
 
   -- the same together
-  pub whole : countsOf ≡ true → aspsOf ≡ true → asesOf ≡ true → linksOf ≡ true → isSound g ≡ true
+  pub whole : (countsOf && spareOf) ≡ true → aspsOf ≡ true → asesOf ≡ true → linksOf ≡ true → isSound g ≡ true
   unfolding isSound
   whole p q r s = rw (p, q, r, s)
 
   -- groups that were tested for counts within the tables
-  pub joined : (c x y z : Bool) → c ≡ countsOf → (g .asps ≤ 16 → x ≡ aspsOf) → (g .ases ≤ 16 → y ≡ asesOf) → (g .links ≤ 128 → z ≡ linksOf) → (c && (x && (y && z))) ≡ isSound g
+  pub joined : (c e x y z : Bool) → c ≡ countsOf → e ≡ spareOf → (g .asps ≤ 16 → x ≡ aspsOf) → (g .ases ≤ 16 → y ≡ asesOf) → (g .links ≤ 128 → z ≡ linksOf) → ((c && e) && (x && (y && z))) ≡ isSound g
   unfolding isSound
-  joined true x y z e p q r =
-      let l = limits (g .asps) (g .ases) (g .links) (sym e) in
-      rw (← e, p (l .asps), q (l .ases), r (l .links))
-  joined false x y z e p q r = rw (← e)
+  joined true e x y z h s p q r =
+      let l = limits (g .asps) (g .ases) (g .links) (sym h) in
+      rw (← h, s, p (l .asps), q (l .ases), r (l .links))
+  joined false e x y z h s p q r = rw (← h)
 
 -- identifiers strictly ascending, from each to the next and so from any to any later
 pub ascends-next : (c : List ℕ) (n : ℕ) → ascends c n ≡ true → (l : ℕ) → l + 1 < n → numberAt c l < numberAt c (l + 1)

@@ -17,7 +17,7 @@ use Rattle.laws.specs.Inner.Columns.{getD-tabulate}
 use Rattle.laws.specs.Inner.Every.{and-left, and-right, and-both, count-not}
 use Rattle.laws.specs.Inner.Count.{count-ext, count-some}
 use Rattle.gateway.specs.declared.Gateway.{Gateway}
-use Rattle.gateway.specs.Sound.{pair, countsIn, blankFrom, flagIf, differs, upAt, soundAsps, memberAt, activeAt, soundRow, activeIn, modeAt, waitingAt, overrideAt, soundAs, soundAses, allUnder, soundLinks, isSound}
+use Rattle.gateway.specs.Sound.{pair, blankFrom, flagIf, differs, upAt, soundAsps, memberAt, activeAt, soundRow, activeIn, modeAt, waitingAt, overrideAt, soundAs, soundAses, allUnder, soundLinks, isSound}
 use Rattle.gateway.specs.Inner.Laws.{parts, whole, Server, server, links-parts, flag-set, counts-within, member-within}
 use Rattle.server.specs.declared.AsRecord.{AsRecord}
 use Rattle.server.specs.declared.Change.{Change}
@@ -166,10 +166,6 @@ ups-kept (Deactivate p) up asps i q b h = h
 ups-kept (Activate p) up asps i q b h = h
 ups-kept Recover up asps i q b h = h
 
-counts-true : (g : Gateway) → isSound g ≡ true → countsIn (g .asps) (g .ases) (g .links) ≡ true
-unfolding isSound
-counts-true g h = and-left (countsIn (g .asps) (g .ases) (g .links)) _ h
-
 module _ (g : Gateway) (k : Change) (named : List Bool) (h : isSound g ≡ true) (own : NamesOwn k (g .member) named) (i : InPlan (g .asps) k) (allowed : (a : ℕ) → a < 16 → flagAt named a ≡ true → Allowed (ltb a (g .ases)) k (recordOf g a)) where
   in-as : (a : ℕ) → a < 16 → Sound (g .up) (g .member) (g .active) (g .mode) (g .waiting) (g .asps) (g .ases) a
   in-as a b = sound (g .up) (g .member) (g .active) (g .mode) (g .waiting) (g .asps) (g .ases) a (server g h a b)
@@ -201,7 +197,7 @@ module _ (g : Gateway) (k : Change) (named : List Bool) (h : isSound g ≡ true)
   pub keeps : isSound (withChange g k named) ≡ true
   unfolding withChange soundAses
   keeps =
-      whole (withChange g k named) (counts-true g h) asps-kept
+      whole (withChange g k named) (parts g h .counted) asps-kept
       (all-of (soundAs (upAfter k (g .up)) (g .member) (withChange g k named .active) (g .mode) (withChange g k named .waiting) (g .asps) (g .ases)) 16
       (λ a b. tested (upAfter k (g .up)) (g .member) (withChange g k named .active) (g .mode) (withChange g k named .waiting) (g .asps) (g .ases) a (after-as a b)))
       (parts g h .inLinks)
@@ -260,4 +256,4 @@ links-kept iid owner state ases links l v b w h =
     go i (no z) e = rw (getD-set-other state l i v 0 (λ y. omega arith)) e
 
 pub keeps-link : (g : Gateway) (l v : ℕ) → isSound g ≡ true → l < g .links → v < 4 → isSound (withLink g l v) ≡ true
-keeps-link g l v h b w = whole (withLink g l v) (counts-true g h) (parts g h .inAsps) (parts g h .inAses) (links-kept (g .iid) (g .owner) (g .state) (g .ases) (g .links) l v b w (parts g h .inLinks))
+keeps-link g l v h b w = whole (withLink g l v) (parts g h .counted) (parts g h .inAsps) (parts g h .inAses) (links-kept (g .iid) (g .owner) (g .state) (g .ases) (g .links) l v b w (parts g h .inLinks))
