@@ -171,7 +171,7 @@ pub fn of_event(g: Gateway, kind: u32, i: usize, msg: &[u8], room: usize) -> [bo
     let asps = g.asps;
     let ases = g.ases;
     let links = g.links;
-    let no = ask::refused(
+    let found = ask::refused(
         asps,
         ases,
         links,
@@ -187,7 +187,7 @@ pub fn of_event(g: Gateway, kind: u32, i: usize, msg: &[u8], room: usize) -> [bo
         ask,
         room,
     );
-    if no != 0 {
+    if found.code != 0 {
         return [false; 16];
     }
     let n = gateway::wide(links);
