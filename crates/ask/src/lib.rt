@@ -3,11 +3,11 @@ use message::Reading;
 ghost use mathlib.Core.Path.{_≡_};
 ghost use mathlib.Core.Bool.{true, _||_};
 ghost use Prim.Native.Nat.{_≤_};
-ghost use lib.Dec.{eqb};
+ghost use lib.Dec.{eqb, ltb};
 ghost use Rattle.gateway.specs.Sound.{ascends};
 ghost use Rattle.gateway.specs.Inner.Sound.{isSoundOf};
 ghost use Rattle.rules.specs.Rules.{refusalOf};
-ghost use Rattle.ask.specs.Inner.Ask.{askKnown, askOf, Asks};
+ghost use Rattle.ask.specs.Inner.Ask.{askKnown, askOf, AskAt, Asks};
 
 // The numbers of the six kinds of event.
 pub const MESSAGE: u32 = 0;
@@ -55,22 +55,42 @@ fn refusal(sound: bool, known: bool, room: usize) -> u32
     105
 }
 
-// Whether what an event names is in the plan.
-fn is_known(ask: Ask, asps: usize, ases: usize, links: usize, iid: &[u32; 128]) -> bool
+// What an event names: whether it is in the plan, and its index.
+pub struct Place {
+    pub known: bool,
+    pub index: usize,
+}
+
+fn named(i: usize, n: usize) -> Place
+    ensures { λ r. ⌜ (r .known ≡ ltb i n) × (r .index ≡ i) ⌝ }
+{
+    Place {
+        known: i < n,
+        index: i,
+    }
+}
+
+fn find(ask: Ask, asps: usize, ases: usize, links: usize, iid: &[u32; 128]) -> Place
     requires { ⌜ (links ≤ 128) × (ascends (now iid) links ≡ true) ⌝ }
-    ensures { λ r. ⌜ r ≡ askKnown asps ases links (now (iid .entry)) ask ⌝ }
+    ensures { λ r. ⌜ (r .known ≡ askKnown asps ases links (now (iid .entry)) ask) × (r .known ≡ true → AskAt links (now (iid .entry)) ask (r .index)) ⌝ }
 {
     match ask {
-        Ask::Up(p, _) => p < asps,
-        Ask::Down(p) => p < asps,
-        Ask::Traffic(_, p, _) => p < asps,
-        Ask::Other(p, _, _) => p < asps,
-        Ask::Lost(p) => p < asps,
-        Ask::Recovery(a) => a < ases,
-        Ask::LinkUp(l) => l < links,
-        Ask::LinkDown(l) => l < links,
-        Ask::LinkMessage(r) => links::is_in_plan(iid, links, r),
+        Ask::Up(p, _) => named(p, asps),
+        Ask::Down(p) => named(p, asps),
+        Ask::Traffic(_, p, _) => named(p, asps),
+        Ask::Other(p, _, _) => named(p, asps),
+        Ask::Lost(p) => named(p, asps),
+        Ask::Recovery(a) => named(a, ases),
+        Ask::LinkUp(l) => named(l, links),
+        Ask::LinkDown(l) => named(l, links),
+        Ask::LinkMessage(r) => named(links::place_of(iid, links, r), links),
     }
+}
+
+// A refusal, or 0 and the index of what the event names: a link's identifier is looked up in this one place.
+pub struct Found {
+    pub code: u32,
+    pub index: usize,
 }
 
 // The refusal of an event, or 0. What it names is looked up only where the state is sound.
@@ -90,8 +110,8 @@ pub fn refused<'a>(
     state: &'a [u8; 128],
     ask: Ask,
     room: usize,
-) -> u32
-    ensures { λ r. ⌜ r ≡ refusalOf (isSoundOf asps ases links spare (now (aspid .entry)) (now (up .entry)) (now (member .entry)) (now (active .entry)) (now (mode .entry)) (now (waiting .entry)) (now (iid .entry)) (now (owner .entry)) (now (state .entry))) (askKnown asps ases links (now (iid .entry)) ask) room ⌝ }
+) -> Found
+    ensures { λ r. ⌜ (r .code ≡ refusalOf (isSoundOf asps ases links spare (now (aspid .entry)) (now (up .entry)) (now (member .entry)) (now (active .entry)) (now (mode .entry)) (now (waiting .entry)) (now (iid .entry)) (now (owner .entry)) (now (state .entry))) (askKnown asps ases links (now (iid .entry)) ask) room) × (r .code ≡ 0 → AskAt links (now (iid .entry)) ask (r .index)) ⌝ }
 {
     let sound = gateway::sound_of(
         asps,
@@ -109,16 +129,23 @@ pub fn refused<'a>(
         state,
     );
     if !sound {
-        return 105;
+        return Found {
+            code: 105,
+            index: 0,
+        };
     }
-    let known = is_known(
+    let n = find(
         ask,
         gateway::wide(asps),
         gateway::wide(ases),
         gateway::wide(links),
         iid,
     );
-    refusal(sound, known, room)
+    let code = refusal(sound, n.known, room);
+    Found {
+        code,
+        index: n.index,
+    }
 }
 
 // ---- what is asked

@@ -12,15 +12,16 @@ ghost use Rattle.rules.specs.Entry.{MeetsRules};
 ghost use Rattle.rules.specs.Inner.Decision.{firstActions, spread, effectIn};
 ghost use Rattle.work.specs.Inner.Decides.{aspOf, DecidesOn};
 ghost use Rattle.ask.specs.Happened.{happened, event};
-ghost use Rattle.ask.specs.Inner.Ask.{askEffect, AskFits};
+ghost use Rattle.ask.specs.Inner.Ask.{askEffect, AskAt, AskFits};
 ghost use Rattle.events.specs.Inner.Columns.{AskColumns};
 ghost use Rattle.events.specs.Inner.Decision.{firstOf, Changed, linkAfter};
 
 // ---- what is done
 
-// What the event does (Rule 7.1), decided.
+// What the event does (Rule 7.1), decided. `at` is the index of the link that a message of the link side names.
 fn decided<'a>(
     ask: Ask,
+    at: usize,
     msg: &[u8],
     links: usize,
     aspid: &'a [u32; 16],
@@ -32,7 +33,7 @@ fn decided<'a>(
     owner: &'a [u8; 128],
     state: &'a [u8; 128],
 ) -> Decision
-    requires { ⌜ Table (now iid) (now owner) links × AskFits links (now iid) ask ⌝ }
+    requires { ⌜ Table (now iid) (now owner) links × AskFits links (now iid) ask × AskAt links (now iid) ask at ⌝ }
     ensures { λ w. ⌜ DecidesOn (AskColumns links (now (aspid .entry)) (now (up .entry)) (now (member .entry)) (now (active .entry)) (now (mode .entry)) (now (iid .entry)) (now (owner .entry)) (now (state .entry))) (λ g. askEffect g (now (msg .entry)) ask) w ⌝ }
 {
     match ask {
@@ -48,7 +49,7 @@ fn decided<'a>(
         Ask::Recovery(a) => asps::recovery_work(a),
         Ask::LinkUp(l) => links::link_up(links, active, mode, iid, owner, state, l),
         Ask::LinkDown(l) => links::link_down(links, active, mode, iid, owner, state, l),
-        Ask::LinkMessage(r) => links::link_message(links, active, mode, iid, owner, state, r),
+        Ask::LinkMessage(r) => links::link_message(links, active, mode, iid, owner, state, at, r),
     }
 }
 
@@ -137,7 +138,7 @@ pub extern "C" fn m2ua_event(
     let ases = g.ases;
     let links = g.links;
     let spare = g.spare;
-    let no = ask::refused(
+    let found = ask::refused(
         asps,
         ases,
         links,
@@ -154,15 +155,16 @@ pub extern "C" fn m2ua_event(
         ask,
         words.len(),
     );
-    if no != 0 {
+    if found.code != 0 {
         return Outcome {
-            refusal: no,
+            refusal: found.code,
             count: 0,
             gateway: g,
         };
     }
     let w = decided(
         ask,
+        found.index,
         msg,
         gateway::wide(links),
         &g.aspid,

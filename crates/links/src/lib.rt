@@ -9,6 +9,7 @@ ghost use lib.Dec.{eqb};
 ghost use Rattle.action.specs.Words.{action, linkSide, toAll};
 ghost use Rattle.gateway.specs.Sound.{ascends};
 ghost use Rattle.laws.specs.Columns.{tabulate};
+ghost use Rattle.lookup.specs.Links.{indexOf};
 ghost use Rattle.lookup.specs.Servers.{receives};
 ghost use Rattle.ranges.specs.Inner.Laws.{Table};
 ghost use Rattle.rules.specs.Link.{establish, release, dataEffect, linkEffect, classSixEffect, linkUpEffect, linkDownEffect, linkMessageEffect};
@@ -17,7 +18,7 @@ ghost use Rattle.rules.specs.Rules.{fromLink};
 ghost use Rattle.work.specs.Inner.Decides.{Decides, DecidesOn};
 ghost use Rattle.links.specs.Inner.Recipients.{recipientsAt, SideColumns};
 ghost use Rattle.links.specs.Inner.Six.{dataTree, sixAt, SixColumns};
-ghost use Rattle.links.specs.Inner.Side.{passes, Side};
+ghost use Rattle.links.specs.Inner.Side.{placeOf, Side};
 ghost use Rattle.action.specs.Types.{establishConfirm, releaseConfirm, releaseIndication};
 
 // ---- class 6 of an ASP: p is the ASP, x the identifier, l the link's index, st its state
@@ -259,15 +260,18 @@ fn from_link(k: u32) -> bool
     (((k == 1) | (k == 8)) | (k == 9)) | ((11 <= k) & (k <= 14))
 }
 
-// Whether a message of the link side is not refused (Rule 6.5).
-pub fn is_in_plan(iid: &[u32; 128], links: usize, r: Reading) -> bool
+// The index of the link that a message of the link side names, and the number of links where the message is refused (Rule 6.5).
+pub fn place_of(iid: &[u32; 128], links: usize, r: Reading) -> usize
     requires { ⌜ (links ≤ 128) × (ascends (now iid) links ≡ true) ⌝ }
-    ensures { λ w. ⌜ w ≡ passes (now (iid .entry)) links r ⌝ }
+    ensures { λ l. ⌜ l ≡ placeOf (now (iid .entry)) links r ⌝ }
 {
-    (r.code == 0) & ((r.class == 6) & (from_link(r.msgtype) & lookup::is_known(iid, links, r.id)))
+    if (r.code == 0) & ((r.class == 6) & from_link(r.msgtype)) {
+        return lookup::index_of(iid, links, r.id);
+    }
+    links
 }
 
-// A message of the link side that is not refused (Rule 7.22).
+// A message of the link side that is not refused (Rule 7.22), where l is the index of its link.
 pub fn link_message<'a>(
     links: usize,
     active: &'a [u8; 256],
@@ -275,12 +279,12 @@ pub fn link_message<'a>(
     iid: &'a [u32; 128],
     owner: &'a [u8; 128],
     state: &'a [u8; 128],
+    l: usize,
     r: Reading,
 ) -> Decision
-    requires { ⌜ Table (now iid) (now owner) links × Side (now iid) links r ⌝ }
+    requires { ⌜ Table (now iid) (now owner) links × Side (now iid) links r × (l ≡ indexOf (now iid) links (r .id)) ⌝ }
     ensures { λ w. ⌜ DecidesOn (SideColumns links (now (active .entry)) (now (mode .entry)) (now (iid .entry)) (now (owner .entry)) (now (state .entry))) (λ g. linkMessageEffect g r) w ⌝ }
 {
-    let l = lookup::index_of(iid, links, r.id);
     let who = recipients_at(links, active, mode, iid, owner, l);
     work::spread(who, r.class * 256 + r.msgtype, iid[l])
 }

@@ -172,7 +172,7 @@ pub fn of_event(g: Gateway, kind: u32, i: usize, msg: &[u8], room: usize) -> [bo
     let ases = g.ases;
     let links = g.links;
     let spare = g.spare;
-    let no = ask::refused(
+    let found = ask::refused(
         asps,
         ases,
         links,
@@ -189,7 +189,7 @@ pub fn of_event(g: Gateway, kind: u32, i: usize, msg: &[u8], room: usize) -> [bo
         ask,
         room,
     );
-    if no != 0 {
+    if found.code != 0 {
         return [false; 16];
     }
     let n = gateway::wide(links);

@@ -24,6 +24,7 @@ use Rattle.rules.specs.Identifiers.{ownerAt, isMember}
 use Rattle.rules.specs.Reach.{ownsId, kindReach}
 use Rattle.work.specs.Inner.Decides.{act}
 use Rattle.decide.specs.Inner.Other.{otherEffect, typeIn, message-up, message-down, message-active, message-inactive, message-other}
+use Rattle.lookup.specs.Links.{indexOf}
 use Rattle.links.specs.Inner.Side.{passes, Side, side, in-plan}
 use Rattle.ask.specs.Happened.{happened}
 use Rattle.ask.specs.Inner.Reach.{namedReach, otherReach, reach-up, reach-down, reach-active, reach-inactive, reach-other}
@@ -97,6 +98,18 @@ AskFits links iid (Recovery a) = _≡_ {A = ℕ} 0 0
 AskFits links iid (LinkUp l) = l < links
 AskFits links iid (LinkDown l) = l < links
 AskFits links iid (LinkMessage r) = Side iid links r
+
+-- l is the index of the link that a message of the link side names
+abbrev pub AskAt : ℕ → List ℕ → Ask → ℕ → Type 0
+AskAt links iid (Up p r) l = _≡_ {A = ℕ} 0 0
+AskAt links iid (Down p) l = _≡_ {A = ℕ} 0 0
+AskAt links iid (Traffic on p r) l = _≡_ {A = ℕ} 0 0
+AskAt links iid (Other p wrong r) l = _≡_ {A = ℕ} 0 0
+AskAt links iid (Lost p) l = _≡_ {A = ℕ} 0 0
+AskAt links iid (Recovery a) l = _≡_ {A = ℕ} 0 0
+AskAt links iid (LinkUp k) l = _≡_ {A = ℕ} 0 0
+AskAt links iid (LinkDown k) l = _≡_ {A = ℕ} 0 0
+AskAt links iid (LinkMessage r) l = l ≡ indexOf iid links (r .id)
 
 -- what is asked is that event
 pub record AsksKind (e : EventKind) (s : List ℕ) (ask : Ask) : Type 0 where

@@ -29,7 +29,7 @@ abbrev start : tie.After-asked → tie.Start
 start c = c .before .before .before
 
 abbrev to-refused : tie.After-decided → tie.After-refused
-to-refused c = c .before .before .before .before .before .before .before .before .before .before .before .before
+to-refused c = c .before .before .before .before .before .before .before .before .before .before .before .before .before
 
 abbrev to-settle : tie.After-first → tie.After-settle
 to-settle c = c .before .before
@@ -57,12 +57,12 @@ waiting-long c = search needs
 state-long : (c : tie.Start) → length (c .args .g .state) ≡ 128
 state-long c = search needs
 
-refusal-is : (c : tie.After-refused) → c .refused .result ≡ refusalOf (isSound (start (to-asked c) .args .g)) (inPlan (start (to-asked c) .args .g) (happens (to-asked c))) (length (start (to-asked c) .args .words .now))
+refusal-is : (c : tie.After-refused) → c .refused .result .code ≡ refusalOf (isSound (start (to-asked c) .args .g)) (inPlan (start (to-asked c) .args .g) (happens (to-asked c))) (length (start (to-asked c) .args .words .now))
 refusal-is c =
-    c .refused .ensures
+    c .refused .ensures .0
     ∙ ap (λ (k : Bool). refusalOf (isSound (start (to-asked c) .args .g)) k (length (start (to-asked c) .args .words .now))) (to-asked c .asked .ensures .known (start (to-asked c) .args .g))
 
-taken : (c : tie.After-refused) → c .refused .result ≡ 0 → Accepted (isSound (start (to-asked c) .args .g)) (inPlan (start (to-asked c) .args .g) (happens (to-asked c))) (length (start (to-asked c) .args .words .now))
+taken : (c : tie.After-refused) → c .refused .result .code ≡ 0 → Accepted (isSound (start (to-asked c) .args .g)) (inPlan (start (to-asked c) .args .g) (happens (to-asked c))) (length (start (to-asked c) .args .words .now))
 taken c h = accepted _ _ _ (sym (refusal-is c) ∙ h)
 
 -- what is decided is the rules' effect
@@ -75,11 +75,13 @@ decides c =
 
 decided-requires : tie.Need-decided-requires
 decided-requires c κs =
-    let r = c .before .before .before .before .before .before .before .before .before .before .before in
+    let r = c .before .before .before .before .before .before .before .before .before .before .before .before in
     let g = start (to-asked r) .args .g in
     let a = to-asked r .asked .ensures in
-    let t = taken r (c .before .before .before .before .before .before .before .before .before .before .if1 .left) in
-    (rw (c .before .before .before .before .before .before .before .before .before .wide .ensures) (table g (t .sound-yes)), ask-fits-at g (to-asked r .asked .result) (c .before .before .before .before .before .before .before .before .before .wide .ensures) (counts-within g (t .sound-yes)) (a .known g ∙ t .known-yes) (a .small))
+    let z = c .before .before .before .before .before .before .before .before .before .before .if1 .left in
+    let t = taken r z in
+    let w = c .before .before .before .before .before .before .before .before .before .wide .ensures in
+    (rw w (table g (t .sound-yes)), ask-fits-at g (to-asked r .asked .result) w (counts-within g (t .sound-yes)) (a .known g ∙ t .known-yes) (a .small), rw w (r .refused .ensures .1 z))
 
 accepted-at : (c : tie.After-decided) → Accepted (isSound (start (to-asked (to-refused c)) .args .g)) (inPlan (start (to-asked (to-refused c)) .args .g) (happens (to-asked (to-refused c)))) (length (start (to-asked (to-refused c)) .args .words .now))
 accepted-at c = taken (to-refused c) (c .before .before .before .before .before .before .before .before .before .before .before .if1 .left)
@@ -116,7 +118,7 @@ m2ua-event-spec =
     (tie.spec
     (λ c κs. search needs)
     (λ c κs. search needs)
-    (λ c. meets-no _ (happens (to-asked (c .before))) (refusal-is (c .before)) (c .if1 .taken))
+    (λ c. meets-no _ (happens (to-asked (c .before .before))) (refusal-is (c .before .before)) (c .if1 .taken))
     (λ c κs. search needs)
     decided-requires
     (λ c κs. let d = c .before in (decides d .place, state-long (start (to-asked (to-refused d)))))

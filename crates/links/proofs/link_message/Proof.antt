@@ -10,20 +10,20 @@ use Rattle.links.specs.Inner.Recipients.{recipientsAt}
 use Rattle.links.proofs.link_message.Statement.{statement}
 use Rattle.links.proofs.link_message.Tie as tie
 
-there : (c : tie.After-index-of) → c .index-of .result < c .before .args .links
+there : (c : tie.Start) → c .args .l < c .args .links
 unfolding known
-there c = rw (c .index-of .ensures) (ltb-true _ _ (c .before .pre .1 .there))
+there c = rw (c .pre .2) (ltb-true _ _ (c .pre .1 .there))
 
 returns : tie.Need-returns
 unfolding linkMessageEffect linkOf toRecipients recipientsOf recipientsAt
 returns c =
-    let d = rw (c .before .before .before .before .before .index-of .ensures) at (rw (c .before .before .before .before .recipients-at .ensures) at (c .spread .ensures)) in
+    let d = rw (c .before .before .before .before .before .pre .2) at (rw (c .before .before .before .before .recipients-at .ensures) at (c .spread .ensures)) in
     record { on = λ g h. rw (h .links-is, h .active-is, h .mode-is, h .iid-is, h .owner-is) d }
 
 pub link-message-spec : {M : Type 1} → statement M
 link-message-spec =
     tie.close
-    (tie.spec (λ c κs. search needs) (λ c κs. (c .before .pre .0, there c)) (λ c. search needs) (λ c. search needs)
-    (λ c. let i = c .before .before .before in omega (arith, there i, i .before .pre .0 .few))
-    (λ c. let i = c .before .before .before in omega (arith, there i, i .before .pre .0 .few)) (λ c κs. search needs)
+    (tie.spec (λ c κs. (c .pre .0, there c)) (λ c. search needs) (λ c. search needs)
+    (λ c. let i = c .before .before .before in omega (arith, there i, i .pre .0 .few))
+    (λ c. let i = c .before .before .before in omega (arith, there i, i .pre .0 .few)) (λ c κs. search needs)
     returns)

@@ -6,14 +6,14 @@ use mathlib.Core.List.{List}
 use Prim.Native.Nat.{ℕ, zero, suc, _<_}
 use native.Mathlib.Omega.{arith}
 use native.Mathlib.Decide.{decLt}
-use lib.Dec.{eqb, leb}
-use borrow.Author.Tests.{ne-eqb, le-leb, lt-leb, eqb-true}
+use lib.Dec.{eqb, leb, ltb}
+use borrow.Author.Tests.{ne-eqb, le-leb, lt-leb, le-ltb, eqb-true}
 use Rattle.laws.specs.Inner.Every.{and-left, and-right}
 use Rattle.message.specs.Verdict.{verdict}
 use Rattle.message.specs.Meaning.{meaning, outcome, readingOf}
 use Rattle.message.specs.declared.Reading.{Reading}
 use Rattle.gateway.specs.declared.Gateway.{Gateway}
-use Rattle.lookup.specs.Links.{known}
+use Rattle.lookup.specs.Links.{indexOf, known}
 use Rattle.rules.specs.Event.{linkMessage}
 use Rattle.rules.specs.Identifiers.{isKnown}
 use Rattle.rules.specs.Rules.{fromLink, inPlan}
@@ -21,6 +21,30 @@ use Rattle.rules.specs.Rules.{fromLink, inPlan}
 -- a message of the link side that is not refused with 102 (Rule 6.5)
 unfoldable pub passes : List ℕ → ℕ → Reading → Bool
 passes iid links r = eqb (r .code) 0 && (eqb (r .class) 6 && (fromLink (r .msgtype) && known iid links (r .id)))
+
+-- the index of its link, and the number of links where it is refused
+unfoldable pub placeOf : List ℕ → ℕ → Reading → ℕ
+placeOf iid links r = cond (eqb (r .code) 0 && (eqb (r .class) 6 && fromLink (r .msgtype))) (indexOf iid links (r .id)) links
+
+pub place-there : (iid : List ℕ) (links : ℕ) (r : Reading) → ltb (placeOf iid links r) links ≡ passes iid links r
+unfolding placeOf passes known
+place-there iid links r = go (eqb (r .code) 0) (eqb (r .class) 6) (fromLink (r .msgtype))
+  where
+    go : (u v w : Bool) → ltb (cond (u && (v && w)) (indexOf iid links (r .id)) links) links ≡ (u && (v && (w && ltb (indexOf iid links (r .id)) links)))
+    go true true true = refl
+    go true true false = le-ltb links links (omega arith)
+    go true false w = le-ltb links links (omega arith)
+    go false v w = le-ltb links links (omega arith)
+
+pub place-is : (iid : List ℕ) (links : ℕ) (r : Reading) → passes iid links r ≡ true → placeOf iid links r ≡ indexOf iid links (r .id)
+unfolding placeOf passes
+place-is iid links r = go (eqb (r .code) 0) (eqb (r .class) 6) (fromLink (r .msgtype))
+  where
+    go : (u v w : Bool) → (u && (v && (w && known iid links (r .id)))) ≡ true → cond (u && (v && w)) (indexOf iid links (r .id)) links ≡ indexOf iid links (r .id)
+    go true true true h = refl
+    go true true false h = absurd (false≢true h)
+    go true false w h = absurd (false≢true h)
+    go false v w h = absurd (false≢true h)
 
 -- the number of a reading is the verdict
 pub code-is : (s : List ℕ) → readingOf s .code ≡ verdict s

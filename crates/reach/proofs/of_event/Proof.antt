@@ -25,17 +25,17 @@ start c = c .before .before
 abbrev happens : tie.After-asked → Event
 happens c = eventOf (happened (start c .args .kind) (start c .args .i) (start c .args .msg .now)) (start c .args .room)
 
-refusal-is : (c : tie.After-refused) → c .refused .result ≡ refusal (start (to-asked c) .args .t1) (happens (to-asked c))
+refusal-is : (c : tie.After-refused) → c .refused .result .code ≡ refusal (start (to-asked c) .args .t1) (happens (to-asked c))
 refusal-is c =
-    c .refused .ensures
+    c .refused .ensures .0
     ∙ ap (λ (k : Bool). refusalOf (isSound (start (to-asked c) .args .t1)) k (start (to-asked c) .args .room)) (to-asked c .asked .ensures .known (start (to-asked c) .args .t1))
 
-taken : (c : tie.After-refused) → c .refused .result ≡ 0 → Accepted (isSound (start (to-asked c) .args .t1)) (inPlan (start (to-asked c) .args .t1) (happens (to-asked c) .kind)) (start (to-asked c) .args .room)
+taken : (c : tie.After-refused) → c .refused .result .code ≡ 0 → Accepted (isSound (start (to-asked c) .args .t1)) (inPlan (start (to-asked c) .args .t1) (happens (to-asked c) .kind)) (start (to-asked c) .args .room)
 taken c h = accepted _ _ _ (sym (refusal-is c) ∙ h)
 
 row-of-requires : tie.Need-row-of-requires
 row-of-requires c κs =
-    let r = c .before .before .before .before .before .before in
+    let r = c .before .before .before .before .before .before .before in
     let g = start (to-asked r) .args .t1 in
     let a = to-asked r .asked .ensures in
     let t = taken r (c .before .before .before .before .before .if1 .left) in
@@ -44,7 +44,7 @@ row-of-requires c κs =
 
 returns-2 : tie.Need-returns-2
 returns-2 c =
-    let r = c .before .before .before .before .before .before .before .before .before in
+    let r = c .before .before .before .before .before .before .before .before .before .before in
     let a = to-asked r in
     let g = start a .args .t1 in
     reached-yes g (happens a) (refusal-is r) (c .before .before .before .before .before .before .before .before .if1 .left) (row-is g (start a .args .msg .now) (a .asked .result) (happens a) (c .before .before .before .before .before .before .before .wide .ensures) (c .before .before .row-of .ensures) (a .asked .ensures .reach g)) (rw (c .before .wide2 .ensures) at (c .within .ensures))
@@ -55,7 +55,7 @@ of-event-spec =
     (tie.spec
     (λ c κs. search needs)
     (λ c κs. search needs)
-    (λ c. reached-no _ (happens (to-asked (c .before))) (refusal-is (c .before)) (c .if1 .taken))
+    (λ c. reached-no _ (happens (to-asked (c .before .before))) (refusal-is (c .before .before)) (c .if1 .taken))
     (λ c κs. search needs)
     row-of-requires
     (λ c κs. search needs)
