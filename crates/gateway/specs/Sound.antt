@@ -5,9 +5,10 @@ use mathlib.Core.Bool.{Bool, _||_, _&&_, cond, not}
 use mathlib.Core.List.{List}
 use lib.ListN.{replicate}
 use lib.Dec.{eqb, leb, ltb}
-use Rattle.laws.specs.Below.{allBelow, countBelow}
+use Rattle.laws.specs.Below.{allBelow, anyBelow, countBelow}
 use Rattle.laws.specs.Columns.{numberAt, isSet}
 use Rattle.gateway.specs.declared.Gateway.{Gateway}
+use Rattle.gateway.specs.declared.Units.{Units}
 
 -- The places of each table, and the largest state of a link: 0 idle, 1 starting, 2 in service, 3 stopping.
 abbrev pub aspPlaces : ℕ
@@ -108,17 +109,69 @@ soundLinks iid owner state ases links =
     ((ascends iid links && allUnder owner ases links) && allUnder state linkStates links)
     && ((blankFrom iid links linkPlaces && blankFrom owner links linkPlaces) && blankFrom state links linkPlaces)
 
+-- ---- units held (Rule 5.21)
+
+-- an AS holds at most 8; unit k of AS a, the oldest first, has this index
+abbrev pub mostHeld : ℕ
+mostHeld = 8
+
+abbrev pub unitIndex : ℕ → ℕ → ℕ
+unitIndex a k = a * 8 + k
+
+-- x is the identifier of a link of AS a
+unfoldable pub isLinkOf : List ℕ → List ℕ → ℕ → ℕ → ℕ → Bool
+isLinkOf iid owner links a x = anyBelow (λ l. eqb (numberAt iid l) x && eqb (numberAt owner l) a) links
+
+-- a unit of AS a: the tag and the length of protocol data, a link of that AS, and a correlation id only where it is marked
+unfoldable pub unitAt : Units → List ℕ → List ℕ → ℕ → ℕ → ℕ → Bool
+unitAt u iid owner links a i =
+    ((eqb (numberAt (u .tag) i) 0x300 || eqb (numberAt (u .tag) i) 0x301)
+    && (leb 5 (numberAt (u .length) i) && leb (numberAt (u .length) i) 277))
+    && (isLinkOf iid owner links a (numberAt (u .id) i)
+    && (eqb (numberAt (u .marked) i) 1 || (eqb (numberAt (u .marked) i) 0 && eqb (numberAt (u .correlation) i) 0)))
+
+-- no unit: zeros
+unfoldable pub blankAt : Units → ℕ → Bool
+blankAt u i =
+    (eqb (numberAt (u .tag) i) 0 && eqb (numberAt (u .length) i) 0)
+    && (eqb (numberAt (u .marked) i) 0 && (eqb (numberAt (u .id) i) 0 && eqb (numberAt (u .correlation) i) 0))
+
+-- AS a holds units only while it waits
+unfoldable pub unitsOk : Units → List ℕ → List ℕ → List ℕ → ℕ → ℕ → Bool
+unitsOk u waiting iid owner links a =
+    (leb (numberAt (u .count) a) mostHeld && (eqb (numberAt (u .count) a) 0 || isSet waiting a))
+    && allBelow (λ k. cond (ltb k (numberAt (u .count) a)) (unitAt u iid owner links a (unitIndex a k)) (blankAt u (unitIndex a k))) mostHeld
+
+unfoldable pub soundUnits : Units → List ℕ → List ℕ → List ℕ → ℕ → Bool
+soundUnits u waiting iid owner links = allBelow (unitsOk u waiting iid owner links) asPlaces
+
 -- ---- the whole
 
--- The byte behind the counts is 0 (Rule 5.20). A new column has a condition of its own, which joins as one more conjunct.
-unfoldable pub isSound : Gateway → Bool
-isSound g =
+-- The tables of ASPs, ASes and links; the byte behind the counts is 0 (Rule 5.20).
+unfoldable pub soundTables : Gateway → Bool
+soundTables g =
     (countsIn (g .asps) (g .ases) (g .links) && eqb (g .spare) 0)
     && (soundAsps (g .aspid) (g .up) (g .asps)
     && (soundAses (g .up) (g .member) (g .active) (g .mode) (g .waiting) (g .asps) (g .ases)
     && soundLinks (g .iid) (g .owner) (g .state) (g .ases) (g .links)))
 
+-- A new column has a condition of its own, which joins as one more conjunct.
+unfoldable pub isSound : Gateway → Bool
+isSound g = soundTables g && soundUnits (g .held) (g .waiting) (g .iid) (g .owner) (g .links)
+
 -- ---- the state that comes with a refused plan (Rule 4.7)
+
+-- no units anywhere
+abbrev pub noUnits : Units
+noUnits =
+    record {
+      count = replicate 16 0;
+      tag = replicate 128 0;
+      length = replicate 128 0;
+      marked = replicate 128 0;
+      id = replicate 128 0;
+      correlation = replicate 128 0;
+    }
 
 unfoldable pub zeros : Gateway
 zeros =
@@ -136,4 +189,5 @@ zeros =
       iid = replicate 128 0;
       owner = replicate 128 0;
       state = replicate 128 0;
+      held = noUnits;
     }

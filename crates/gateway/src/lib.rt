@@ -8,12 +8,13 @@ ghost use Rattle.laws.specs.Below.{one, allBelow};
 ghost use Rattle.gateway.specs.Inner.Limits.{places, limit, limitsTo, flagsOf, Flags};
 ghost use Rattle.gateway.specs.Inner.Differ.{padWith, lacksFrom};
 ghost use Rattle.gateway.specs.Inner.Rows.{rowFails, soundMarks};
-ghost use Rattle.gateway.specs.Sound.{countsIn, blankFrom, differs, upAt, soundAsps, activeIn, modeAt, waitingAt, overrideAt, soundAses, ascends, allUnder, soundLinks, isSound, zeros};
-ghost use Rattle.gateway.specs.Inner.Sound.{isSoundOf};
+ghost use Rattle.gateway.specs.Sound.{countsIn, blankFrom, differs, upAt, soundAsps, activeIn, modeAt, waitingAt, overrideAt, soundAses, ascends, allUnder, soundLinks, noUnits, zeros};
+ghost use Rattle.gateway.specs.Inner.Sound.{soundTablesOf};
 
 // Index of a pair: as * 16 + asp. Flags are 0 or 1. Traffic modes: 1 override, 2 load-share, 3 broadcast. States of a link:
 // 0 idle, 1 starting, 2 in service, 3 stopping. `iid` is the interface identifier, `waiting` that the recovery time runs.
 // `spare` is 0 (Rule 5.20): it stands where padding would, which goes out as whatever the stack held.
+// `held` are the units held.
 #[repr(C)]
 pub struct Gateway {
     pub asps: u8,
@@ -29,6 +30,19 @@ pub struct Gateway {
     pub iid: [u32; 128],
     pub owner: [u8; 128],
     pub state: [u8; 128],
+    pub held: Units,
+}
+
+// The units held for ASes that wait (Rule 5.21): how many each AS has, and of unit k of AS a, the oldest first, at index a * 8 + k its tag, the length
+// of that parameter, whether it has a correlation id, the identifier of its link, and that id. Its bytes lie in the hold (Rule 5.22).
+#[repr(C)]
+pub struct Units {
+    pub count: [u8; 16],
+    pub tag: [u16; 128],
+    pub length: [u16; 128],
+    pub marked: [u16; 128],
+    pub id: [u32; 128],
+    pub correlation: [u32; 128],
 }
 
 pub fn wide(x: u8) -> usize
@@ -388,8 +402,8 @@ pub fn links_ok<'a>(
     (order & known) & (x & y)
 }
 
-// The whole of lent columns, for callers that hold the state and would copy it by a call.
-pub fn sound_of<'a>(
+// The tables of lent columns, for callers that hold the state and would copy it by a call.
+pub fn tables_ok<'a>(
     asps: u8,
     ases: u8,
     links: u8,
@@ -404,7 +418,7 @@ pub fn sound_of<'a>(
     owner: &'a [u8; 128],
     state: &'a [u8; 128],
 ) -> bool
-    ensures { λ r. ⌜ r ≡ isSoundOf asps ases links spare (now (aspid .entry)) (now (up .entry)) (now (member .entry)) (now (active .entry)) (now (mode .entry)) (now (waiting .entry)) (now (iid .entry)) (now (owner .entry)) (now (state .entry)) ⌝ }
+    ensures { λ r. ⌜ r ≡ soundTablesOf asps ases links spare (now (aspid .entry)) (now (up .entry)) (now (member .entry)) (now (active .entry)) (now (mode .entry)) (now (waiting .entry)) (now (iid .entry)) (now (owner .entry)) (now (state .entry)) ⌝ }
 {
     let c = counts_ok(asps, ases, links);
     let e = spare == 0;
@@ -413,6 +427,22 @@ pub fn sound_of<'a>(
     let y = ases_ok(&place, asps, ases, up, member, active, mode, waiting);
     let z = links_ok(ases, links, iid, owner, state);
     (c & e) & (x & (y & z))
+}
+
+impl Units {
+    // No unit anywhere.
+    pub fn none() -> Units
+        ensures { λ r. ⌜ r ≡ noUnits ⌝ }
+    {
+        Units {
+            count: [0; 16],
+            tag: [0; 128],
+            length: [0; 128],
+            marked: [0; 128],
+            id: [0; 128],
+            correlation: [0; 128],
+        }
+    }
 }
 
 impl Gateway {
@@ -434,30 +464,7 @@ impl Gateway {
             iid: [0; 128],
             owner: [0; 128],
             state: [0; 128],
+            held: Units::none(),
         }
-    }
-
-    pub fn is_sound(self) -> bool
-        ensures { λ r. ⌜ r ≡ isSound self ⌝ }
-    {
-        let asps = self.asps;
-        let ases = self.ases;
-        let links = self.links;
-        let spare = self.spare;
-        sound_of(
-            asps,
-            ases,
-            links,
-            spare,
-            &self.aspid,
-            &self.up,
-            &self.member,
-            &self.active,
-            &self.mode,
-            &self.waiting,
-            &self.iid,
-            &self.owner,
-            &self.state,
-        )
     }
 }

@@ -11,7 +11,7 @@ use Rattle.laws.specs.Inner.Below.{all-at}
 use Rattle.laws.specs.Columns.{numberAt, isSet}
 use Rattle.laws.specs.Inner.Every.{and-left, and-right}
 use Rattle.gateway.specs.declared.Gateway.{Gateway}
-use Rattle.gateway.specs.Sound.{pair, countsIn, blankFrom, flagIf, soundAsps, memberAt, activeAt, soundRow, activeIn, modeAt, waitingAt, overrideAt, soundAs, soundAses, ascends, allUnder, soundLinks, isSound, zeros}
+use Rattle.gateway.specs.Sound.{pair, countsIn, blankFrom, flagIf, soundAsps, memberAt, activeAt, soundRow, activeIn, modeAt, waitingAt, overrideAt, soundAs, soundAses, ascends, allUnder, soundLinks, soundTables, soundUnits, isSound, zeros}
 use Rattle.gateway.specs.Laws.{Limits}
 
 pub limits : (n m k : ℕ) → countsIn n m k ≡ true → Limits n m k
@@ -35,6 +35,7 @@ pub record Parts (g : Gateway) : Type 0 where
   pub inAsps : soundAsps (g .aspid) (g .up) (g .asps) ≡ true
   pub inAses : soundAses (g .up) (g .member) (g .active) (g .mode) (g .waiting) (g .asps) (g .ases) ≡ true
   pub inLinks : soundLinks (g .iid) (g .owner) (g .state) (g .ases) (g .links) ≡ true
+  pub inUnits : soundUnits (g .held) (g .waiting) (g .iid) (g .owner) (g .links) ≡ true
 
 module _ (g : Gateway) where
   abbrev countsOf : Bool
@@ -52,9 +53,13 @@ module _ (g : Gateway) where
   abbrev linksOf : Bool
   linksOf = soundLinks (g .iid) (g .owner) (g .state) (g .ases) (g .links)
 
+  abbrev unitsIn : Bool
+  unitsIn = soundUnits (g .held) (g .waiting) (g .iid) (g .owner) (g .links)
+
   pub parts : isSound g ≡ true → Parts g
-  unfolding isSound
-  parts h =
+  unfolding isSound soundTables
+  parts i =
+      let h = and-left (soundTables g) unitsIn i in
       let c = and-left (countsOf && spareOf) (aspsOf && (asesOf && linksOf)) h in
       let r = and-right (countsOf && spareOf) (aspsOf && (asesOf && linksOf)) h in
       let s = and-right aspsOf (asesOf && linksOf) r in
@@ -64,16 +69,17 @@ module _ (g : Gateway) where
         inAsps = and-left aspsOf (asesOf && linksOf) r;
         inAses = and-left asesOf linksOf s;
         inLinks = and-right asesOf linksOf s;
+        inUnits = and-right (soundTables g) unitsIn i;
       }
 
   -- the same together
-  pub whole : (countsOf && spareOf) ≡ true → aspsOf ≡ true → asesOf ≡ true → linksOf ≡ true → isSound g ≡ true
-  unfolding isSound
-  whole p q r s = rw (p, q, r, s)
+  pub whole : (countsOf && spareOf) ≡ true → aspsOf ≡ true → asesOf ≡ true → linksOf ≡ true → unitsIn ≡ true → isSound g ≡ true
+  unfolding isSound soundTables
+  whole p q r s t = rw (p, q, r, s, t)
 
   -- groups that were tested for counts within the tables
-  pub joined : (c e x y z : Bool) → c ≡ countsOf → e ≡ spareOf → (g .asps ≤ 16 → x ≡ aspsOf) → (g .ases ≤ 16 → y ≡ asesOf) → (g .links ≤ 128 → z ≡ linksOf) → ((c && e) && (x && (y && z))) ≡ isSound g
-  unfolding isSound
+  pub joined : (c e x y z : Bool) → c ≡ countsOf → e ≡ spareOf → (g .asps ≤ 16 → x ≡ aspsOf) → (g .ases ≤ 16 → y ≡ asesOf) → (g .links ≤ 128 → z ≡ linksOf) → ((c && e) && (x && (y && z))) ≡ soundTables g
+  unfolding soundTables
   joined true e x y z h s p q r =
       let l = limits (g .asps) (g .ases) (g .links) (sym h) in
       rw (← h, s, p (l .asps), q (l .ases), r (l .links))
@@ -197,5 +203,5 @@ member-within g h a q b d e =
 
 -- the state of zeros that a refused plan hands back is not sound
 pub zeros-not-sound : isSound zeros ≡ false
-unfolding isSound countsIn zeros
+unfolding isSound soundTables countsIn zeros
 zeros-not-sound = refl

@@ -6,7 +6,7 @@ use Rattle.gateway.proofs.Gateway.zeros.Tie as tie
 
 returns : tie.Need-returns
 unfolding zeros
-returns c = search needs
+returns c = rw (c .none .ensures)
 
 pub zeros-spec : {M : Type 1} → statement M
-zeros-spec = tie.close (tie.spec returns)
+zeros-spec = tie.close (tie.spec (search needs) returns)

@@ -1,9 +1,9 @@
--- `gateway::sound_of`: the groups together. Assumes nothing.
+-- `gateway::tables_ok`: the groups together. Assumes nothing.
 use mathlib.Core.Path.{refl}
 use borrow.Author.Needs.{needs}
 use Rattle.gateway.specs.Inner.Laws.{joined}
-use Rattle.gateway.proofs.sound_of.Statement.{statement}
-use Rattle.gateway.proofs.sound_of.Tie as tie
+use Rattle.gateway.proofs.tables_ok.Statement.{statement}
+use Rattle.gateway.proofs.tables_ok.Tie as tie
 
 asps-ok-requires : tie.Need-asps-ok-requires
 asps-ok-requires c κs = c .before .places .ensures
@@ -14,5 +14,5 @@ ases-ok-requires c κs = c .before .before .before .places .ensures
 returns : tie.Need-returns
 returns c = joined _ _ _ _ _ _ (c .before .before .before .before .before .before .counts-ok .ensures) refl (c .before .before .before .asps-ok .ensures) (c .before .ases-ok .ensures) (c .links-ok .ensures)
 
-pub sound-of-spec : {M : Type 1} → statement M
-sound-of-spec = tie.close (tie.spec (search needs) (search needs) asps-ok-requires ases-ok-requires (search needs) returns)
+pub tables-ok-spec : {M : Type 1} → statement M
+tables-ok-spec = tie.close (tie.spec (search needs) (search needs) asps-ok-requires ases-ok-requires (search needs) returns)
