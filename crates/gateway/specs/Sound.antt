@@ -3,7 +3,7 @@
 use Prim.Native.Nat.{ℕ, _+_, _*_, _-_}
 use mathlib.Core.Bool.{Bool, _||_, _&&_, cond, not}
 use mathlib.Core.List.{List}
-use lib.ListN.{replicate}
+use lib.ListN.{length, replicate}
 use lib.Dec.{eqb, leb, ltb}
 use Rattle.laws.specs.Below.{allBelow, anyBelow, countBelow}
 use Rattle.laws.specs.Columns.{numberAt, isSet}
@@ -115,6 +115,9 @@ soundLinks iid owner state ases links =
 abbrev pub mostHeld : ℕ
 mostHeld = 8
 
+abbrev pub unitPlaces : ℕ
+unitPlaces = 128
+
 abbrev pub unitIndex : ℕ → ℕ → ℕ
 unitIndex a k = a * 8 + k
 
@@ -142,8 +145,14 @@ unitsOk u waiting iid owner links a =
     (leb (numberAt (u .count) a) mostHeld && (eqb (numberAt (u .count) a) 0 || isSet waiting a))
     && allBelow (λ k. cond (ltb k (numberAt (u .count) a)) (unitAt u iid owner links a (unitIndex a k)) (blankAt u (unitIndex a k))) mostHeld
 
+-- the columns have their places; in the code they do by their type
+unfoldable pub sized : Units → Bool
+sized u =
+    (eqb (length (u .count)) asPlaces && (eqb (length (u .tag)) unitPlaces && eqb (length (u .length)) unitPlaces))
+    && (eqb (length (u .marked)) unitPlaces && (eqb (length (u .id)) unitPlaces && eqb (length (u .correlation)) unitPlaces))
+
 unfoldable pub soundUnits : Units → List ℕ → List ℕ → List ℕ → ℕ → Bool
-soundUnits u waiting iid owner links = allBelow (unitsOk u waiting iid owner links) asPlaces
+soundUnits u waiting iid owner links = sized u && allBelow (unitsOk u waiting iid owner links) asPlaces
 
 -- ---- the whole
 

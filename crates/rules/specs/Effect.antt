@@ -1,14 +1,18 @@
 -- What an accepted event does: its actions, and the next state (Rule 7.1).
 -- Assumes nothing.
-use Prim.Native.Nat.{ℕ}
+use Prim.Native.Nat.{ℕ, _+_, _*_, _-_}
 use mathlib.Core.Bool.{Bool}
 use mathlib.Core.List.{List, [], _∷_, _++_}
+use lib.ListN.{take, drop}
+use Rattle.laws.specs.Columns.{numberAt}
+use Rattle.put.specs.Bytes.{overlay}
 use Rattle.action.specs.declared.Action.{Action}
 use Rattle.action.specs.Types.{mgmtError}
 use Rattle.action.specs.Words.{action}
 use Rattle.gateway.specs.declared.Gateway.{Gateway}
 use Rattle.server.specs.declared.Change.{Change}
-use Rattle.servers.specs.Changed.{withChange, withLink, allActions}
+use Rattle.server.specs.declared.Arrival.{Arrival}
+use Rattle.servers.specs.Changed.{withChange, withLink, withUnit, allActions}
 
 pub data Effect : Type 0 where
   -- actions alone
@@ -17,17 +21,40 @@ pub data Effect : Type 0 where
   setLink : ℕ → ℕ → List Action → Effect
   -- replies, then a change in each of the flagged ASes, ascending, with its Notifies
   changeIn : List Action → Change → List Bool → Effect
+  -- a unit comes in for an AS, and is held
+  takeIn : ℕ → Arrival → Effect
 
 -- replies first, then AS by AS upwards (Rule 8.3)
 abbrev pub actionsOf : Gateway → Effect → List Action
 actionsOf g (send os) = os
 actionsOf g (setLink l v os) = os
 actionsOf g (changeIn os k named) = os ++ allActions g k named
+actionsOf g (takeIn a x) = []
 
 abbrev pub stateAfter : Gateway → Effect → Gateway
 stateAfter g (send os) = g
 stateAfter g (setLink l v os) = withLink g l v
 stateAfter g (changeIn os k named) = withChange g k named
+stateAfter g (takeIn a x) = withUnit g a x
+
+-- ---- the hold (Rule 5.22)
+
+-- its bytes: sixteen ASes, each with eight places of 273
+abbrev pub holdBytes : ℕ
+holdBytes = 34944
+
+-- where the bytes of unit k of AS a begin
+abbrev pub holdAt : ℕ → ℕ → ℕ
+holdAt a k = a * 2184 + k * 273
+
+-- a unit that comes in is laid over its place, from the message s; all else stays, also what is left of a place and a place that becomes free
+abbrev pub holdAfter : Gateway → List ℕ → Effect → List ℕ → List ℕ
+holdAfter g s (send os) h = h
+holdAfter g s (setLink l v os) h = h
+holdAfter g s (changeIn os k named) h = h
+holdAfter g s (takeIn a x) h = overlay h (holdAt a (numberAt (g .held .count) a)) (take (x .length - 4) (drop (x .start) s))
+
+-- ---- actions
 
 -- one action
 abbrev pub oneAction : ℕ → ℕ → ℕ → ℕ → List Action

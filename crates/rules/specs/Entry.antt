@@ -10,8 +10,8 @@ use Rattle.action.specs.declared.Action.{Action}
 use Rattle.action.specs.Words.{wordsOf}
 use Rattle.gateway.specs.declared.Gateway.{Gateway}
 use Rattle.rules.specs.declared.Outcome.{Outcome}
-use Rattle.rules.specs.Event.{Event}
-use Rattle.rules.specs.Effect.{actionsOf, stateAfter}
+use Rattle.rules.specs.Event.{Event, messageOf}
+use Rattle.rules.specs.Effect.{actionsOf, stateAfter, holdAfter}
 use Rattle.rules.specs.Rules.{effectOf, refusal}
 
 -- a refused event has no actions and leaves the state (Rule 6.3)
@@ -21,13 +21,19 @@ actions g e = cond (eqb (refusal g e) 0) (actionsOf g (effectOf g (e .kind))) []
 unfoldable pub next : Gateway → Event → Gateway
 next g e = cond (eqb (refusal g e) 0) (stateAfter g (effectOf g (e .kind))) g
 
--- What every entry promises of the event e on the state g: `lent` is the list of words as it comes, `left` as it is handed back.
--- Words behind the actions' words stay as they came (Rule 8.6).
-pub record MeetsRules (g : Gateway) (e : Event) (lent left : List ℕ) (r : Outcome) : Type 0 where
+-- the hold h, of whatever length, after it
+unfoldable pub nextHold : Gateway → Event → List ℕ → List ℕ
+nextHold g e h = cond (eqb (refusal g e) 0) (holdAfter g (messageOf (e .kind)) (effectOf g (e .kind)) h) h
+
+-- What every entry promises of the event e on the state g: `lent` is the list of words as it comes, `left` as it is handed back; `hold` and `held` are the hold's bytes
+-- before and after. Words behind the actions' words stay as they came (Rule 8.6).
+pub record MeetsRules (g : Gateway) (e : Event) (lent left hold held : List ℕ) (r : Outcome) : Type 0 where
   pub room : length lent ≡ e .room
+  pub lends : length hold ≡ e .hold
   pub refused : r .refusal ≡ refusal g e
   pub count : r .count ≡ length (actions g e)
-  -- so 1,032 words are enough (Rule 8.7)
-  pub few : r .count ≤ 258
+  -- so 1,544 words are enough (Rule 8.7)
+  pub few : r .count ≤ 386
   pub state : r .gateway ≡ next g e
+  pub bytes : held ≡ nextHold g e hold
   pub words : left ≡ wordsOf (actions g e) ++ drop (4 * length (actions g e)) lent

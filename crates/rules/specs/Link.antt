@@ -1,18 +1,22 @@
--- The links: class 6 messages of an ASP, link up, link down, messages of the link side (Rules 7.14 to 7.22).
+-- The links: class 6 messages of an ASP, link up, link down, messages of the link side (Rules 7.14 to 7.24).
 -- Assumes nothing.
 use Prim.Native.Nat.{ℕ, _+_, _*_}
 use mathlib.Core.Bool.{Bool, true, false, cond, not, _&&_, _||_}
 use mathlib.Core.List.{List, [], _∷_, _++_}
-use lib.Dec.{eqb}
+use lib.Dec.{eqb, ltb}
 use Rattle.laws.specs.Columns.{numberAt, isSet, tabulate}
 use Rattle.message.specs.declared.Reading.{Reading}
+use Rattle.message.specs.Meaning.{dataTag, dataAt}
 use Rattle.action.specs.declared.Action.{Action}
 use Rattle.action.specs.Words.{linkSide, toAll}
+use Rattle.gateway.specs.Sound.{mostHeld}
 use Rattle.gateway.specs.declared.Gateway.{Gateway}
+use Rattle.server.specs.declared.Arrival.{Arrival}
+use Rattle.server.specs.Record.{recordOf, stateIn}
 use Rattle.action.specs.Types.{establishConfirm, establishRequest, releaseConfirm, releaseRequest, userData, dataAck, stateRequest, retrievalRequest, releaseIndication}
 use Rattle.lookup.specs.Servers.{receives}
 use Rattle.rules.specs.Identifiers.{isKnown, linkOf, ownerAt, isMember, isActive}
-use Rattle.rules.specs.Effect.{Effect, send, setLink, oneAction, error, error2}
+use Rattle.rules.specs.Effect.{Effect, send, setLink, takeIn, oneAction, error, error2}
 
 -- the states of a link (Rule 5.1)
 abbrev pub idle : ℕ
@@ -87,6 +91,29 @@ linkDownEffect g l =
     cond (eqb (numberAt (g .state) l) idle) (send [])
     (setLink l idle (toRecipients g l (cond (eqb (numberAt (g .state) l) stopping) releaseConfirm releaseIndication)))
 
--- Rule 7.22
-unfoldable pub linkMessageEffect : Gateway → Reading → Effect
-linkMessageEffect g r = send (toRecipients g (linkOf g (r .id)) (r .class * 256 + r .msgtype))
+-- an AS that waits is pending, which is 4 (Rule 5.2)
+unfoldable pub isPending : Gateway → ℕ → Bool
+isPending g a = eqb (stateIn (recordOf g a)) 4
+
+-- the unit that a Data message brings
+unfoldable pub arrival : List ℕ → Reading → Arrival
+arrival s r =
+    record {
+      tag = dataTag s;
+      length = dataAt s .length + 4;
+      marked = r .correlated;
+      id = r .id;
+      correlation = r .correlation;
+      start = dataAt s .start;
+    }
+
+-- Rule 7.24: behind those that AS a has; a ninth is turned away
+unfoldable pub holdEffect : Gateway → List ℕ → Reading → ℕ → Effect
+holdEffect g s r a = cond (ltb (numberAt (g .held .count) a) mostHeld) (takeIn a (arrival s r)) (send [])
+
+-- Rules 7.22 and 7.24: to the recipients; Data of an AS that is pending is held
+unfoldable pub linkMessageEffect : Gateway → List ℕ → Reading → Effect
+linkMessageEffect g s r =
+    let l : ℕ = linkOf g (r .id) in
+    cond (eqb (r .msgtype) 1 && isPending g (ownerAt g l)) (holdEffect g s r (ownerAt g l))
+    (send (toRecipients g l (r .class * 256 + r .msgtype)))

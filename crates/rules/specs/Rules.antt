@@ -1,4 +1,4 @@
--- What each event does (Rules 7.1 to 7.23), and which are refused (Rules 6.3 to 6.6).
+-- What each event does (Rules 7.1 to 7.26), and which are refused (Rules 6.3 to 6.6).
 -- Assumes nothing.
 use Prim.Native.Nat.{ℕ, _+_, _*_}
 use mathlib.Core.Bool.{Bool, true, false, cond, not, _&&_, _||_}
@@ -17,7 +17,7 @@ use Rattle.action.specs.Types.{aspUp, aspDown, beat, beatAck, aspActive, aspIna
 use Rattle.server.specs.declared.Change.the-variants.{AspUp, AspDown, Deactivate, Activate, Recover}
 use Rattle.rules.specs.Event.{EventKind, message, lost, recovery, linkUp, linkDown, linkMessage, Event}
 use Rattle.rules.specs.Identifiers.{isKnown}
-use Rattle.rules.specs.Effect.{Effect, send, changeIn, oneAction, error}
+use Rattle.rules.specs.Effect.{Effect, send, changeIn, holdBytes, oneAction, error}
 use Rattle.rules.specs.Asp.{upEffect, downEffect, lostEffect, activeEffect, inactiveEffect, trafficEffect}
 use Rattle.rules.specs.Link.{classSixEffect, linkUpEffect, linkDownEffect, linkMessageEffect}
 
@@ -63,7 +63,7 @@ effectOf g (lost p) = lostEffect g p
 effectOf g (recovery a) = changeIn [] Recover (tabulate 16 (λ c. eqb c a))
 effectOf g (linkUp l) = linkUpEffect g l
 effectOf g (linkDown l) = linkDownEffect g l
-effectOf g (linkMessage s) = linkMessageEffect g (readingOf s)
+effectOf g (linkMessage s) = linkMessageEffect g s (readingOf s)
 
 -- ---- refusals
 
@@ -83,11 +83,12 @@ inPlan g (linkMessage s) =
 
 -- the words that an event asks for, or it is refused with 101 (Rule 6.6)
 abbrev pub leastRoom : ℕ
-leastRoom = 1032
+leastRoom = 1544
 
 -- the first that applies (Rule 6.3)
-unfoldable pub refusalOf : Bool → Bool → ℕ → ℕ
-refusalOf sound known room = 105 if not sound orElse 102 if not known orElse 101 if ltb room leastRoom
+unfoldable pub refusalOf : Bool → Bool → ℕ → ℕ → ℕ
+refusalOf sound known hold room =
+    105 if not sound orElse 102 if not known orElse 106 if not (eqb hold holdBytes) orElse 101 if ltb room leastRoom
 
 abbrev pub refusal : Gateway → Event → ℕ
-refusal g e = refusalOf (isSound g) (inPlan g (e .kind)) (e .room)
+refusal g e = refusalOf (isSound g) (inPlan g (e .kind)) (e .hold) (e .room)

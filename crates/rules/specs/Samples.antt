@@ -18,9 +18,9 @@ planS =
 unfoldable pub fresh : Gateway
 fresh = loadOf planS .gateway
 
--- an event with the least list of words
+-- an event with the least list of words and a hold
 abbrev pub event : EventKind → Event
-event k = record { kind = k; room = 1032 }
+event k = record { kind = k; room = 1544; hold = 34944 }
 
 -- a message of a header alone
 unfoldable pub bare : ℕ → ℕ → List ℕ

@@ -23,7 +23,8 @@ pub struct Decision {
     // at most 2
     pub count: usize,
     pub link: usize,
-    // 0 actions alone, 1 a link comes to a state, 2 a change in ASes, 3 an action to each ASP of `who`, 4 that with a link's state
+    // 0 actions alone, 1 a link comes to a state, 2 a change in ASes, 3 an action to each ASP of `who`, 4 that with a link's state, 5 a unit comes in for the AS
+    // of index `link`: `first` has its tag, its length, its link's identifier and its correlation id, `state` whether it has one, `second.to` where its bytes begin
     pub what: u8,
     pub state: u8,
 }

@@ -51,6 +51,16 @@ pub fn has_some(x: [bool; 16]) -> bool
     found
 }
 
+// What is kept of a unit that comes in (Rule 7.24), and where its bytes begin in the message.
+pub struct Arrival {
+    pub tag: u16,
+    pub length: u16,
+    pub marked: u16,
+    pub id: u32,
+    pub correlation: u32,
+    pub start: usize,
+}
+
 // ---- cut out and put back
 
 // The row of AS a.

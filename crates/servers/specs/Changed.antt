@@ -12,6 +12,7 @@ use Rattle.gateway.specs.declared.Gateway.{Gateway}
 use Rattle.gateway.specs.declared.Units.{Units}
 use Rattle.action.specs.declared.Action.{Action}
 use Rattle.server.specs.declared.AsRecord.{AsRecord}
+use Rattle.server.specs.declared.Arrival.{Arrival}
 use Rattle.server.specs.declared.Change.{Change}
 use Rattle.server.specs.declared.Change.the-variants.{AspUp, AspDown, Deactivate, Activate, Recover}
 use Rattle.server.specs.Record.{recordOf}
@@ -68,16 +69,7 @@ unitsWithout go u =
       correlation = cleared (λ i. go (i / 8)) (u .correlation);
     }
 
--- what is kept of a unit that comes in, and where its bytes lie in the message
-pub record Arrival : Type 0 where
-  pub tag : ℕ
-  pub length : ℕ
-  pub marked : ℕ
-  pub id : ℕ
-  pub correlation : ℕ
-  pub start : ℕ
-
--- behind the n units that AS a has (Rule 7.24)
+-- a unit more for AS a, behind those that it has (Rule 7.24)
 abbrev pub unitsWith : Units → ℕ → Arrival → Units
 unitsWith u a x =
     let i : ℕ = unitIndex a (numberAt (u .count) a) in

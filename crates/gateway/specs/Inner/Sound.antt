@@ -6,7 +6,7 @@ use mathlib.Core.Bool.{Bool, true}
 use mathlib.Core.List.{List}
 use Rattle.laws.specs.Below.{allBelow}
 use Rattle.gateway.specs.declared.Units.{Units}
-use Rattle.gateway.specs.Sound.{soundTables, noUnits, unitsOk, blankAt, soundUnits}
+use Rattle.gateway.specs.Sound.{soundTables, noUnits, sized, unitsOk, blankAt, soundUnits}
 
 -- the tables of the columns that a state lends
 abbrev pub soundTablesOf : ℕ → ℕ → ℕ → ℕ → List ℕ → List ℕ → List ℕ → List ℕ → List ℕ → List ℕ → List ℕ → List ℕ → List ℕ → Bool
@@ -36,5 +36,5 @@ unitsOf count tag length marked id correlation =
 
 -- a state that holds none is sound in that
 pub no-units-sound : (waiting iid owner : List ℕ) (links : ℕ) → soundUnits noUnits waiting iid owner links ≡ true
-unfolding soundUnits unitsOk blankAt allBelow
+unfolding soundUnits sized unitsOk blankAt allBelow
 no-units-sound waiting iid owner links = refl

@@ -4,28 +4,31 @@ use Prim.Native.Nat.{ℕ, _≤_}
 use mathlib.Core.Path.{_≡_, refl}
 use mathlib.Core.Bool.{Bool, true, false, not}
 use native.Mathlib.Omega.{arith}
-use lib.Dec.{ltb}
-use borrow.Author.Tests.{ltb-false}
+use lib.Dec.{eqb, ltb}
+use borrow.Author.Tests.{eqb-true, ltb-false}
 use Rattle.laws.specs.Choice.{_orElse_, _if_}
+use Rattle.rules.specs.Effect.{holdBytes}
 use Rattle.rules.specs.Rules.{refusalOf, leastRoom}
 
 -- an event that is not refused
-pub record Accepted (sound known : Bool) (room : ℕ) : Type 0 where
+pub record Accepted (sound known : Bool) (hold room : ℕ) : Type 0 where
   pub sound-yes : sound ≡ true
   pub known-yes : known ≡ true
-  pub enough : 1032 ≤ room
+  pub whole : hold ≡ 34944
+  pub enough : 1544 ≤ room
 
-pub accepted : (sound known : Bool) (room : ℕ) → refusalOf sound known room ≡ 0 → Accepted sound known room
+pub accepted : (sound known : Bool) (hold room : ℕ) → refusalOf sound known hold room ≡ 0 → Accepted sound known hold room
 unfolding refusalOf
-accepted sound known room = go sound known (ltb room leastRoom) refl
+accepted sound known hold room = go sound known (eqb hold holdBytes) (ltb room leastRoom) refl refl
   where
-    go : (u v w : Bool) → ltb room leastRoom ≡ w → _≡_ {A = ℕ} (105 if not u orElse 102 if not v orElse 101 if w) 0 → Accepted u v room
-    go true true true e h = let z : ⊥ = omega arith in absurd z
-    go true true false e h = record { sound-yes = refl; known-yes = refl; enough = ltb-false room leastRoom e }
-    go true false w e h = let z : ⊥ = omega arith in absurd z
-    go false v w e h = let z : ⊥ = omega arith in absurd z
+    go : (u v x w : Bool) → eqb hold holdBytes ≡ x → ltb room leastRoom ≡ w → _≡_ {A = ℕ} (105 if not u orElse 102 if not v orElse 106 if not x orElse 101 if w) 0 → Accepted u v hold room
+    go true true true true f e h = let z : ⊥ = omega arith in absurd z
+    go true true true false f e h = record { sound-yes = refl; known-yes = refl; whole = eqb-true hold holdBytes f; enough = ltb-false room leastRoom e }
+    go true true false w f e h = let z : ⊥ = omega arith in absurd z
+    go true false x w f e h = let z : ⊥ = omega arith in absurd z
+    go false v x w f e h = let z : ⊥ = omega arith in absurd z
 
 -- 105 comes before the others
-pub unsound : (sound known : Bool) (room : ℕ) → sound ≡ false → 105 ≡ refusalOf sound known room
+pub unsound : (sound known : Bool) (hold room : ℕ) → sound ≡ false → 105 ≡ refusalOf sound known hold room
 unfolding refusalOf
-unsound sound known room e = rw e
+unsound sound known hold room e = rw e

@@ -1,4 +1,4 @@
--- Every event has at most 258 actions: two replies, and sixteen in each of sixteen ASes.
+-- Every event has at most 386 actions: two replies, and in each of sixteen ASes eight units and sixteen Notifies.
 -- Assumes nothing.
 use Prim.Native.Nat.{ℕ, _≤_, _<_}
 use mathlib.Core.Path.{_≡_, refl}
@@ -18,14 +18,15 @@ use Rattle.gateway.specs.Inner.Laws.{counts-within}
 use Rattle.gateway.specs.Sound.{isSound}
 use Rattle.gateway.specs.declared.Gateway.{Gateway}
 use Rattle.server.specs.declared.Change.{Change}
+use Rattle.server.specs.declared.Arrival.{Arrival}
 use Rattle.server.specs.declared.Change.the-variants.{AspUp, AspDown, Deactivate, Activate, Recover}
 use Rattle.server.specs.Inner.Change.{fits}
 use Rattle.servers.specs.Changed.{allActions}
 use Rattle.servers.specs.Inner.Changed.{allActions-short}
 use Rattle.rules.specs.Event.{EventKind, message, lost, recovery, linkUp, linkDown, linkMessage, Event}
-use Rattle.rules.specs.Effect.{Effect, send, setLink, changeIn, actionsOf}
+use Rattle.rules.specs.Effect.{Effect, send, setLink, changeIn, takeIn, actionsOf}
 use Rattle.rules.specs.Asp.{upEffect, downEffect, lostEffect, activeEffect, inactiveEffect, trafficEffect}
-use Rattle.rules.specs.Link.{establish, release, dataEffect, linkEffect, classSixEffect, toRecipients, linkUpEffect, linkDownEffect, linkMessageEffect}
+use Rattle.rules.specs.Link.{establish, release, dataEffect, linkEffect, classSixEffect, toRecipients, linkUpEffect, linkDownEffect, holdEffect, linkMessageEffect}
 use Rattle.rules.specs.Rules.{readEffect, messageEffect, effectOf, inPlan, refusal}
 use Rattle.rules.specs.Entry.{actions}
 use Rattle.rules.specs.Inner.Accepted.{accepted}
@@ -35,11 +36,13 @@ unfoldable pub Short : Effect → Type 0
 Short (send os) = length os ≤ 16
 Short (setLink l v os) = length os ≤ 16
 Short (changeIn os k named) = (length os ≤ 2) × (fits k ≡ true)
+Short (takeIn a x) = Unit {0}
 
-short-few : (g : Gateway) (d : Effect) → Short d → length (actionsOf g d) ≤ 258
+short-few : (g : Gateway) (d : Effect) → Short d → length (actionsOf g d) ≤ 386
 unfolding Short
 short-few g (send os) h = omega (arith, h)
 short-few g (setLink l v os) h = omega (arith, h)
+short-few g (takeIn a x) h = omega arith
 short-few g (changeIn os k named) h = rw length-append (omega (arith, h .0, allActions-short g k named (h .1)))
 
 -- ---- the effects, case by case
@@ -77,6 +80,10 @@ turn-all : (l n : ℕ) (who : List Bool) (k s v : ℕ) → Short (setLink l n (t
 unfolding Short
 turn-all l n who k s v = toAll-short who k s v
 
+take-one : (a : ℕ) (x : Arrival) → Short (takeIn a x)
+unfolding Short
+take-one a x = tt
+
 change-none : (k : Change) (named : List Bool) → fits k ≡ true → Short (changeIn [] k named)
 unfolding Short
 change-none k named f = (omega arith, f)
@@ -89,7 +96,7 @@ change-two : (x y : Action) (u : Bool) (k : Change) (named : List Bool) → fits
 unfolding Short
 change-two x y u k named f = (two x y u, f)
 
-ruleset shorts = (by-short, say-none, say-one, say-two, say-all, turn-one, turn-all, change-none, change-one, change-two)
+ruleset shorts = (by-short, say-none, say-one, say-two, say-all, turn-one, turn-all, take-one, change-none, change-one, change-two)
 
 module _ (g : Gateway) (p : ℕ) (b : p < 16) where
   traffic : (r : Reading) (ps : List Par) (act : List Bool → Effect) → ((named : List Bool) → Short (act named)) → Short (trafficEffect g p r ps act)
@@ -128,7 +135,7 @@ module _ (g : Gateway) (p : ℕ) (b : p < 16) where
   message-short s = search (shorts, read) depth 6
 
 effect-short : (g : Gateway) (k : EventKind) → isSound g ≡ true → inPlan g k ≡ true → Short (effectOf g k)
-unfolding lostEffect linkUpEffect linkDownEffect linkMessageEffect toRecipients
+unfolding lostEffect linkUpEffect linkDownEffect linkMessageEffect holdEffect toRecipients
 effect-short g (message p s) c i = message-short g p (omega (arith, counts-within g c .asps, ltb-true p (g .asps) i)) s
 effect-short g (lost p) c i = change-none (AspDown p) _ refl
 effect-short g (recovery a) c i = change-none Recover _ refl
@@ -138,16 +145,16 @@ effect-short g (linkMessage s) c i = search shorts depth 6
 
 -- ---- the law
 
-pub few-actions : (g : Gateway) (e : Event) → length (actions g e) ≤ 258
+pub few-actions : (g : Gateway) (e : Event) → length (actions g e) ≤ 386
 unfolding actions
 few-actions g e = go (eqb (refusal g e) 0) refl
   where
-    go : (u : Bool) → eqb (refusal g e) 0 ≡ u → length (cond u (actionsOf g (effectOf g (e .kind))) []) ≤ 258
+    go : (u : Bool) → eqb (refusal g e) 0 ≡ u → length (cond u (actionsOf g (effectOf g (e .kind))) []) ≤ 386
     go true h =
-        let t = accepted (isSound g) (inPlan g (e .kind)) (e .room) (eqb-true (refusal g e) 0 h) in
+        let t = accepted (isSound g) (inPlan g (e .kind)) (e .hold) (e .room) (eqb-true (refusal g e) 0 h) in
         short-few g (effectOf g (e .kind)) (effect-short g (e .kind) (t .sound-yes) (t .known-yes))
     go false h = omega arith
 
 -- the same of a count of them
-pub few-count : (g : Gateway) (e : Event) {n : ℕ} → n ≡ length (actions g e) → n ≤ 258
+pub few-count : (g : Gateway) (e : Event) {n : ℕ} → n ≡ length (actions g e) → n ≤ 386
 few-count g e h = omega (arith, h, few-actions g e)
