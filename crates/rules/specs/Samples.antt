@@ -7,7 +7,7 @@ use Rattle.config.specs.Plan.{loadOf}
 use Rattle.gateway.specs.declared.Gateway.{Gateway}
 use Rattle.action.specs.Words.{action}
 use Rattle.message.specs.Samples.{active, ReaderSamples}
-use Rattle.rules.specs.Event.{EventKind, message, recovery, Event}
+use Rattle.rules.specs.Event.{EventKind, message, recovery, linkMessage, Event}
 use Rattle.rules.specs.Entry.{actions, next}
 
 -- plan S, byte by byte (Rule 11.1)
@@ -50,6 +50,14 @@ g₄ = next g₃ (event (message 1 (bare 4 1)))
 unfoldable pub g₅ : Gateway
 g₅ = next g₄ (event (message 1 (bare 3 2)))
 
+-- Data of the link side, of the link with identifier 100: one byte
+unfoldable pub unit : List ℕ
+unit = 1 ∷ 0 ∷ 6 ∷ 1 ∷ 0 ∷ 0 ∷ 0 ∷ 24 ∷ 0 ∷ 1 ∷ 0 ∷ 8 ∷ 0 ∷ 0 ∷ 0 ∷ 100 ∷ 3 ∷ 0 ∷ 0 ∷ 5 ∷ 7 ∷ 0 ∷ 0 ∷ 0 ∷ []
+
+-- after it, in the state after the Down
+unfoldable pub g₆ : Gateway
+g₆ = next g₅ (event (linkMessage unit))
+
 -- all starred samples, proved from the rules
 pub record Samples : Type 0 where
   pub reader : ReaderSamples
@@ -61,6 +69,10 @@ pub record Samples : Type 0 where
   pub pends : actions g₄ (event (message 1 (bare 3 2))) ≡ action 1 773 0 0 ∷ action 0 1 0 65540 ∷ []
   -- the recovery time is over: AS 0 is inactive
   pub recovers : actions g₅ (event (recovery 0)) ≡ action 0 1 0 65538 ∷ []
+  -- instead, Data comes in while AS 0 is pending: it is held
+  pub holds : actions g₅ (event (linkMessage unit)) ≡ []
+  -- and goes out as ASP 0 takes AS 0 over: an Ack, the unit, and AS 0 is active
+  pub sends-held : actions g₆ (event (message 0 (bare 4 1))) ≡ action 0 1027 0 0 ∷ action 0 1537 100 0 ∷ action 0 1 0 65539 ∷ []
 
 -- ---- two events of plan S that reach different ASes
 
