@@ -8,7 +8,7 @@ use lib.ListN.{length, replicate}
 use Rattle.laws.specs.Below.{allBelow}
 use Rattle.laws.specs.Columns.{numberAt, tabulate}
 use Rattle.wire.specs.Number.{be}
-use Rattle.gateway.specs.Sound.{zeros, differs, ascends, allUnder}
+use Rattle.gateway.specs.Sound.{zeros, noUnits, differs, ascends, allUnder}
 use Rattle.gateway.specs.declared.Gateway.{Gateway}
 use Rattle.config.specs.declared.Loaded.{Loaded}
 
@@ -141,6 +141,7 @@ fresh asps ases links aspid mask mode iid owner =
       iid = iid;
       owner = owner;
       state = replicate 128 0;
+      held = noUnits;
     }
 
 abbrev pub refused : ℕ → Loaded

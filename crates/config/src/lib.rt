@@ -11,6 +11,7 @@ ghost use Rattle.config.specs.Plan.{offset, count, layoutOk, column, bit
 ghost use Rattle.config.specs.Inner.Layout.{Inside, placesOf, rowsAt, stateAt, AllBytes, codeOf, takenOf, made};
 ghost use Rattle.config.specs.Inner.Tables.{wordOf, RowsIn, AllIn, floorOf};
 use gateway::Gateway;
+use gateway::Units;
 
 const CONTENTS: usize = 24;
 
@@ -294,6 +295,7 @@ fn build(s: &[u8], t: Places, code: u32) -> Loaded
             iid: iid,
             owner: owners,
             state: [0; 128],
+            held: Units::none(),
         },
     }
 }

@@ -1,4 +1,5 @@
 pub mod Change
 pub mod Notify
 pub mod Record
+pub mod Units
 pub mod Inner

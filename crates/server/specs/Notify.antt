@@ -1,4 +1,4 @@
--- The Notifies in an AS that an event names: s is its record before the event, t after it.
+-- The actions in an AS that an event names: s is its record before the event, t after it.
 -- Assumes nothing.
 use Prim.Native.Nat.{ℕ}
 use mathlib.Core.Bool.{Bool, _&&_, cond, not}
@@ -11,6 +11,7 @@ use Rattle.action.specs.Words.{action}
 use Rattle.action.specs.declared.Action.{Action}
 use Rattle.server.specs.Record.{stateIn}
 use Rattle.server.specs.Change.{after, overtakenIn}
+use Rattle.server.specs.Units.{letOut}
 use Rattle.server.specs.declared.AsRecord.{AsRecord}
 use Rattle.server.specs.declared.Change.{Change}
 
@@ -30,6 +31,6 @@ notifiesTo lost s t a q = when (flagAt lost q) (notify a otherActive q) ++ when 
 unfoldable pub notifies : List Bool → AsRecord → AsRecord → ℕ → List Action
 notifies lost s t a = concatBelow (notifiesTo lost s t a) 16
 
--- the actions in AS a, from its record before the event
-unfoldable pub actionsIn : Bool → Change → ℕ → AsRecord → List Action
-actionsIn named k a s = cond named (notifies (overtakenIn k s) s (after k s) a) []
+-- the actions in AS a, from its record before the event and the n units that it holds: its units, then its Notifies (Rule 8.3)
+unfoldable pub actionsIn : Bool → Change → ℕ → AsRecord → ℕ → List ℕ → List Action
+actionsIn named k a s n id = cond named (letOut k n id a ++ notifies (overtakenIn k s) s (after k s) a) []

@@ -1,14 +1,19 @@
 // The record of one AS (Rule 5.3), cut out of the gateway's columns: what an event does to it, and the Notifies that follow.
+use action::Action;
 ghost use mathlib.Core.Path.{_≡_};
+ghost use mathlib.Core.Bool.{true};
 ghost use Prim.Native.Nat.{_+_, _*_, _<_, _≤_};
 ghost use lib.ListN.{length};
 ghost use Rattle.laws.specs.Below.{one};
+ghost use Rattle.laws.specs.Columns.{numberAt};
 ghost use Rattle.action.specs.Inner.Words.{Written};
 ghost use Rattle.server.specs.Record.{row, membersUp, recordFrom, some, stateIn};
 ghost use Rattle.server.specs.Inner.Record.{withRow};
 ghost use Rattle.server.specs.Change.{recordWith, after, overtakenIn};
 ghost use Rattle.server.specs.Inner.Flag.{flagged, flagOf, less, more, activatedBy, overtakenBy};
 ghost use Rattle.server.specs.Inner.Notify.{announced, spoken};
+ghost use Rattle.server.specs.Inner.Change.{fits};
+ghost use Rattle.server.specs.Units.{unitsOut, letOut};
 
 // Its members that are up, those active in it, whether it waits, its traffic mode.
 pub struct AsRecord {
@@ -288,4 +293,50 @@ pub fn speak(
         );
     }
     announce(s, t, a, words, n)
+}
+
+// ---- the units held
+
+// Each of AS a's n units to ASP p, the oldest first (Rule 7.25), from place m of the list on; and the next place.
+fn units_out(p: usize, n: u8, id: &[u32; 128], a: usize, words: &mut [u32], m: usize) -> usize
+    requires { ⌜ (p < 16) × (a < 16) × (m * 4 + 32 ≤ length (now words)) ⌝ }
+    ensures { λ r. ⌜ Written (now (words .entry)) m (unitsOut p n (now (id .entry)) a) (now (words .exit)) r ⌝ }
+{
+    let held = gateway::wide(n);
+    let mut at = m;
+    for k in 0..8usize {
+        at = action::put_if(
+            words,
+            at,
+            k < held,
+            Action {
+                to: p as u32,
+                classtype: action::USER_DATA,
+                subject: id[a * 8 + k],
+                value: 0,
+            },
+        );
+    }
+    at
+}
+
+// The units of AS a go out to the ASP that becomes active.
+pub fn let_out(
+    k: Change,
+    count: &[u8; 16],
+    id: &[u32; 128],
+    a: usize,
+    words: &mut [u32],
+    n: usize,
+) -> usize
+    requires { ⌜ (a < 16) × (n * 4 + 32 ≤ length (now words)) × (fits k ≡ true) ⌝ }
+    ensures { λ r. ⌜ Written (now (words .entry)) n (letOut k (numberAt (now (count .entry)) a) (now (id .entry)) a) (now (words .exit)) r ⌝ }
+{
+    match k {
+        Change::Activate(p) => units_out(p, count[a], id, a, words, n),
+        Change::AspUp(_) => n,
+        Change::AspDown(_) => n,
+        Change::Deactivate(_) => n,
+        Change::Recover => n,
+    }
 }

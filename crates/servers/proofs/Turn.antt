@@ -11,7 +11,7 @@ use lib.ListN.{length, set}
 use Rattle.laws.specs.Below.{one}
 use Rattle.laws.specs.Columns.{flagAt, isSet, numberAt, tabulate}
 use Rattle.laws.specs.Inner.Columns.{tabulate-ext, getD-tabulate, length-tabulate, HalfCol, half-none, half-more, half-keep, half-end}
-use Rattle.action.specs.Inner.Words.{Written, written-none, emit-none, emit-more, emit-end}
+use Rattle.action.specs.Inner.Words.{Written, written-none, written-append, written-length, emit-none, emit-more, emit-end}
 use Rattle.server.specs.declared.AsRecord.{AsRecord}
 use Rattle.server.specs.declared.Change.{Change}
 use Rattle.server.specs.Record.{row, membersUp, recordFrom}
@@ -19,27 +19,33 @@ use Rattle.server.specs.Inner.Record.{withRow, withRowAt, laid-in, laid-out}
 use Rattle.server.specs.Change.{after, overtakenIn}
 use Rattle.server.specs.Inner.Change.{fits}
 use Rattle.server.specs.Notify.{actionsIn}
+use Rattle.server.specs.Units.{letOut}
+use Rattle.server.specs.Inner.Units.{letOut-short}
 use Rattle.server.specs.Inner.Notify.{spoken, spoken-is}
 use Rattle.servers.specs.Changed.{newActive, newWaiting, actionsAt}
 use Rattle.servers.specs.Inner.Run.{Stepped, Ran, Running}
 
-pub stepped-not : (k : Change) (named : Bool) (a : ℕ) (s : AsRecord) (active waiting : List ℕ) (ws : List ℕ) (n : ℕ) → not named ≡ true → Stepped k named a s active waiting ws n active waiting ws n
+pub stepped-not : (k : Change) (named : Bool) (a : ℕ) (s : AsRecord) (held : ℕ) (id : List ℕ) (active waiting : List ℕ) (ws : List ℕ) (n : ℕ) → not named ≡ true → Stepped k named a s held id active waiting ws n active waiting ws n
 unfolding actionsIn
-stepped-not k true a s active waiting ws n h = absurd (false≢true h)
-stepped-not k false a s active waiting ws n h = record { wrote = written-none ws n; acts = refl; waits = refl }
+stepped-not k true a s held id active waiting ws n h = absurd (false≢true h)
+stepped-not k false a s held id active waiting ws n h = record { wrote = written-none ws n; acts = refl; waits = refl }
 
-pub stepped-on : (k : Change) (named : Bool) (a : ℕ) {s u t : AsRecord} {l : List Bool} {active waiting : List ℕ} {ws : List ℕ} {n : ℕ} {active′ : List ℕ} {y : ℕ} {ws′ : List ℕ} {r : ℕ}
-    → not named ≡ false → u ≡ s → t ≡ after k u → active′ ≡ withRow active a (t .acts) → y ≡ one (t .waiting) → l ≡ overtakenIn k u → Written ws n (spoken l u t a) ws′ r → fits k ≡ true
-    → Stepped k named a s active waiting ws n active′ (set waiting a y) ws′ r
+pub stepped-on : (k : Change) (named : Bool) (a : ℕ) {s u t : AsRecord} {l : List Bool} {active waiting : List ℕ} {ws : List ℕ} {n : ℕ} {active′ : List ℕ} {y held m : ℕ} {id ws⁺ ws′ : List ℕ} {r : ℕ}
+    → not named ≡ false → u ≡ s → t ≡ after k u → active′ ≡ withRow active a (t .acts) → y ≡ one (t .waiting) → l ≡ overtakenIn k u → Written ws n (letOut k held id a) ws⁺ m → Written ws⁺ m (spoken l u t a) ws′ r → fits k ≡ true
+    → Stepped k named a s held id active waiting ws n active′ (set waiting a y) ws′ r
 unfolding actionsIn
-stepped-on k false a h e f g v o w j = absurd (false≢true (sym h))
-stepped-on k true a {s} {u} {t} {l} {active} {waiting} {ws} {n} {active′} {y} {ws′} {r} h e f g v o w j =
+stepped-on k false a h e f g v o x w j = absurd (false≢true (sym h))
+stepped-on k true a {s} {u} {t} {l} {active} {waiting} {ws} {n} {active′} {y} h e f g v o x w j =
     let z : t ≡ after k s = f ∙ ap (after k) e in
     record {
-      wrote = rw (spoken-is k s a j) at (rw (o ∙ ap (overtakenIn k) e, e, z) at w);
+      wrote = written-append x (rw (spoken-is k s a j) at (rw (o ∙ ap (overtakenIn k) e, e, z) at w));
       acts = g ∙ ap (λ (y : AsRecord). withRow active a (y .acts)) z;
       waits = ap (set waiting a) (v ∙ ap (λ (y : AsRecord). one (y .waiting)) z);
     }
+
+-- room for the Notifies behind the units
+pub out-room : (k : Change) (held a : ℕ) (id : List ℕ) {ws ws′ : List ℕ} {n m : ℕ} → Written ws n (letOut k held id a) ws′ m → n * 4 + 96 ≤ length ws → m * 4 + 64 ≤ length ws′
+out-room k held a id w h = omega (arith, w .next, written-length w, letOut-short k held id a)
 
 -- the column after the turn: AS a's row is x where it is reached
 row-turn : {f : ℕ → ℕ} (t : Bool) (a : ℕ) (x : List Bool) (c₀ c c′ : List ℕ) → a < 16 → HalfCol f (numberAt c₀) 256 (a * 16) c → c′ ≡ cond t (withRow c a x) c
@@ -68,7 +74,7 @@ wait-turn : {f : ℕ → ℕ} (t : Bool) (v a : ℕ) (c₀ c c′ : List ℕ) �
 wait-turn true v a c₀ c c′ b h e g = rw e (half-more v h b g)
 wait-turn false v a c₀ c c′ b h e g = rw e (half-keep h b g)
 
-module _ (k : Change) (named : List Bool) (up member : List ℕ) (mode : List ℕ) (active₀ waiting₀ : List ℕ) where
+module _ (k : Change) (named : List Bool) (up member : List ℕ) (mode count id : List ℕ) (active₀ waiting₀ : List ℕ) where
   records : ℕ → AsRecord
   records = recordFrom up member active₀ waiting₀ mode
 
@@ -95,13 +101,13 @@ module _ (k : Change) (named : List Bool) (up member : List ℕ) (mode : List �
   unfolding newWaiting
   new-waits a = refl
 
-  pub run-none : (ws : List ℕ) (n : ℕ) → length active₀ ≡ 256 → length waiting₀ ≡ 16 → Running k named (recordFrom up member active₀ waiting₀ mode) active₀ waiting₀ ws n 0 active₀ waiting₀ ws n
+  pub run-none : (ws : List ℕ) (n : ℕ) → length active₀ ≡ 256 → length waiting₀ ≡ 16 → Running k named (recordFrom up member active₀ waiting₀ mode) count id active₀ waiting₀ ws n 0 active₀ waiting₀ ws n
   run-none ws n x y = record { wrote = emit-none _ ws n; acts = half-none _ 256 active₀ x; waits = half-none _ 16 waiting₀ y }
 
   pub run-turn : {ws : List ℕ} {n a : ℕ} {active waiting : List ℕ} {ws′ : List ℕ} {r : ℕ} {active′ waiting′ : List ℕ} {ws″ : List ℕ} {m : ℕ}
-      → a < 16 → Running k named (recordFrom up member active₀ waiting₀ mode) active₀ waiting₀ ws n a active waiting ws′ r
-      → Stepped k (flagAt named a) a (recordFrom up member active waiting mode a) active waiting ws′ r active′ waiting′ ws″ m
-      → Running k named (recordFrom up member active₀ waiting₀ mode) active₀ waiting₀ ws n (a + 1) active′ waiting′ ws″ m
+      → a < 16 → Running k named (recordFrom up member active₀ waiting₀ mode) count id active₀ waiting₀ ws n a active waiting ws′ r
+      → Stepped k (flagAt named a) a (recordFrom up member active waiting mode a) (numberAt count a) id active waiting ws′ r active′ waiting′ ws″ m
+      → Running k named (recordFrom up member active₀ waiting₀ mode) count id active₀ waiting₀ ws n (a + 1) active′ waiting′ ws″ m
   unfolding records actionsAt
   run-turn {ws} {n} {a} {active} {waiting} {ws′} {r} {active′} {waiting′} {ws″} {m} b h s =
       let e = record-kept a active waiting b (h .acts) (h .waits) in
@@ -112,6 +118,6 @@ module _ (k : Change) (named : List Bool) (up member : List ℕ) (mode : List �
       }
 
   pub run-end : {ws : List ℕ} {n a : ℕ} {active waiting : List ℕ} {ws′ : List ℕ} {r : ℕ} → 16 ≤ a → a ≤ 16
-      → Running k named (recordFrom up member active₀ waiting₀ mode) active₀ waiting₀ ws n a active waiting ws′ r
-      → Ran k named (recordFrom up member active₀ waiting₀ mode) active₀ waiting₀ ws n active waiting ws′ r
+      → Running k named (recordFrom up member active₀ waiting₀ mode) count id active₀ waiting₀ ws n a active waiting ws′ r
+      → Ran k named (recordFrom up member active₀ waiting₀ mode) count id active₀ waiting₀ ws n active waiting ws′ r
   run-end b c h = record { wrote = emit-end (h .wrote) b c; acts = half-end (h .acts) (omega arith); waits = half-end (h .waits) (omega arith) }

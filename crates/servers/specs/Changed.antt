@@ -1,14 +1,15 @@
 -- The state after a change in some ASes, and the actions there, from the state before it (Rules 7.1, 8.3).
 -- Assumes nothing.
-use Prim.Native.Nat.{ℕ, _/_, _%_}
-use mathlib.Core.Bool.{Bool, cond}
-use mathlib.Core.List.{List}
-use lib.Dec.{eqb}
+use Prim.Native.Nat.{ℕ, zero, suc, _+_, _/_, _%_}
+use mathlib.Core.Bool.{Bool, cond, not, _&&_}
+use mathlib.Core.List.{List, [], _∷_}
+use lib.Dec.{eqb, ltb}
 use lib.ListN.{set}
 use Rattle.laws.specs.Below.{one, concatBelow}
 use Rattle.laws.specs.Columns.{flagAt, isSet, numberAt, tabulate}
-use Rattle.gateway.specs.Sound.{pair}
+use Rattle.gateway.specs.Sound.{pair, unitIndex}
 use Rattle.gateway.specs.declared.Gateway.{Gateway}
+use Rattle.gateway.specs.declared.Units.{Units}
 use Rattle.action.specs.declared.Action.{Action}
 use Rattle.server.specs.declared.AsRecord.{AsRecord}
 use Rattle.server.specs.declared.Change.{Change}
@@ -41,6 +42,56 @@ newActive k named records c i =
 unfoldable pub newWaiting : Change → List Bool → (ℕ → AsRecord) → List ℕ → ℕ → ℕ
 newWaiting k named records c a = cond (flagAt named a) (one (after k (records a) .waiting)) (numberAt c a)
 
+-- ---- the units held
+
+-- the numbers from place i on, with 0 at the places that p marks
+unfoldable pub clearedFrom : (ℕ → Bool) → ℕ → List ℕ → List ℕ
+clearedFrom p i [] = []
+clearedFrom p i (x ∷ c) = cond (p i) 0 x ∷ clearedFrom p (suc i) c
+
+abbrev pub cleared : (ℕ → Bool) → List ℕ → List ℕ
+cleared p c = clearedFrom p 0 c
+
+-- AS a lets its units go: it has some, the event names it, and it waits no longer (Rules 7.25, 7.26)
+unfoldable pub letsGo : Change → List Bool → (ℕ → AsRecord) → List ℕ → ℕ → Bool
+letsGo k named records count a = ltb 0 (numberAt count a) && (flagAt named a && not (after k (records a) .waiting))
+
+-- their places hold 0 again; `go` says which ASes let them go
+abbrev pub unitsWithout : (ℕ → Bool) → Units → Units
+unitsWithout go u =
+    record {
+      count = cleared go (u .count);
+      tag = cleared (λ i. go (i / 8)) (u .tag);
+      length = cleared (λ i. go (i / 8)) (u .length);
+      marked = cleared (λ i. go (i / 8)) (u .marked);
+      id = cleared (λ i. go (i / 8)) (u .id);
+      correlation = cleared (λ i. go (i / 8)) (u .correlation);
+    }
+
+-- what is kept of a unit that comes in, and where its bytes lie in the message
+pub record Arrival : Type 0 where
+  pub tag : ℕ
+  pub length : ℕ
+  pub marked : ℕ
+  pub id : ℕ
+  pub correlation : ℕ
+  pub start : ℕ
+
+-- behind the n units that AS a has (Rule 7.24)
+abbrev pub unitsWith : Units → ℕ → Arrival → Units
+unitsWith u a x =
+    let i : ℕ = unitIndex a (numberAt (u .count) a) in
+    record {
+      count = set (u .count) a (numberAt (u .count) a + 1);
+      tag = set (u .tag) i (x .tag);
+      length = set (u .length) i (x .length);
+      marked = set (u .marked) i (x .marked);
+      id = set (u .id) i (x .id);
+      correlation = set (u .correlation) i (x .correlation);
+    }
+
+-- ---- the whole state
+
 unfoldable pub withChange : Gateway → Change → List Bool → Gateway
 withChange g k named =
     record {
@@ -57,6 +108,7 @@ withChange g k named =
       iid = g .iid;
       owner = g .owner;
       state = g .state;
+      held = unitsWithout (letsGo k named (recordOf g) (g .held .count)) (g .held);
     }
 
 -- the gateway with the link at an index in a state
@@ -76,11 +128,32 @@ withLink g l v =
       iid = g .iid;
       owner = g .owner;
       state = set (g .state) l v;
+      held = g .held;
     }
 
-unfoldable pub actionsAt : Change → List Bool → (ℕ → AsRecord) → ℕ → List Action
-actionsAt k named records a = actionsIn (flagAt named a) k a (records a)
+-- the gateway with a unit more for AS a
+abbrev pub withUnit : Gateway → ℕ → Arrival → Gateway
+withUnit g a x =
+    record {
+      asps = g .asps;
+      ases = g .ases;
+      links = g .links;
+      spare = g .spare;
+      aspid = g .aspid;
+      up = g .up;
+      member = g .member;
+      active = g .active;
+      mode = g .mode;
+      waiting = g .waiting;
+      iid = g .iid;
+      owner = g .owner;
+      state = g .state;
+      held = unitsWith (g .held) a x;
+    }
+
+unfoldable pub actionsAt : Change → List Bool → (ℕ → AsRecord) → List ℕ → List ℕ → ℕ → List Action
+actionsAt k named records count id a = actionsIn (flagAt named a) k a (records a) (numberAt count a) id
 
 -- AS by AS upwards (Rule 8.3)
 unfoldable pub allActions : Gateway → Change → List Bool → List Action
-allActions g k named = concatBelow (actionsAt k named (recordOf g)) 16
+allActions g k named = concatBelow (actionsAt k named (recordOf g) (g .held .count) (g .held .id)) 16

@@ -1,8 +1,9 @@
-// An event in the ASes that it names: one loop that cuts each record out, changes it, writes the Notifies and puts it back.
+// An event in the ASes that it names: one loop that cuts each record out, changes it, writes the units and Notifies that go out, and puts it back.
 ghost use mathlib.Core.Path.{_≡_};
 ghost use mathlib.Core.Bool.{true};
 ghost use Prim.Native.Nat.{_+_, _*_, _<_, _≤_};
 ghost use lib.ListN.{length};
+ghost use Rattle.laws.specs.Columns.{numberAt};
 ghost use Rattle.server.specs.Record.{recordFrom};
 ghost use Rattle.server.specs.Inner.Change.{fits};
 ghost use Rattle.server.specs.Inner.Flag.{flagOf};
@@ -50,6 +51,8 @@ fn step(
     up: &[u8; 16],
     member: &[u8; 256],
     mode: &[u8; 16],
+    count: &[u8; 16],
+    id: &[u32; 128],
     active: &mut [u8; 256],
     waiting: &mut [u8; 16],
     k: server::Change,
@@ -59,8 +62,8 @@ fn step(
     words: &mut [u32],
     n: usize,
 ) -> usize
-    requires { ⌜ (a < 16) × (n * 4 + 64 ≤ length (now words)) × (length (now active) ≡ 256) × (fits k ≡ true) × (me ≡ flagOf k) ⌝ }
-    ensures { λ r. ⌜ Stepped k named a (recordFrom (now (up .entry)) (now (member .entry)) (now (active .entry)) (now (waiting .entry)) (now (mode .entry)) a) (now (active .entry)) (now (waiting .entry)) (now (words .entry)) n (now (active .exit)) (now (waiting .exit)) (now (words .exit)) r ⌝ }
+    requires { ⌜ (a < 16) × (n * 4 + 96 ≤ length (now words)) × (length (now active) ≡ 256) × (fits k ≡ true) × (me ≡ flagOf k) ⌝ }
+    ensures { λ r. ⌜ Stepped k named a (recordFrom (now (up .entry)) (now (member .entry)) (now (active .entry)) (now (waiting .entry)) (now (mode .entry)) a) (numberAt (now (count .entry)) a) (now (id .entry)) (now (active .entry)) (now (waiting .entry)) (now (words .entry)) n (now (active .exit)) (now (waiting .exit)) (now (words .exit)) r ⌝ }
 {
     if !named {
         return n;
@@ -71,7 +74,8 @@ fn step(
     let acts = t.acts;
     server::put_row(active, a, acts);
     waiting[a] = server::bit(t.waiting);
-    server::speak(lost, s, t, a, words, n)
+    let m = server::let_out(k, count, id, a, words, n);
+    server::speak(lost, s, t, a, words, m)
 }
 
 // The same in every AS that the event names, from place n of the list on; and the next place.
@@ -79,6 +83,8 @@ pub fn run<'a>(
     up: &'a [u8; 16],
     member: &'a [u8; 256],
     mode: &'a [u8; 16],
+    count: &'a [u8; 16],
+    id: &'a [u32; 128],
     active: &mut [u8; 256],
     waiting: &mut [u8; 16],
     k: server::Change,
@@ -86,8 +92,8 @@ pub fn run<'a>(
     words: &mut [u32],
     n: usize,
 ) -> usize
-    requires { ⌜ (n * 4 + 1024 ≤ length (now words)) × (length (now active) ≡ 256) × (length (now waiting) ≡ 16) × (fits k ≡ true) ⌝ }
-    ensures { λ r. ⌜ Ran k named (recordFrom (now (up .entry)) (now (member .entry)) (now (active .entry)) (now (waiting .entry)) (now (mode .entry))) (now (active .entry)) (now (waiting .entry)) (now (words .entry)) n (now (active .exit)) (now (waiting .exit)) (now (words .exit)) r ⌝ }
+    requires { ⌜ (n * 4 + 1536 ≤ length (now words)) × (length (now active) ≡ 256) × (length (now waiting) ≡ 16) × (fits k ≡ true) ⌝ }
+    ensures { λ r. ⌜ Ran k named (recordFrom (now (up .entry)) (now (member .entry)) (now (active .entry)) (now (waiting .entry)) (now (mode .entry))) (now (count .entry)) (now (id .entry)) (now (active .entry)) (now (waiting .entry)) (now (words .entry)) n (now (active .exit)) (now (waiting .exit)) (now (words .exit)) r ⌝ }
 {
     let me = server::flag_of(k);
     let mut m = n;
@@ -96,6 +102,8 @@ pub fn run<'a>(
             up,
             member,
             mode,
+            count,
+            id,
             active,
             waiting,
             k,

@@ -39,10 +39,10 @@ cast-links c = omega (arith, c .before .before .before .before .before .before .
 
 returns : tie.Need-returns
 unfolding stateAt fresh
-returns c = rw (c .before .before .before .words-128 .ensures, c .before .before .before .before .words-16 .ensures, filled 128 _ _ _ (c .before .before .before .before .before .before .fill-bytes2 .ensures), filled 16 _ _ _ (c .before .before .before .before .before .before .before .before .before .before .fill-bytes .ensures), c .before .before .before .before .before .before .before .before .before .before .before .before .members-of .ensures, c .before .before .before .before .before .before .before .before .before .before .before .before .before .before .masks-of .ensures)
+returns c = rw (c .none .ensures, c .before .before .before .before .words-128 .ensures, c .before .before .before .before .before .words-16 .ensures, filled 128 _ _ _ (c .before .before .before .before .before .before .before .fill-bytes2 .ensures), filled 16 _ _ _ (c .before .before .before .before .before .before .before .before .before .before .before .fill-bytes .ensures), c .before .before .before .before .before .before .before .before .before .before .before .before .before .members-of .ensures, c .before .before .before .before .before .before .before .before .before .before .before .before .before .before .before .masks-of .ensures)
 
 pub build-spec : {M : Type 1} → statement M
 build-spec =
     tie.close
     (tie.spec add-masks-of masks-of-requires (search needs) (search needs) fill-bytes-requires add-fill-bytes
-    (search needs) fill-bytes-requires-2 words-16-requires words-128-requires cast-asps cast-ases cast-links returns)
+    (search needs) fill-bytes-requires-2 words-16-requires words-128-requires cast-asps cast-ases cast-links (search needs) returns)

@@ -16,6 +16,7 @@ use Rattle.laws.specs.Inner.Columns.{getD-tabulate}
 use Rattle.laws.specs.Inner.Every.{count-not}
 use Rattle.gateway.specs.Sound.{pair, countsIn, blankFrom, flagIf, upAt, soundAsps, memberAt, activeAt, soundRow, activeIn, modeAt, waitingAt, overrideAt, soundAs, soundAses, allUnder, soundLinks, isSound}
 use Rattle.gateway.specs.Inner.Laws.{whole}
+use Rattle.gateway.specs.Inner.Sound.{no-units-sound}
 use Rattle.gateway.specs.declared.Gateway.{Gateway}
 use Rattle.config.specs.Plan.{count, layoutOk, bit, bitsFrom, modesOk, masksOk, rowsOk, members, fresh, refused, accepted, built, loadOf, aspIds, masks, spares, modes, linkIds, owners}
 use Rattle.config.specs.Inner.Laws.{Layout, layout, Rows, rows, column-blank}
@@ -146,6 +147,7 @@ fresh-sound s h g =
     (fresh-asps n m k (aspIds s) (masks s) (spares s) (modes s) (linkIds s) (owners s) r (column-blank 16 n _))
     (all-of _ 16 (fresh-as n m k (aspIds s) (masks s) (spares s) (modes s) (linkIds s) (owners s) r (column-blank 16 n _) (column-blank 16 m _)))
     (fresh-links n m k (aspIds s) (masks s) (spares s) (modes s) (linkIds s) (owners s) r (l .links) (column-blank 128 k _) (column-blank 128 k _))
+    (no-units-sound (freshOf s .waiting) (freshOf s .iid) (freshOf s .owner) (freshOf s .links))
 
 -- a loaded plan gives a sound state
 pub loaded-sound : (s : List ℕ) → loadOf s .code ≡ 0 → isSound (loadOf s .gateway) ≡ true

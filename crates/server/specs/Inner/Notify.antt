@@ -6,7 +6,7 @@ use mathlib.Core.Bool.{Bool, true, false, _&&_, cond, not}
 use mathlib.Core.List.{List, []}
 use native.Mathlib.Omega.{arith}
 use lib.Dec.{eqb}
-use lib.ListN.{length}
+use lib.ListN.{length, length-append}
 use borrow.Author.Tests.{eq-eqb, ne-eqb, ltb-true}
 use Rattle.laws.specs.Below.{concatBelow}
 use Rattle.laws.specs.Inner.Below.{any-not, concat-ext, concat-empty, when-nil}
@@ -21,6 +21,7 @@ use Rattle.server.specs.Inner.Change.{fits, nobody-none, some-at, some-s
 use Rattle.server.specs.declared.AsRecord.{AsRecord}
 use Rattle.server.specs.declared.Change.{Change}
 use Rattle.server.specs.declared.Change.the-variants.{AspUp, AspDown, Deactivate, Activate, Recover}
+use Rattle.server.specs.Inner.Units.{letOut-short}
 use Rattle.server.specs.Notify.{notify, isNotified, notifiesTo, notifies, actionsIn}
 
 -- ---- what the code writes: one kind of Notify or the other, for both never go out in one AS
@@ -84,7 +85,7 @@ spoken-is (Activate p) s a h = go (some (overtaken (s .acts) (s .mode) p)) refl
     go false e = sym (notifies-new (overtaken (s .acts) (s .mode) p) s (after (Activate p) s) a e)
 spoken-is Recover s a h = rw nobody-none (sym (notifies-new nobody s (after Recover s) a nobody-none))
 
--- ---- at most 16 actions in an AS
+-- ---- at most 24 actions in an AS
 
 spoken-short : (lost : List Bool) (s t : AsRecord) (a : ℕ) → length (spoken lost s t a) ≤ 16
 unfolding spoken announced
@@ -96,10 +97,10 @@ spoken-short lost s t a = go (some lost) (eqb (stateIn t) 0) (eqb (stateIn s) (s
     go false false true = omega arith
     go false false false = toAll-short (t .ups) mgmtNotify a (asState (stateIn t))
 
-pub actionsIn-short : (named : Bool) (k : Change) (a : ℕ) (s : AsRecord) → fits k ≡ true → length (actionsIn named k a s) ≤ 16
+pub actionsIn-short : (named : Bool) (k : Change) (a : ℕ) (s : AsRecord) (n : ℕ) (id : List ℕ) → fits k ≡ true → length (actionsIn named k a s n id) ≤ 24
 unfolding actionsIn
-actionsIn-short true k a s h = rw (← spoken-is k s a h) (spoken-short (overtakenIn k s) s (after k s) a)
-actionsIn-short false k a s h = omega arith
+actionsIn-short true k a s n id h = rw (← spoken-is k s a h) (rw length-append (omega (arith, letOut-short k n id a, spoken-short (overtakenIn k s) s (after k s) a)))
+actionsIn-short false k a s n id h = omega arith
 
 -- ---- the three ways of `announced`
 

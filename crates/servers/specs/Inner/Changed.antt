@@ -32,12 +32,13 @@ flagAt-set c p x e = is-tabulate 0 (set c p x) 16 (λ q. cond (eqb q p) x (numbe
     go q b (yes z) = rw (eq-eqb q p z, z) (getD-set-same c p x 0 (omega arith))
     go q b (no z) = rw (ne-eqb q p z) (getD-set-other c p q x 0 z)
 
--- at most 16 actions in an AS, 256 in all
+-- at most 24 actions in an AS, 384 in all
 
-pub actionsAt-short : (k : Change) (named : List Bool) (records : ℕ → AsRecord) → fits k ≡ true → (a : ℕ) → length (actionsAt k named records a) ≤ 16
+pub actionsAt-short : (k : Change) (named : List Bool) (records : ℕ → AsRecord) (count id : List ℕ) → fits k ≡ true → (a : ℕ) → length (actionsAt k named records count id a) ≤ 24
 unfolding actionsAt
-actionsAt-short k named records h a = actionsIn-short (flagAt named a) k a (records a) h
+actionsAt-short k named records count id h a = actionsIn-short (flagAt named a) k a (records a) (numberAt count a) id h
 
-pub allActions-short : (g : Gateway) (k : Change) (named : List Bool) → fits k ≡ true → length (allActions g k named) ≤ 256
+pub allActions-short : (g : Gateway) (k : Change) (named : List Bool) → fits k ≡ true → length (allActions g k named) ≤ 384
 unfolding allActions
-allActions-short g k named h = concat-short (actionsAt k named (recordOf g)) 16 (actionsAt-short k named (recordOf g) h) 16
+allActions-short g k named h =
+    concat-short (actionsAt k named (recordOf g) (g .held .count) (g .held .id)) 24 (actionsAt-short k named (recordOf g) (g .held .count) (g .held .id) h) 16
