@@ -33,35 +33,10 @@ pub extern "C" fn m2ua_load(file: &[u8]) -> Loaded
     config::load(file)
 }
 
-// 1 where the state is sound (Rule 5.4), else 0. (The columns are lent: a call by value would copy the state once more.)
+// 1 where the state is sound (Rule 5.4), else 0.
 #[no_mangle]
 pub extern "C" fn m2ua_is_sound(g: Gateway) -> u32
     ensures { λ r. ⌜ r ≡ cond (isSound g) 1 0 ⌝ }
 {
-    let asps = g.asps;
-    let ases = g.ases;
-    let links = g.links;
-    let spare = g.spare;
-    let sound = held::sound_of(
-        asps,
-        ases,
-        links,
-        spare,
-        &g.aspid,
-        &g.up,
-        &g.member,
-        &g.active,
-        &g.mode,
-        &g.waiting,
-        &g.iid,
-        &g.owner,
-        &g.state,
-        &g.held.count,
-        &g.held.tag,
-        &g.held.length,
-        &g.held.marked,
-        &g.held.id,
-        &g.held.correlation,
-    );
-    flag(sound)
+    flag(held::is_sound(g))
 }

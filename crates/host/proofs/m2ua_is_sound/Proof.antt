@@ -5,14 +5,14 @@ use borrow.Author.Needs.{needs}
 use Rattle.host.proofs.m2ua_is_sound.Statement.{statement}
 use Rattle.host.proofs.m2ua_is_sound.Tie as tie
 
-sound-of-requires : tie.Need-sound-of-requires
-sound-of-requires c κs = search needs
+is-sound-requires : tie.Need-is-sound-requires
+is-sound-requires c κs = search needs
 
 flag-requires : tie.Need-flag-requires
 flag-requires c κs = search needs
 
 returns : tie.Need-returns
-returns c = c .flag .ensures ∙ ap (λ (b : Bool). cond {A = ℕ} b 1 0) (c .before .sound-of .ensures)
+returns c = c .flag .ensures ∙ ap (λ (b : Bool). cond {A = ℕ} b 1 0) (c .before .is-sound .ensures)
 
 pub m2ua-is-sound-spec : {M : Type 1} → statement M
-m2ua-is-sound-spec = tie.close (tie.spec sound-of-requires flag-requires returns)
+m2ua-is-sound-spec = tie.close (tie.spec is-sound-requires flag-requires returns)
