@@ -38,5 +38,5 @@ pub extern "C" fn m2ua_load(file: &[u8]) -> Loaded
 pub extern "C" fn m2ua_is_sound(g: Gateway) -> u32
     ensures { λ r. ⌜ r ≡ cond (isSound g) 1 0 ⌝ }
 {
-    flag(g.is_sound())
+    flag(held::is_sound(g))
 }

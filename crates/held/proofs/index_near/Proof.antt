@@ -1,0 +1,11 @@
+-- `held::index_near`: the place of an identifier is its index. Assumes nothing.
+use borrow.Author.Needs.{needs}
+use Rattle.held.proofs.Units.{index-near}
+use Rattle.held.proofs.index_near.Statement.{statement}
+use Rattle.held.proofs.index_near.Tie as tie
+
+returns : tie.Need-returns
+returns c = index-near _ _ (c .before .before .before .pre .1) _ _ (search needs) (search needs)
+
+pub index-near-spec : {M : Type 1} → statement M
+index-near-spec = tie.close (tie.spec (search needs) (search needs) returns (λ c κs. search needs) (search needs))
