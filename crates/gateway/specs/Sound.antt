@@ -151,8 +151,11 @@ sized u =
     (eqb (length (u .count)) asPlaces && (eqb (length (u .tag)) unitPlaces && eqb (length (u .length)) unitPlaces))
     && (eqb (length (u .marked)) unitPlaces && (eqb (length (u .id)) unitPlaces && eqb (length (u .correlation)) unitPlaces))
 
+unfoldable pub allUnits : Units → List ℕ → List ℕ → List ℕ → ℕ → Bool
+allUnits u waiting iid owner links = allBelow (unitsOk u waiting iid owner links) asPlaces
+
 unfoldable pub soundUnits : Units → List ℕ → List ℕ → List ℕ → ℕ → Bool
-soundUnits u waiting iid owner links = sized u && allBelow (unitsOk u waiting iid owner links) asPlaces
+soundUnits u waiting iid owner links = sized u && allUnits u waiting iid owner links
 
 -- ---- the whole
 

@@ -14,7 +14,7 @@ use Rattle.laws.specs.Inner.Every.{all-ext, all-two, and-left, and-right, and-b
 use Rattle.laws.specs.Columns.{numberAt, isSet}
 use Rattle.gateway.specs.declared.Gateway.{Gateway}
 use Rattle.gateway.specs.declared.Units.{Units}
-use Rattle.gateway.specs.Sound.{ascends, countsIn, soundAsps, soundAses, soundLinks, soundTables, isLinkOf, unitAt, blankAt, unitsOk, soundUnits, isSound}
+use Rattle.gateway.specs.Sound.{ascends, countsIn, soundAsps, soundAses, soundLinks, soundTables, isLinkOf, unitAt, blankAt, unitsOk, sized, allUnits, soundUnits, isSound}
 use Rattle.gateway.specs.Inner.Sound.{soundTablesOf, unitsOf}
 use Rattle.gateway.specs.Inner.Laws.{limits, links-parts}
 use Rattle.lookup.specs.Links.{indexOf}
@@ -160,24 +160,24 @@ module _ (count tag length marked id correlation : List ℕ) where
         go false e = refl
 
     -- all ASes, test by test
-    units-whole : soundUnits units waiting iid owner links ≡ (countsFit count waiting && (rowsFit count tag length marked id correlation iid owner links && emptiesFit count tag length marked id correlation))
-    unfolding soundUnits countsFit rowsFit emptiesFit
+    units-whole : allUnits units waiting iid owner links ≡ (countsFit count waiting && (rowsFit count tag length marked id correlation iid owner links && emptiesFit count tag length marked id correlation))
+    unfolding allUnits countsFit rowsFit emptiesFit
     units-whole =
         all-ext (unitsOk units waiting iid owner links) (λ a. countAt count waiting a && (row a && empty a)) 16 (λ a b. as-whole a)
         ∙ all-two (countAt count waiting) (λ a. row a && empty a) 16
         ∙ ap (λ (t : Bool). allBelow (countAt count waiting) 16 && t) (all-two row empty 16)
 
-    pub counts-fail : countsFit count waiting ≡ false → false ≡ soundUnits units waiting iid owner links
+    pub counts-fail : countsFit count waiting ≡ false → false ≡ allUnits units waiting iid owner links
     counts-fail h = rw (units-whole, h)
 
-    pub empties-fail : countsFit count waiting ≡ true → emptiesFit count tag length marked id correlation ≡ false → false ≡ soundUnits units waiting iid owner links
+    pub empties-fail : countsFit count waiting ≡ true → emptiesFit count tag length marked id correlation ≡ false → false ≡ allUnits units waiting iid owner links
     empties-fail h e = rw (units-whole, h, e) (none (rowsFit count tag length marked id correlation iid owner links))
       where
         none : (t : Bool) → false ≡ (t && false)
         none true = refl
         none false = refl
 
-    pub rows-said : (r : Bool) → countsFit count waiting ≡ true → emptiesFit count tag length marked id correlation ≡ true → r ≡ rowsFit count tag length marked id correlation iid owner links → r ≡ soundUnits units waiting iid owner links
+    pub rows-said : (r : Bool) → countsFit count waiting ≡ true → emptiesFit count tag length marked id correlation ≡ true → r ≡ rowsFit count tag length marked id correlation iid owner links → r ≡ allUnits units waiting iid owner links
     rows-said r h e q = rw (units-whole, h, e, ← q) (all r)
       where
         all : (t : Bool) → t ≡ (t && true)
@@ -185,8 +185,8 @@ module _ (count tag length marked id correlation : List ℕ) where
         all false = refl
 
     -- where no AS holds a unit, all places are blank
-    pub units-none : noneCounted count ≡ true → blanks 0 128 ≡ soundUnits units waiting iid owner links
-    unfolding noneCounted soundUnits rowFit emptyFit
+    pub units-none : noneCounted count ≡ true → blanks 0 128 ≡ allUnits units waiting iid owner links
+    unfolding noneCounted allUnits rowFit emptyFit
     units-none h =
         sym (blank-places 0 128)
         ∙ sym (all-rows (blankAt units))
@@ -227,7 +227,6 @@ pub tables-fail : (g : Gateway) → tables g ≡ false → false ≡ isSound g
 unfolding isSound
 tables-fail g h = rw (← tables-of g, h)
 
-pub units-said : (g : Gateway) (n : ℕ) (r : Bool) → tables g ≡ true
-    → n ≡ g .links → r ≡ soundUnits (g .held) (g .waiting) (g .iid) (g .owner) n → r ≡ isSound g
-unfolding isSound
-units-said g n r h e q = rw (← tables-of g, h, ← e) q
+pub units-said : (g : Gateway) (n : ℕ) (z r : Bool) → tables g ≡ true → n ≡ g .links → z ≡ sized (g .held) → r ≡ allUnits (g .held) (g .waiting) (g .iid) (g .owner) n → (z && r) ≡ isSound g
+unfolding isSound soundUnits
+units-said g n z r h e w q = rw (← tables-of g, h, w, ← e, q)

@@ -3,9 +3,10 @@ use gateway::Gateway;
 ghost use mathlib.Core.Path.{_≡_};
 ghost use mathlib.Core.Bool.{true, _&&_};
 ghost use Prim.Native.Nat.{ℕ, _+_, _<_, _≤_};
+ghost use lib.ListN.{length};
 ghost use lib.Dec.{eqb, ltb};
 ghost use Rattle.laws.specs.Columns.{numberAt};
-ghost use Rattle.gateway.specs.Sound.{ascends, isSound, soundUnits};
+ghost use Rattle.gateway.specs.Sound.{ascends, isSound, sized, allUnits};
 ghost use Rattle.gateway.specs.Inner.Sound.{unitsOf};
 ghost use Rattle.lookup.specs.Links.{indexOf};
 ghost use Rattle.held.specs.Inner.Sound.{isSoundOf, narrowBlank, wideBlank, blankPlaces, noneCounted, countsFit, dataFit, fieldsFit, idsFit, emptyFit, emptiesFit, rowFit, rowsFit};
@@ -263,7 +264,7 @@ pub fn units_ok<'a>(
     links: usize,
 ) -> bool
     requires { ⌜ (links ≤ 128) × (ascends (now iid) links ≡ true) ⌝ }
-    ensures { λ r. ⌜ r ≡ soundUnits (unitsOf (now (count .entry)) (now (tag .entry)) (now (length .entry)) (now (marked .entry)) (now (id .entry)) (now (correlation .entry))) (now (waiting .entry)) (now (iid .entry)) (now (owner .entry)) links ⌝ }
+    ensures { λ r. ⌜ r ≡ allUnits (unitsOf (now (count .entry)) (now (tag .entry)) (now (length .entry)) (now (marked .entry)) (now (id .entry)) (now (correlation .entry))) (now (waiting .entry)) (now (iid .entry)) (now (owner .entry)) links ⌝ }
 {
     if none_counted(count) {
         return blank(tag, length, marked, id, correlation, 0, 128);
@@ -285,6 +286,41 @@ pub fn units_ok<'a>(
         owner,
         links,
     )
+}
+
+// The columns have their places. (They do by their type, so that nothing is left of this in the machine code.)
+fn bytes_in(c: &[u8]) -> usize
+    ensures { λ r. ⌜ r ≡ length (now (c .entry)) ⌝ }
+{
+    c.len()
+}
+
+fn halves_in(c: &[u16]) -> usize
+    ensures { λ r. ⌜ r ≡ length (now (c .entry)) ⌝ }
+{
+    c.len()
+}
+
+fn words_in(c: &[u32]) -> usize
+    ensures { λ r. ⌜ r ≡ length (now (c .entry)) ⌝ }
+{
+    c.len()
+}
+
+fn sizes_ok<'a>(
+    count: &'a [u8; 16],
+    tag: &'a [u16; 128],
+    length: &'a [u16; 128],
+    marked: &'a [u16; 128],
+    id: &'a [u32; 128],
+    correlation: &'a [u32; 128],
+) -> bool
+    ensures { λ r. ⌜ r ≡ sized (unitsOf (now (count .entry)) (now (tag .entry)) (now (length .entry)) (now (marked .entry)) (now (id .entry)) (now (correlation .entry))) ⌝ }
+{
+    let narrow = (bytes_in(count) == 16) & ((halves_in(tag) == 128) & (halves_in(length) == 128));
+    let wide = (halves_in(marked) == 128)
+        & ((words_in(id) == 128) & (words_in(correlation) == 128));
+    narrow & wide
 }
 
 // The whole of lent columns, for callers that hold the state and would copy it by a call.
@@ -328,7 +364,8 @@ pub fn sound_of<'a>(
     ) {
         return false;
     }
-    units_ok(
+    let whole = sizes_ok(count, tag, length, marked, id, correlation);
+    let units = units_ok(
         count,
         tag,
         length,
@@ -339,7 +376,8 @@ pub fn sound_of<'a>(
         iid,
         owner,
         gateway::wide(links),
-    )
+    );
+    whole & units
 }
 
 pub fn is_sound(g: Gateway) -> bool
