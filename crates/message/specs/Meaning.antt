@@ -65,15 +65,23 @@ unfoldable pub bodyIn : ℕ → List Par → List ℕ
 bodyIn t [] = []
 bodyIn t (p ∷ ps) = cond (eqb (key (p .tag)) (key t)) (p .body) (bodyIn t ps)
 
+-- its tag; 0 where there is none
+unfoldable pub tagIn : ℕ → List Par → ℕ
+tagIn t [] = 0
+tagIn t (p ∷ ps) = cond (eqb (key (p .tag)) (key t)) (p .tag) (tagIn t ps)
+
 -- where that value lies, if the first of the parameters stands at a position
 unfoldable pub placeIn : ℕ → ℕ → List Par → DataAt
 placeIn t at [] = record { start = 0; length = 0 }
 placeIn t at (p ∷ ps) =
     cond (eqb (key (p .tag)) (key t)) (record { start = at + 4; length = length (p .body) }) (placeIn t (at + padded (4 + length (p .body))) ps)
 
--- the protocol data (Rule 1.7): its bytes, and where they lie in the message
+-- the protocol data (Rule 1.7): its bytes, its tag, 0x300 or 0x301, and where the bytes lie in the message
 unfoldable pub dataOf : List ℕ → List ℕ
 dataOf s = bodyIn 0x300 (walk s 8 .pars)
+
+unfoldable pub dataTag : List ℕ → ℕ
+dataTag s = tagIn 0x300 (walk s 8 .pars)
 
 unfoldable pub dataAt : List ℕ → DataAt
 dataAt s = placeIn 0x300 8 (walk s 8 .pars)
