@@ -1,22 +1,21 @@
 -- The laws of the round trip, stated in specs/RoundTrip.antt.
 -- Assumes nothing.
 use mathlib.Core.Path.{_≡_, refl, sym, ap, _∙_, subst}
-use mathlib.Core.Bool.{Bool, true, false, cond, not, _||_, false≢true}
+use mathlib.Core.Bool.{true, false, cond, not, _||_}
 use mathlib.Core.List.{List, [], _∷_, _++_}
 use Prim.Native.Nat.{ℕ, suc, _+_, _-_, _<_, _≤_}
 use native.Mathlib.Omega.{arith}
 use lib.ListN.{length, getD, take}
 use lib.Dec.{eqb}
-use borrow.Author.Tests.{eq-eqb, ne-eqb, le-ltb, ltb-false, eqb-true}
+use borrow.Author.Tests.{eq-eqb, ne-eqb, le-ltb, ltb-false}
 use Rattle.laws.specs.Columns.{tabulate}
 use Rattle.laws.specs.Inner.Columns.{tabulate-ext}
-use Rattle.wire.specs.Number.{be}
 use Rattle.wire.specs.Walk.{Par, Walk, walk}
 use Rattle.wire.proofs.Number.{be-two, be-four}
-use Rattle.parameter.specs.Table.{table, hasClass, rowIn}
 use Rattle.laws.specs.Choice.{_if_}
-use Rattle.message.specs.Verdict.{most, check1, check2, check3, check4, check5, check6, parsCode, lastChecks, verdict}
+use Rattle.message.specs.Verdict.{most, verdict}
 use Rattle.message.specs.Meaning.{meaning, outcome, readingOf}
+pub use Rattle.message.proofs.Accepted.{Accepted, accepted}
 use Rattle.put.specs.Bytes.{overlay, bytes32, headBytes, parsBytes}
 use Rattle.put.proofs.Sets.{take-over}
 use Rattle.encode.specs.Encode.{sizeOf, encode, parsIn, whole, tagsOf, lensOf}
@@ -70,48 +69,6 @@ reading-gives-list c t ts ns vs out r out′ w z =
     (reads-back c t (parsIn ts ns vs) (all-none c t ts ns vs out r out′ w z .0))
 
 -- ---- writing what was read
-
--- what is known of a message that reads
-pub record Accepted (s : List ℕ) : Type 0 where
-  pub long : 8 ≤ length s
-  pub small : length s ≤ most
-  pub version : getD s 0 0 ≡ 1
-  pub listed : hasClass table (getD s 2 0) ≡ true
-  pub known : eqb (rowIn table (getD s 2 0) (getD s 3 0)) 17 ≡ false
-  pub field : be 4 s 4 ≡ length s
-  pub walked : walk s 8 .code ≡ 0
-  pub pars-ok : parsCode (getD s 2 0) (getD s 3 0) (walk s 8 .pars) ≡ 0
-
-not-false : (b : Bool) → not b ≡ false → b ≡ true
-not-false true e = refl
-not-false false e = absurd (false≢true (sym e))
-
-or-false : (u v : Bool) → (u || v) ≡ false → (u ≡ false) × (v ≡ false)
-or-false true v h = absurd (false≢true (sym h))
-or-false false v h = (refl, h)
-
-pub accepted : (s : List ℕ) → verdict s ≡ 0 → Accepted s
-unfolding verdict lastChecks table
-accepted s e =
-    let c = getD s 2 0 in
-    let a₁ = or-none (check1 s) _ e in
-    let a₂ = or-none (check2 s) _ (a₁ .1) in
-    let a₃ = or-none (check3 c) _ (a₂ .1) in
-    let a₄ = or-none (check4 (rowIn table c (getD s 3 0))) _ (a₃ .1) in
-    let a₅ = or-none (check5 s) _ (a₄ .1) in
-    let a₆ = or-none (check6 s) _ (a₅ .1) in
-    let o = or-false _ _ (if-none 6 _ (a₁ .0)) in
-    let f = or-false _ _ (if-none 6 _ (a₅ .0)) in
-    record {
-      long = ltb-false _ _ (o .0);
-      small = ltb-false _ _ (o .1);
-      version = eqb-true _ _ (not-false _ (if-none 0 _ (a₂ .0)));
-      listed = not-false _ (if-none 2 _ (a₃ .0));
-      known = if-none 3 _ (a₄ .0);
-      field = eqb-true _ _ (not-false _ (f .0));
-      walked = a₆ .0;
-      pars-ok = a₆ .1;
-    }
 
 -- its parameters take all of it but the header
 pub size-accepted : (s : List ℕ) → Accepted s → sizeOf (walk s 8 .pars) ≡ length s

@@ -1,7 +1,7 @@
 -- From what the writer's parts do to what `write` promises.
 -- Assumes nothing.
 use mathlib.Core.Path.{_≡_, refl, sym, ap, _∙_}
-use mathlib.Core.Bool.{Bool, true, false, cond, not}
+use mathlib.Core.Bool.{cond, not}
 use mathlib.Core.List.{List, _++_}
 use Prim.Native.Nat.{ℕ, zero, suc, _+_}
 use native.Mathlib.Omega.{arith}
@@ -13,6 +13,7 @@ use Rattle.wire.specs.Walk.{Par}
 use Rattle.parameter.specs.Table.{table, hasClass, rowIn}
 use Rattle.laws.specs.Choice.{_orElse_, _if_}
 use Rattle.message.specs.Verdict.{verdict}
+pub use Rattle.message.proofs.Accepted.{or-none, if-none}
 use Rattle.put.specs.Bytes.{overlay, headBytes, parsBytes}
 use Rattle.encode.specs.Encode.{sizeOf, encode, parsIn, whole}
 use Rattle.encode.specs.Write.{writeCode, Writes}
@@ -20,15 +21,6 @@ use Rattle.encode.specs.Inner.Write.{sizeIf, listVerdict, roomCode, Size
 use Rattle.encode.specs.declared.Written.{Written}
 use Rattle.encode.proofs.Lists.{size-some}
 use Rattle.encode.proofs.Verdicts.{length-encode, size-list, list-verdict}
-
--- of two numbers that are checked in turn, both are 0 where the first that applies is
-pub or-none : (a b : ℕ) → (a orElse b) ≡ 0 → (a ≡ 0) × (b ≡ 0)
-or-none zero b e = (refl, e)
-or-none (suc a) b e = absurd (omega arith)
-
-pub if-none : (n : ℕ) (b : Bool) → ((suc n) if b) ≡ 0 → b ≡ false
-if-none n true e = absurd (omega arith)
-if-none n false e = refl
 
 or-assoc : (a b c : ℕ) → ((a orElse b) orElse c) ≡ a orElse (b orElse c)
 or-assoc zero b c = refl

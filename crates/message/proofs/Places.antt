@@ -18,14 +18,23 @@ use Rattle.parameter.specs.Table.{key}
 use Rattle.parameter.specs.Inner.Slot.{slot}
 use Rattle.parameter.proofs.Slots.{same-slot}
 use Rattle.message.specs.declared.DataAt.{DataAt}
-use Rattle.message.specs.Meaning.{bodyIn, placeIn, dataOf, dataAt, LiesAt, DataLies}
-use Rattle.message.specs.Inner.Seen.{placeAt}
+use Rattle.message.specs.declared.DataUnit.{DataUnit}
+use Rattle.message.specs.Meaning.{bodyIn, tagIn, placeIn, dataOf, dataAt, LiesAt, DataLies}
+use Rattle.message.specs.Inner.Seen.{noUnit, unitAt}
+
+-- a tag and a place as one
+abbrev unit : ℕ → DataAt → DataUnit
+unit t d = record { tag = t; start = d .start; length = d .length }
 
 -- the first parameter of a tag is the first of its slot
-pub place-same : (t : ℕ) → slot t < 31 → (at : ℕ) (ps : List Par) → placeAt (slot t) at ps ≡ placeIn t at ps
-unfolding placeAt placeIn
-place-same t h at [] = refl
-place-same t h at (p ∷ ps) = rw (place-same t h (at + padded (4 + length (p .body))) ps, same-slot (p .tag) t h)
+pub unit-same : (t : ℕ) → slot t < 31 → (at : ℕ) (ps : List Par) → unitAt (slot t) at ps ≡ unit (tagIn t ps) (placeIn t at ps)
+unfolding unitAt tagIn placeIn
+unit-same t h at [] = refl
+unit-same t h at (p ∷ ps) = rw (unit-same t h (at + padded (4 + length (p .body))) ps, same-slot (p .tag) t h) (go (eqb (key (p .tag)) (key t)) _ _ _ _)
+  where
+    go : (b : Bool) (u v : ℕ) (d e : DataAt) → cond b (unit u d) (unit v e) ≡ unit (cond b u v) (cond b d e)
+    go true u v d e = refl
+    go false u v d e = refl
 
 -- a parameter stands at a position
 module _ (s : List ℕ) (at t l n : ℕ) (e : stepAt s at ≡ Param t l n) where
@@ -35,18 +44,18 @@ module _ (s : List ℕ) (at t l n : ℕ) (e : stepAt s at ≡ Param t l n) where
   next-is : at + padded (4 + (at + l - (at + 4))) ≡ n
   next-is = let k = step-next s at t l n e in let m : 4 + (at + l - (at + 4)) ≡ l = omega arith in ap (λ (x : ℕ). at + padded x) m ∙ sym (k .place)
 
-  pub place-next : (k : ℕ) → placeAt k at (walk s at .pars) ≡ cond (eqb (slot t) k) (record { start = at + 4; length = at + l - (at + 4) }) (placeAt k n (walk s n .pars))
-  unfolding placeAt
-  place-next k = rw (pars-next s at t l n e, body-length, next-is)
+  pub unit-next : (k : ℕ) → unitAt k at (walk s at .pars) ≡ cond (eqb (slot t) k) (record { tag = t; start = at + 4; length = at + l - (at + 4) }) (unitAt k n (walk s n .pars))
+  unfolding unitAt
+  unit-next k = rw (pars-next s at t l n e, body-length, next-is)
 
   found-lies : LiesAt s (record { start = at + 4; length = at + l - (at + 4) }) (take (at + l - (at + 4)) (drop (at + 4) s))
   found-lies = let k = step-next s at t l n e in record { bytes = refl; within = omega arith }
 
 -- the parameters end there
-pub place-stop : (s : List ℕ) (at k : ℕ) (w : Step) → stepAt s at ≡ w → (tagOf (declared enum) w ≡ 1) ⊎ (tagOf (declared enum) w ≡ 2)
-    → placeAt k at (walk s at .pars) ≡ record { start = 0; length = 0 }
-unfolding placeAt
-place-stop s at k w e h = ap (placeAt k at) (pars-stop s at w e h)
+pub unit-stop : (s : List ℕ) (at k : ℕ) (w : Step) → stepAt s at ≡ w → (tagOf (declared enum) w ≡ 1) ⊎ (tagOf (declared enum) w ≡ 2)
+    → unitAt k at (walk s at .pars) ≡ noUnit
+unfolding unitAt
+unit-stop s at k w e h = ap (unitAt k at) (pars-stop s at w e h)
 
 either : {s v v′ : List ℕ} {d d′ : DataAt} (b : Bool) → LiesAt s d v → LiesAt s d′ v′ → LiesAt s (cond b d d′) (cond b v v′)
 either true h k = h

@@ -89,7 +89,7 @@ or-false : (b : Bool) → (b || false) ≡ b
 or-false true = refl
 or-false false = refl
 
-or-true : (b : Bool) → (b || true) ≡ true
+pub or-true : (b : Bool) → (b || true) ≡ true
 or-true true = refl
 or-true false = refl
 
@@ -158,6 +158,10 @@ sequence-same c t retrieval result given = go (eqb c 6) (eqb t 10) (eqb t 11) (e
 -- a tag that some message has: its slot is its own
 own : (t : ℕ) → near t ≡ true → slot t < 31
 own t h = near-slot 0 t h
+
+-- where it is not there, its number is 0
+pub number-none : (t : ℕ) → near t ≡ true → (ps : List Par) → has t ps ≡ false → number t ps ≡ 0
+number-none t h ps e = number-word t (own t h) ps ∙ word-none (slot t) ps (sym (has-there t (own t h) ps) ∙ e)
 
 module _ {met : List Bool} {words : List ℕ} {ps : List Par} (s : Seen met words ps) where
   all-there : (es : List Entry) → all-near es ≡ true → allMet es met ≡ allThere es ps

@@ -76,7 +76,7 @@ placeIn t at [] = record { start = 0; length = 0 }
 placeIn t at (p ∷ ps) =
     cond (eqb (key (p .tag)) (key t)) (record { start = at + 4; length = length (p .body) }) (placeIn t (at + padded (4 + length (p .body))) ps)
 
--- the protocol data (Rule 1.7): its bytes, and where they lie in the message
+-- the protocol data (Rule 1.7): its bytes, its tag, 0x300 or 0x301, and where the bytes lie in the message
 unfoldable pub dataOf : List ℕ → List ℕ
 dataOf s = bodyIn 0x300 (walk s 8 .pars)
 

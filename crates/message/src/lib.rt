@@ -21,8 +21,8 @@ ghost use Rattle.wire.specs.Walk.{walk};
 ghost use Rattle.parameter.specs.Table.{table, rowIn};
 ghost use Rattle.parameter.specs.Inner.Slot.{slot, infoOf};
 ghost use Rattle.message.specs.Verdict.{exactly, head, lastChecks};
-ghost use Rattle.message.specs.Meaning.{flag, refusal, meaning, outcome, readingOf, dataAt, dataOf};
-ghost use Rattle.message.specs.Inner.Seen.{sequenceAt, endAt, meaningAt, outcomeAt, placeAt, rowCode, rowOutcome, kindOutcome, checksOutcome};
+ghost use Rattle.message.specs.Meaning.{flag, refusal, meaning, outcome, readingOf, dataTag, dataAt, dataOf};
+ghost use Rattle.message.specs.Inner.Seen.{sequenceAt, endAt, meaningAt, outcomeAt, unitAt, rowCode, rowOutcome, kindOutcome, checksOutcome};
 
 // The slots of the tags that are asked for.
 const ID: usize = 1;
@@ -384,15 +384,24 @@ pub struct DataAt {
     pub length: usize,
 }
 
-// Where the value of the first parameter of a slot lies, from a position on.
-fn find(s: &[u8], from: usize, k: usize) -> DataAt
-    ensures { λ r. ⌜ r ≡ placeAt k from (walk (now (s .entry)) from .pars) ⌝ }
+// The protocol data of a message with its tag; all 0 where there is none.
+pub struct DataUnit {
+    // 0x300 or 0x301
+    pub tag: u16,
+    pub start: usize,
+    pub length: usize,
+}
+
+// The tag of the first parameter of a slot, and where its value lies, from a position on.
+fn find(s: &[u8], from: usize, k: usize) -> DataUnit
+    ensures { λ r. ⌜ r ≡ unitAt k from (walk (now (s .entry)) from .pars) ⌝ }
 {
     let mut at = from;
     loop {
         let w = wire::reading_at(s, at);
         let Step::Param { tag, len, next } = w else {
-            return DataAt {
+            return DataUnit {
+                tag: 0,
                 start: 0,
                 length: 0,
             };
@@ -400,7 +409,8 @@ fn find(s: &[u8], from: usize, k: usize) -> DataAt
         if parameter::slot_of(tag) == k {
             let start = at + 4;
             let stop = at + len as usize;
-            return DataAt {
+            return DataUnit {
+                tag,
                 start,
                 length: stop - start,
             };
@@ -409,11 +419,22 @@ fn find(s: &[u8], from: usize, k: usize) -> DataAt
     }
 }
 
-// Where the protocol data of a message, the SS7 signalling unit, lies: the value of the first 0x300 or 0x301 (Rule 1.7).
+// The protocol data of a message, the SS7 signalling unit: the value of the first 0x300 or 0x301 (Rule 1.7), and which of the two it is.
+pub fn data_unit(s: &[u8]) -> DataUnit
+    ensures { λ r. ⌜ (r .tag ≡ dataTag (now (s .entry))) × (r .start ≡ dataAt (now (s .entry)) .start) × (r .length ≡ dataAt (now (s .entry)) .length) ⌝ }
+{
+    find(s, HEADER, DATA)
+}
+
+// Where the protocol data of a message lies.
 pub fn data_at(s: &[u8]) -> DataAt
     ensures { λ r. ⌜ r ≡ dataAt (now (s .entry)) ⌝ }
 {
-    find(s, HEADER, DATA)
+    let u = data_unit(s);
+    DataAt {
+        start: u.start,
+        length: u.length,
+    }
 }
 
 // The protocol data as a part of the message; nothing where there is none.

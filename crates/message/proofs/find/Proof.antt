@@ -3,8 +3,8 @@ use native.Mathlib.Omega.{arith}
 use Prim.Native.Nat.{ℕ, _-_}
 use mathlib.Core.Path.{_≡_, refl, sym, ap, _∙_}
 use lib.ListN.{length}
-use Rattle.message.specs.Inner.Seen.{placeAt}
-use Rattle.message.proofs.Places.{place-next, place-stop}
+use Rattle.message.specs.Inner.Seen.{unitAt}
+use Rattle.message.proofs.Places.{unit-next, unit-stop}
 use Rattle.wire.proofs.Steps.{step-next, Next}
 use Rattle.wire.specs.declared.Step.the-variants.{Param}
 use Rattle.wire.specs.Walk.{stepAt, walk}
@@ -13,7 +13,7 @@ use Rattle.message.proofs.find.Statement.{statement}
 use Rattle.message.proofs.find.Tie as tie
 
 abbrev Inv-loop : tie.InvT-loop
-Inv-loop s from k at₀ at = placeAt k at (walk s at .pars) ≡ placeAt k from (walk s from .pars)
+Inv-loop s from k at₀ at = unitAt k at (walk s at .pars) ≡ unitAt k from (walk s from .pars)
 
 abbrev μ-loop : tie.MeasureT-loop
 μ-loop s from k at₀ at = length s - at
@@ -33,7 +33,7 @@ loop-holds : tie.Need-loop-holds Inv-loop μ-loop
 loop-holds c = refl
 
 returns : tie.Need-returns Inv-loop μ-loop
-returns c = sym (place-stop _ _ _ _ (sym (c .before .reading-at .ensures)) (c .match .keys2)) ∙ c .before .before .loop .inv
+returns c = sym (unit-stop _ _ _ _ (sym (c .before .reading-at .ensures)) (c .match .keys2)) ∙ c .before .before .loop .inv
 
 add-start : tie.Need-add-start Inv-loop μ-loop
 add-start c = let k = next-at (c .before) in omega arith
@@ -49,14 +49,14 @@ sub-t13 c = let k = next-at (c .before) in omega arith
 
 returns-2 : tie.Need-returns-2 Inv-loop μ-loop
 returns-2 c = let g = c .before in
-    at-eq _ _ _ _ (sym (g .slot-of .ensures .0) ∙ c .if1 .taken) refl ∙ sym (place-next _ _ _ _ _ (reads-at g) _) ∙ g .before .before .before .before .before .loop .inv
+    at-eq _ _ _ _ (sym (g .slot-of .ensures .0) ∙ c .if1 .taken) refl ∙ sym (unit-next _ _ _ _ _ (reads-at g) _) ∙ g .before .before .before .before .before .loop .inv
 
 loop-less : tie.Need-loop-less Inv-loop μ-loop
 loop-less c = let k = next-at (c .before) in omega arith
 
 loop-again : tie.Need-loop-again Inv-loop μ-loop
 loop-again c = let g = c .before in
-    at-ne _ _ _ _ (λ e. c .if1 .left (g .slot-of .ensures .0 ∙ e)) refl ∙ sym (place-next _ _ _ _ _ (reads-at g) _) ∙ g .before .before .before .before .before .loop .inv
+    at-ne _ _ _ _ (λ e. c .if1 .left (g .slot-of .ensures .0 ∙ e)) refl ∙ sym (unit-next _ _ _ _ _ (reads-at g) _) ∙ g .before .before .before .before .before .loop .inv
 
 pub find-spec : {M : Type 1} → statement M
 find-spec =

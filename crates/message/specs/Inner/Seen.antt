@@ -15,7 +15,7 @@ use Rattle.parameter.specs.Inner.Slot.{slot, allAsked}
 use Rattle.message.specs.Verdict.{head, exactly, getBsn, getMessages, most, lastChecks}
 use Rattle.message.specs.Meaning.{flag, refusal, outcome}
 use Rattle.message.specs.declared.Reading.{Reading}
-use Rattle.message.specs.declared.DataAt.{DataAt}
+use Rattle.message.specs.declared.DataUnit.{DataUnit}
 
 -- a tag of the slot is there
 unfoldable pub there : ℕ → List Par → Bool
@@ -68,10 +68,15 @@ meaningAt c t met words =
 unfoldable pub outcomeAt : ℕ → ℕ → ℕ → List Bool → List ℕ → Reading
 outcomeAt n c t met words = cond (eqb n 0) (meaningAt c t met words) (refusal n)
 
--- where the value of the first parameter of a slot lies, if the first of the parameters stands at a position
-unfoldable pub placeAt : ℕ → ℕ → List Par → DataAt
-placeAt k at [] = record { start = 0; length = 0 }
-placeAt k at (p ∷ ps) = cond (eqb (slot (p .tag)) k) (record { start = at + 4; length = length (p .body) }) (placeAt k (at + padded (4 + length (p .body))) ps)
+-- no parameter of the slot
+abbrev pub noUnit : DataUnit
+noUnit = record { tag = 0; start = 0; length = 0 }
+
+-- the tag of the first parameter of a slot, and where its value lies, if the first of the parameters stands at a position
+unfoldable pub unitAt : ℕ → ℕ → List Par → DataUnit
+unitAt k at [] = noUnit
+unitAt k at (p ∷ ps) =
+    cond (eqb (slot (p .tag)) k) (record { tag = p .tag; start = at + 4; length = length (p .body) }) (unitAt k (at + padded (4 + length (p .body))) ps)
 
 -- The checks in the order in which the code asks: 3 to 5, of whether the class is listed, the row, the length field and the number of bytes
 unfoldable pub rowCode : Bool → ℕ → ℕ → ℕ → ℕ

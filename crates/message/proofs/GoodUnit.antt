@@ -1,0 +1,138 @@
+-- A Data message that reads has protocol data that is good to hold. And a correlation id stands only where one is marked.
+-- Assumes nothing.
+use mathlib.Core.Path.{_≡_, refl, sym, ap, _∙_}
+use mathlib.Core.Bool.{Bool, true, false, cond, _||_, false≢true}
+use mathlib.Core.List.{List, [], _∷_, _++_}
+use Prim.Native.Nat.{ℕ, _+_, _≤_}
+use native.Mathlib.Omega.{arith}
+use lib.ListN.{length, getD, length-take, length-drop}
+use lib.Dec.{ltb, eqb}
+use borrow.Author.Tests.{ltb-false, eqb-true, eq-eqb, not-false}
+use Rattle.laws.specs.Inner.Below.{both-true}
+use Rattle.wire.specs.Walk.{Par, padded, walk}
+use Rattle.parameter.specs.Table.{Usage, table, among, rowIn, entriesIn, key, usage}
+use Rattle.parameter.specs.Value.{bytesOf, limitsOf, plainCode, bodyCode}
+use Rattle.parameter.specs.Check.{allowedCode, parCode}
+use Rattle.parameter.proofs.Slots.{near}
+use Rattle.message.specs.Verdict.{has, number, isNone, inTurn, allThere, parsCode, verdict}
+use Rattle.message.specs.Meaning.{flag, refusal, meaning, outcome, readingOf, bodyIn, tagIn, placeIn, dataOf, dataTag, dataAt}
+use Rattle.message.specs.Inner.GoodUnit.{GoodUnit}
+use Rattle.message.specs.declared.Reading.{Reading}
+use Rattle.message.specs.declared.DataAt.{DataAt}
+use Rattle.message.proofs.Seen.{or-true, number-none}
+use Rattle.message.proofs.Places.{data-lies}
+use Rattle.message.proofs.Accepted.{or-none, if-none, accepted}
+
+-- ---- the first parameter of a tag
+
+-- its value stands behind its tag and length field
+place-behind : (t at : ℕ) (ps : List Par) → has t ps ≡ true → 4 ≤ placeIn t at ps .start
+unfolding has placeIn
+place-behind t at [] h = absurd (false≢true h)
+place-behind t at (p ∷ ps) h = let n = at + padded (4 + length (p .body)) in go (eqb (key (p .tag)) (key t)) h (placeIn t n ps) (place-behind t n ps)
+  where
+    go : (b : Bool) → (b || has t ps) ≡ true → (d : DataAt) → (has t ps ≡ true → 4 ≤ d .start)
+        → 4 ≤ cond b (record { start = at + 4; length = length (p .body) }) d .start
+    go true e d ih = omega arith
+    go false e d ih = ih e
+
+-- a tag u that counts as t, and a value v of it that was checked
+record Passed (i t u : ℕ) (v : List ℕ) : Type 0 where
+  same-key : key u ≡ key t
+  no-fault : bodyCode (usage i u) u v ≡ 0
+
+first-passed : (i t : ℕ) (before ps : List Par) → inTurn i before ps ≡ 0 → has t ps ≡ true → Passed i t (tagIn t ps) (bodyIn t ps)
+unfolding inTurn has tagIn bodyIn parCode
+first-passed i t before [] e h = absurd (false≢true h)
+first-passed i t before (p ∷ ps) e h =
+    let u₁ = usage i 0x1 in
+    let u = usage i (p .tag) in
+    let o = or-none (parCode u₁ u (isNone before) (has (p .tag) before) (p .tag) (p .body)) _ e in
+    let b = or-none (allowedCode u₁ u (isNone before) (has (p .tag) before) (p .tag)) _ (o .0) in
+    go (eqb (key (p .tag)) (key t)) refl h (b .1) (first-passed i t (before ++ (p ∷ [])) ps (o .1))
+  where
+    go : (b : Bool) → eqb (key (p .tag)) (key t) ≡ b → (b || has t ps) ≡ true → bodyCode (usage i (p .tag)) (p .tag) (p .body) ≡ 0
+        → (has t ps ≡ true → Passed i t (tagIn t ps) (bodyIn t ps)) → Passed i t (cond b (p .tag) (tagIn t ps)) (cond b (p .body) (bodyIn t ps))
+    go true q a z ih = record { same-key = eqb-true (key (p .tag)) (key t) q; no-fault = z }
+    go false q a z ih = ih a
+
+-- ---- protocol data
+
+two-tags : (u : ℕ) → key u ≡ 0x300 → (eqb u 0x300 || eqb u 0x301) ≡ true
+two-tags u e = go (eqb u 0x301) e
+  where
+    go : (b : Bool) → cond b 0x300 u ≡ 0x300 → (eqb u 0x300 || b) ≡ true
+    go true q = or-true (eqb u 0x300)
+    go false q = rw (eq-eqb u 0x300 q)
+
+-- the limits of both tags
+data-limits : (u : ℕ) (w : Usage) (v : List ℕ) → (eqb u 0x300 || eqb u 0x301) ≡ true → bodyCode w u v ≡ 0 → plainCode (bytesOf 5 277) u v ≡ 0
+unfolding bodyCode limitsOf
+data-limits u w v h e = go (eqb u 0x300) refl h
+  where
+    go : (b : Bool) → eqb u 0x300 ≡ b → (b || eqb u 0x301) ≡ true → plainCode (bytesOf 5 277) u v ≡ 0
+    go true q a = let z = eqb-true u 0x300 q in rw z (rw z at e)
+    go false q a = let z = eqb-true u 0x301 a in rw z (rw z at e)
+
+length-within : (u : ℕ) (v : List ℕ) → plainCode (bytesOf 5 277) u v ≡ 0 → (1 ≤ length v) × (length v ≤ 273)
+unfolding plainCode
+length-within u v e = go (ltb (length v) 1) (ltb 273 (length v)) refl refl e
+  where
+    go : (a b : Bool) → ltb (length v) 1 ≡ a → ltb 273 (length v) ≡ b → _≡_ {A = ℕ} (cond a 18 (cond b 18 0)) 0 → (1 ≤ length v) × (length v ≤ 273)
+    go true b p q z = let y : ⊥ = omega (arith, z) in absurd y
+    go false true p q z = let y : ⊥ = omega (arith, z) in absurd y
+    go false false p q z = (ltb-false (length v) 1 p, ltb-false 273 (length v) q)
+
+-- ---- a Data message
+
+-- its parameters were checked, and protocol data is among them
+data-checked : (s : List ℕ) → verdict s ≡ 0 → readingOf s .class ≡ 6 → readingOf s .msgtype ≡ 1
+    → (inTurn 7 [] (walk s 8 .pars) ≡ 0) × (has 0x300 (walk s 8 .pars) ≡ true)
+unfolding readingOf outcome meaning parsCode table among rowIn entriesIn allThere
+data-checked s e ec et =
+    let ps = walk s 8 .pars in
+    let c : getD s 2 0 ≡ 6 = rw e at ec in
+    let t : getD s 3 0 ≡ 1 = rw e at et in
+    let o = or-none (inTurn 7 [] ps) _ (rw (c, t) at (accepted s e .pars-ok)) in
+    let a = not-false _ (if-none 21 _ (or-none _ _ (o .1) .0)) in
+    (o .0, both-true (has 0x300 ps) true (both-true (has 0x1 ps) _ a .1) .0)
+
+pub good-unit : (s : List ℕ) → verdict s ≡ 0 → readingOf s .class ≡ 6 → readingOf s .msgtype ≡ 1 → GoodUnit s
+unfolding dataOf dataTag dataAt
+good-unit s e ec et =
+    let ps = walk s 8 .pars in
+    let k = data-checked s e ec et in
+    let f = first-passed 7 0x300 [] ps (k .0) (k .1) in
+    let u = tagIn 0x300 ps in
+    let tagged = two-tags u (f .same-key) in
+    let w = length-within u (bodyIn 0x300 ps) (data-limits u (usage 7 u) (bodyIn 0x300 ps) tagged (f .no-fault)) in
+    let d = data-lies s in
+    let l : length (dataOf s) ≡ dataAt s .length = ap length (d .bytes) ∙ simp (length-take, length-drop) (omega arith) in
+    record {
+      tagged = tagged;
+      least = omega arith;
+      most = omega arith;
+      within = d .within;
+      bytes = sym (d .bytes);
+      same-length = l;
+      behind = place-behind 0x300 8 ps (k .1);
+    }
+
+-- ---- the correlation id
+
+marked : (b : Bool) (n : ℕ) → (b ≡ false → n ≡ 0) → (flag b ≤ 1) × (flag b ≡ 0 → n ≡ 0)
+marked true n z = (omega arith, λ e. absurd (omega arith))
+marked false n z = (omega arith, λ e. z refl)
+
+-- whatever was read: whether there is one is 0 or 1, and without one it is 0
+pub correlation-marked : (s : List ℕ) → (readingOf s .correlated ≤ 1) × (readingOf s .correlated ≡ 0 → readingOf s .correlation ≡ 0)
+unfolding readingOf outcome meaning near
+correlation-marked s = go (eqb (verdict s) 0)
+  where
+    ps : List Par
+    ps = walk s 8 .pars
+
+    go : (b : Bool)
+        → (let r : Reading = cond b (meaning (getD s 2 0) (getD s 3 0) ps) (refusal (verdict s)) in (r .correlated ≤ 1) × (r .correlated ≡ 0 → r .correlation ≡ 0))
+    go true = marked (has 0x13 ps) (number 0x13 ps) (number-none 0x13 refl ps)
+    go false = (omega arith, λ e. refl)
