@@ -187,11 +187,8 @@ impl Gateway {
                 break;
             };
             // Two units of one link say the same and differ in their bytes.
-            last = match to {
-                LINK_SIDE => (0, &[]),
-                _ if ordered.is_unit(order) => (0, &[]),
-                _ => (length, says),
-            };
+            let alone = to == LINK_SIDE || ordered.is_unit(order);
+            last = if alone { (0, &[]) } else { (length, says) };
             *len = length as u32;
             at += length;
             count += 1;

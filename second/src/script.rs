@@ -69,6 +69,31 @@ impl Hold {
             bytes => &mut self.other[..bytes],
         }
     }
+
+    /// `hold`, `paint` and `held`.
+    fn command(&mut self, command: &[u8], words: &mut Words, out: &mut Vec<u8>) -> Parsed<()> {
+        match command {
+            b"hold" => {
+                let bytes = number(word(words)?)? as usize;
+                end(words)?;
+                self.bytes = bytes.min(MAX_HOLD);
+                out.push(b'0');
+            }
+            b"paint" => {
+                let byte = number_below(256, word(words)?)?;
+                end(words)?;
+                self.kept.fill(byte as u8);
+                out.push(b'0');
+            }
+            _ => {
+                let a = number_below(MAX_ASES, word(words)?)?;
+                let k = number_below(MAX_HELD, word(words)?)?;
+                end(words)?;
+                put_hex(&self.kept[place_in_hold(a, k)], out);
+            }
+        }
+        Ok(())
+    }
 }
 
 impl Default for Session {
@@ -148,24 +173,7 @@ impl Session {
                 let written = write(class, kind, &self.tags, &self.lens, &self.bytes, buffer);
                 put_written(written, &self.buffer, out);
             }
-            b"hold" => {
-                let bytes = number(word(&mut words)?)? as usize;
-                end(&mut words)?;
-                self.hold.bytes = bytes.min(MAX_HOLD);
-                out.push(b'0');
-            }
-            b"paint" => {
-                let byte = number_below(256, word(&mut words)?)?;
-                end(&mut words)?;
-                self.hold.kept.fill(byte as u8);
-                out.push(b'0');
-            }
-            b"held" => {
-                let a = number_below(MAX_ASES, word(&mut words)?)?;
-                let k = number_below(MAX_HELD, word(&mut words)?)?;
-                end(&mut words)?;
-                put_hex(&self.hold.kept[place_in_hold(a, k)], out);
-            }
+            b"hold" | b"paint" | b"held" => self.hold.command(command, &mut words, out)?,
             b"bytes" => {
                 let place = number(word(&mut words)?)?;
                 let room = number(word(&mut words)?)? as usize;

@@ -125,9 +125,12 @@ fn main() {
 
     let one = after(idle, &[all(0)]);
     batch("all 258 actions of an Up", (&one, &EMPTY), &up(0), 258);
+    from_the_hold(&all(0));
+}
 
+fn from_the_hold(active: &Call) {
     let (state, hold) = full_hold();
     let held = (&state, &hold[..]);
-    single("Data of 88 bytes from the hold", held, &all(0), 368, 88);
-    batch("all 385 actions of an Active", held, &all(0), 385);
+    single("Data of 88 bytes from the hold", held, active, 368, 88);
+    batch("all 385 actions of an Active", held, active, 385);
 }

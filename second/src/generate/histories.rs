@@ -185,20 +185,28 @@ impl History {
         plan
     }
 
+    /// Now and then a line that is no event; whether there is one.
+    fn aside(&self, rng: &mut Rng, gateway: &Gateway, line: &mut Vec<u8>) -> bool {
+        match rng.below(500) {
+            0 => malformed::line(rng, line),
+            1..=4 => line.extend_from_slice(rng.pick(&MALFORMED).as_bytes()),
+            5 => reading::line(rng, line),
+            6..=30 => line.extend_from_slice(b"state"),
+            31..=35 if self.bytes => {
+                line.extend_from_slice(rng.pick(&orders::MALFORMED).as_bytes())
+            }
+            36..=43 => line.extend(scenes::look(rng, gateway)),
+            44 | 45 => line.extend(scenes::paint(rng)),
+            46..=48 => line.extend(scenes::other_hold(rng)),
+            _ => return false,
+        }
+        true
+    }
+
     fn any(&mut self, rng: &mut Rng, line: &mut Vec<u8>) {
         let gateway = *self.session.gateway();
-        match rng.below(500) {
-            0 => return malformed::line(rng, line),
-            1..=4 => return line.extend_from_slice(rng.pick(&MALFORMED).as_bytes()),
-            5 => return reading::line(rng, line),
-            6..=30 => return line.extend_from_slice(b"state"),
-            31..=35 if self.bytes => {
-                return line.extend_from_slice(rng.pick(&orders::MALFORMED).as_bytes())
-            }
-            36..=43 => return line.extend(scenes::look(rng, &gateway)),
-            44 | 45 => return line.extend(scenes::paint(rng)),
-            46..=48 => return line.extend(scenes::other_hold(rng)),
-            _ => {}
+        if self.aside(rng, &gateway, line) {
+            return;
         }
         if self.session.hold().len() == HOLD_BYTES {
             self.scene(rng, &gateway);
