@@ -1,7 +1,7 @@
 //! The event lines of a generated script as calls of both libraries, the proved one and the second program.
 use crate::proved::{self, Batch, Outcome, Written};
 use second::generate::{generate, Kind};
-use second::{Event, Gateway, Next};
+use second::{Event, Gateway, Next, HOLD_BYTES};
 
 #[derive(Clone, Copy, Debug, PartialEq, Eq)]
 pub enum What {
@@ -13,12 +13,13 @@ pub enum What {
     LinkMessage,
 }
 
-/// An event with its message and its list's length: what it keeps when it trades places.
+/// An event with its message and the lengths of its hold and of its list: what it keeps when it trades places.
 #[derive(Clone, Debug, PartialEq, Eq)]
 pub struct Call {
     pub what: What,
     pub index: u32,
     pub message: Vec<u8>,
+    pub hold: usize,
     pub room: usize,
 }
 
@@ -26,6 +27,49 @@ pub struct Call {
 pub enum Line {
     Plan(Vec<u8>),
     Call(Call),
+    /// The hold that goes with the state has this byte everywhere.
+    Paint(u8),
+}
+
+/// The hold that goes through a history, and another one, lent to an event that keeps another length.
+#[derive(Clone, PartialEq, Eq)]
+pub struct Hold {
+    pub kept: Vec<u8>,
+    other: Vec<u8>,
+}
+
+/// What stands in the other one.
+const OTHER: u8 = 0x5c;
+
+impl Default for Hold {
+    fn default() -> Self {
+        Hold {
+            kept: vec![0; HOLD_BYTES],
+            other: vec![OTHER; 65_536],
+        }
+    }
+}
+
+impl Hold {
+    /// What a call is lent.
+    pub fn lend(&mut self, bytes: usize) -> &mut [u8] {
+        match bytes {
+            HOLD_BYTES => &mut self.kept,
+            _ => &mut self.other[..bytes],
+        }
+    }
+
+    pub fn lent(&self, bytes: usize) -> &[u8] {
+        match bytes {
+            HOLD_BYTES => &self.kept,
+            _ => &self.other[..bytes],
+        }
+    }
+
+    /// Whether no event has written into the other one.
+    pub fn other_untouched(&self) -> bool {
+        self.other.iter().all(|byte| *byte == OTHER)
+    }
 }
 
 fn hex(word: &str) -> Option<Vec<u8>> {
@@ -40,11 +84,12 @@ fn hex(word: &str) -> Option<Vec<u8>> {
         .collect()
 }
 
-/// A plan or an event; nothing for other lines and for malformed ones, which the scripts compare.
-pub fn line(text: &str) -> Option<Line> {
+/// A plan, a painted hold or an event, which is lent a hold of so many bytes; nothing for other lines and for malformed ones, which the scripts compare.
+pub fn line(text: &str, hold: usize) -> Option<Line> {
     let words: Vec<&str> = text.split(' ').collect();
     let (what, index, room, message) = match words[..] {
         ["plan", file] => return hex(file).map(Line::Plan),
+        ["paint", byte] => return byte.parse().ok().map(Line::Paint),
         ["msg", p, room, message] => (What::Message, p, room, message),
         ["lost", p, room] => (What::Lost, p, room, "-"),
         ["recovery", a, room] => (What::Recovery, a, room, "-"),
@@ -57,6 +102,7 @@ pub fn line(text: &str) -> Option<Line> {
         what,
         index: index.parse().ok()?,
         message: hex(message)?,
+        hold,
         // as the scripts have it: at most 2,048 words are lent
         room: (room.parse::<u32>().ok()? as usize).min(2048),
     }))
@@ -70,8 +116,14 @@ pub fn generated(seed: u64, lines: u64) -> Vec<Line> {
 /// The same of a script of another kind.
 pub fn generated_of(kind: Kind, seed: u64, lines: u64) -> Vec<Line> {
     let mut found = vec![];
+    let mut hold = HOLD_BYTES;
     let mut keep = |text: &[u8]| {
-        found.extend(line(&String::from_utf8_lossy(text)));
+        let text = String::from_utf8_lossy(text);
+        match text.strip_prefix("hold ").map(str::parse::<u32>) {
+            // as the scripts have it: at most 65,536 bytes are lent
+            Some(Ok(bytes)) => hold = (bytes as usize).min(65_536),
+            _ => found.extend(line(&text, hold)),
+        }
         Ok(())
     };
     generate(seed, lines, kind, &mut keep).expect("a script");
@@ -106,8 +158,8 @@ impl Call {
             .collect()
     }
 
-    /// The call of the proved library.
-    pub fn proved(&self, state: Gateway, list: &mut [u32]) -> Outcome {
+    /// The call of the proved library. (Its entries are to be lent the hold once they take it.)
+    pub fn proved(&self, state: Gateway, _hold: &mut [u8], list: &mut [u32]) -> Outcome {
         let index = self.index as usize;
         match self.what {
             What::Message => proved::message(state, index, &self.message, list),
@@ -120,19 +172,26 @@ impl Call {
     }
 
     /// One of its actions as bytes, by the proved library.
-    pub fn order(&self, state: &Gateway, place: usize, out: &mut [u8]) -> Written {
+    pub fn order(&self, state: &Gateway, _hold: &[u8], place: usize, out: &mut [u8]) -> Written {
         let (kind, index) = (self.what as u32, self.index as usize);
         proved::order(state, kind, index, &self.message, place, out)
     }
 
     /// As many of them as go in.
-    pub fn orders(&self, state: &Gateway, place: usize, lens: &mut [u32], out: &mut [u8]) -> Batch {
+    pub fn orders(
+        &self,
+        state: &Gateway,
+        _hold: &[u8],
+        place: usize,
+        lens: &mut [u32],
+        out: &mut [u8],
+    ) -> Batch {
         let (kind, index) = (self.what as u32, self.index as usize);
         proved::orders(state, kind, index, &self.message, place, lens, out)
     }
 
     /// The call of the second program.
-    pub fn second(&self, state: Gateway, list: &mut [u32]) -> Next {
-        state.event(self.event(), list)
+    pub fn second(&self, state: Gateway, hold: &mut [u8], list: &mut [u32]) -> Next {
+        state.event(self.event(), hold, list)
     }
 }

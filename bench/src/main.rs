@@ -1,5 +1,6 @@
 //! Times the proved library against the hand-written second program, both in this one run, on the same inputs. Each pair is first checked to
 //! agree on what is timed.
+use bench::holds::full_hold;
 use bench::messages::{active_of, bytes, data, message, sample_m};
 use bench::plans::{full_plan, plan, plan_s};
 use bench::{proved, timing};
@@ -117,12 +118,16 @@ fn main() {
             || proved::load(black_box(file)),
             || load(black_box(file)),
         );
-        let state = loaded.gateway;
-        assert!(proved::is_sound(&state) && is_sound(&state));
-        timing::compare(
-            &format!("soundness, {name}"),
-            || proved::is_sound(black_box(&state)),
-            || is_sound(&by_value(black_box(state))),
-        );
+        soundness(name, loaded.gateway);
     }
+    soundness("128 units held", full_hold().0);
+}
+
+fn soundness(name: &str, state: Gateway) {
+    assert!(proved::is_sound(&state) && is_sound(&state));
+    timing::compare(
+        &format!("soundness, {name}"),
+        || proved::is_sound(black_box(&state)),
+        || is_sound(&by_value(black_box(state))),
+    );
 }

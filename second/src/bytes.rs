@@ -1,7 +1,7 @@
 //! Orders as bytes.
 
 use crate::events::*;
-use crate::gateway::Gateway;
+use crate::gateway::{place_in_hold, Gateway};
 use crate::wire::*;
 use crate::write::{put_header, put_param, Written, SHORT_BUFFER};
 
@@ -92,22 +92,42 @@ impl Batch {
     }
 }
 
+/// An event, the hold that it is lent, and its orders.
+struct Ordered<'a> {
+    event: Event<'a>,
+    hold: &'a [u8],
+    orders: &'a [[u32; 4]],
+}
+
+impl Ordered<'_> {
+    /// Whether an order sends a unit from the hold: an ASP's own message gives
+    /// no other Data to an ASP.
+    #[inline(always)]
+    fn is_unit(&self, order: &[u32; 4]) -> bool {
+        order[1] == DATA && order[0] != LINK_SIDE && matches!(self.event, Event::Message { .. })
+    }
+}
+
 impl Gateway {
-    /// Writes the order at a place, from 0, of an event on this state.
-    pub fn order_bytes(&self, event: Event, place: u32, out: &mut [u8]) -> Written {
+    /// Writes the order at a place, from 0, of an event on this state, lent
+    /// this hold.
+    pub fn order_bytes(&self, event: Event, hold: &[u8], place: u32, out: &mut [u8]) -> Written {
         let mut list = [0; LIST_WORDS];
-        let next = self.event(event, &mut list);
-        if next.code != 0 {
-            return Written::refused(next.code);
+        let (code, count) = self.orders(event, hold.len(), &mut list);
+        if code != 0 {
+            return Written::refused(code);
         }
-        if place >= next.count {
-            return Written::refused(NO_SUCH_ORDER);
+        let ordered = Ordered {
+            event,
+            hold,
+            orders: &list.as_chunks::<4>().0[..count as usize],
+        };
+        let place = place as usize;
+        match ordered.orders.get(place) {
+            Some(order) if order[0] != LINK_SIDE => {}
+            _ => return Written::refused(NO_SUCH_ORDER),
         }
-        let order = list.as_chunks::<4>().0[place as usize];
-        if order[0] == LINK_SIDE {
-            return Written::refused(NO_SUCH_ORDER);
-        }
-        match self.put_message(event, order, out) {
+        match self.put_message(&ordered, place, out) {
             Some(length) => Written {
                 code: 0,
                 length: length as u32,
@@ -122,38 +142,53 @@ impl Gateway {
     pub fn orders_bytes(
         &self,
         event: Event,
+        hold: &[u8],
         place: u32,
         lens: &mut [u32],
         out: &mut [u8],
     ) -> Batch {
         let mut list = [0; LIST_WORDS];
-        let next = self.event(event, &mut list);
-        if next.code != 0 {
-            return Batch::refused(next.code);
+        let (code, count) = self.orders(event, hold.len(), &mut list);
+        if code != 0 {
+            return Batch::refused(code);
         }
-        if place >= next.count {
+        if place >= count {
             return Batch::refused(NO_SUCH_ORDER);
         }
-        let orders = &list.as_chunks::<4>().0[place as usize..next.count as usize];
+        let ordered = Ordered {
+            event,
+            hold,
+            orders: &list.as_chunks::<4>().0[..count as usize],
+        };
+        self.put_messages(&ordered, place as usize, lens, out)
+    }
+
+    fn put_messages(
+        &self,
+        ordered: &Ordered,
+        first: usize,
+        lens: &mut [u32],
+        out: &mut [u8],
+    ) -> Batch {
         let (mut count, mut at) = (0, 0);
         // The last message and what it says: to several it is written once.
         let mut last = (0, &[][..]);
-        for (order, len) in orders.iter().zip(lens) {
+        for (place, len) in (first..ordered.orders.len()).zip(lens) {
+            let order = &ordered.orders[place];
             let (to, says) = (order[0], &order[1..]);
             let length = if to == LINK_SIDE {
                 Some(0)
             } else if says == last.1 {
                 copy_message(out, at, last.0)
             } else {
-                self.put_message(event, *order, &mut out[at..])
+                self.put_message(ordered, place, &mut out[at..])
             };
             let Some(length) = length else {
                 break;
             };
-            last = match to {
-                LINK_SIDE => (0, &[]),
-                _ => (length, says),
-            };
+            // Two units of one link say the same and differ in their bytes.
+            let alone = to == LINK_SIDE || ordered.is_unit(order);
+            last = if alone { (0, &[]) } else { (length, says) };
             *len = length as u32;
             at += length;
             count += 1;
@@ -170,8 +205,12 @@ impl Gateway {
 
     /// Writes the message of an order at the start of the buffer; gives its
     /// length, or nothing if the buffer is short.
-    fn put_message(&self, event: Event, order: [u32; 4], out: &mut [u8]) -> Option<usize> {
-        let [_, code, subject, value] = order;
+    fn put_message(&self, ordered: &Ordered, place: usize, out: &mut [u8]) -> Option<usize> {
+        let [_, code, subject, value] = ordered.orders[place];
+        if ordered.is_unit(&ordered.orders[place]) {
+            return self.put_unit(ordered, place, out);
+        }
+        let event = ordered.event;
         let mut count = Count(HEADER_LEN);
         self.put_order(event, code, subject, value, &mut count);
         let total = count.0;
@@ -182,6 +221,29 @@ impl Gateway {
             at: HEADER_LEN,
         };
         self.put_order(event, code, subject, value, &mut fill);
+        Some(total)
+    }
+
+    /// The same of an order that sends a unit from the hold.
+    fn put_unit(&self, ordered: &Ordered, place: usize, out: &mut [u8]) -> Option<usize> {
+        let id = ordered.orders[place][2];
+        let a = self.owner_of(self.find_link(id)?);
+        // The units of an AS come one behind the other, and its Notifies after
+        // them: what stands right before this one are the older ones.
+        let before = ordered.orders[..place].iter().rev();
+        let k = before.take_while(|order| order[1] == DATA).count();
+        let unit = self.unit(a, k);
+        let bytes = ordered.hold[place_in_hold(a, k)].get(..unit.len as usize - 4)?;
+        let correlation = unit.correlation.map(u32::to_be_bytes);
+        let total = HEADER_LEN + 8 + padded(unit.len as usize) + 8 * correlation.is_some() as usize;
+        let out = out.get_mut(..total)?;
+        put_header(out, MAUP, DATA & 0xff, total);
+        let mut at = HEADER_LEN;
+        at += put_param(&mut out[at..], INTERFACE_ID, &id.to_be_bytes());
+        at += put_param(&mut out[at..], unit.tag, bytes);
+        if let Some(correlation) = correlation {
+            put_param(&mut out[at..], CORRELATION_ID, &correlation);
+        }
         Some(total)
     }
 

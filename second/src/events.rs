@@ -1,8 +1,9 @@
 //! The six kinds of event: each takes the state by value and hands the next
-//! one back, with orders in a lent list.
+//! one back, with orders in a lent list. Each is lent the hold too, which only
+//! a message of the link side writes.
 
 use crate::gateway::*;
-use crate::read::{read, Reading};
+use crate::read::{data_of, read, Reading};
 use crate::wire::*;
 
 /// The lent list is too short.
@@ -11,9 +12,11 @@ pub const SHORT_LIST: u32 = 101;
 pub const BAD_EVENT: u32 = 102;
 /// The state is not sound.
 pub const NOT_SOUND: u32 = 105;
+/// The lent hold has another length than the hold.
+pub const WRONG_HOLD: u32 = 106;
 
-/// Room for the most orders an event can give, four words each.
-pub const LIST_WORDS: usize = 1032;
+/// Words of the list that an event wants: four for each of 386 orders.
+pub const LIST_WORDS: usize = 1544;
 
 /// Addressee of orders to the link side.
 pub const LINK_SIDE: u32 = 255;
@@ -124,73 +127,122 @@ impl Orders<'_> {
 
 impl Gateway {
     /// Message of ASP `asp`.
-    pub fn message(mut self, asp: u32, message: &[u8], list: &mut [u32]) -> Next {
-        let code = self.refusal(asp, self.asps);
-        let (code, count) = perform(code, list, |orders| {
-            self.on_message(asp as usize, message, orders)
-        });
-        self.next(code, count)
+    pub fn message(self, asp: u32, message: &[u8], hold: &mut [u8], list: &mut [u32]) -> Next {
+        self.run_message(asp, message, hold.len(), list)
     }
 
     /// The association of ASP `asp` is lost.
-    pub fn lost(mut self, asp: u32, list: &mut [u32]) -> Next {
-        let code = self.refusal(asp, self.asps);
-        let (code, count) = perform(code, list, |orders| self.take_down(asp as usize, orders));
-        self.next(code, count)
+    pub fn lost(self, asp: u32, hold: &mut [u8], list: &mut [u32]) -> Next {
+        self.run_lost(asp, hold.len(), list)
     }
 
     /// The recovery time of AS `server` is over.
-    pub fn recovery(mut self, server: u32, list: &mut [u32]) -> Next {
-        let code = self.refusal(server, self.ases);
-        let (code, count) = perform(code, list, |orders| {
-            self.end_waiting(server as usize, orders)
-        });
-        self.next(code, count)
+    pub fn recovery(self, server: u32, hold: &mut [u8], list: &mut [u32]) -> Next {
+        self.run_recovery(server, hold.len(), list)
     }
 
     /// The link at place `link` has come up.
-    pub fn link_up(mut self, link: u32, list: &mut [u32]) -> Next {
-        let code = self.refusal(link, self.links);
-        let (code, count) = perform(code, list, |orders| self.on_link_up(link as usize, orders));
-        self.next(code, count)
+    pub fn link_up(self, link: u32, hold: &mut [u8], list: &mut [u32]) -> Next {
+        self.run_link_up(link, hold.len(), list)
     }
 
     /// The link at place `link` has gone down.
-    pub fn link_down(mut self, link: u32, list: &mut [u32]) -> Next {
-        let code = self.refusal(link, self.links);
-        let (code, count) = perform(code, list, |orders| {
-            self.on_link_down(link as usize, orders)
-        });
-        self.next(code, count)
+    pub fn link_down(self, link: u32, hold: &mut [u8], list: &mut [u32]) -> Next {
+        self.run_link_down(link, hold.len(), list)
     }
 
     /// Message of the link side.
-    pub fn link_message(self, message: &[u8], list: &mut [u32]) -> Next {
-        let (code, place, reading) = if self.is_sound() {
-            match self.link_message_place(message) {
-                Some((place, reading)) => (0, place, reading),
-                None => (BAD_EVENT, 0, Reading::default()),
+    pub fn link_message(mut self, message: &[u8], hold: &mut [u8], list: &mut [u32]) -> Next {
+        let (code, link, reading) = self.link_message_asked(message);
+        let (code, count) = perform(code, hold.len(), list, |orders| {
+            let a = self.owner_of(link);
+            // An AS that waits is pending: nobody is active there.
+            if reading.kind == DATA & 0xff && self.waiting[a] != 0 {
+                self.take_in(a, &reading, message, hold);
+            } else {
+                self.pass_on(link, &reading, orders);
             }
-        } else {
-            (NOT_SOUND, 0, Reading::default())
-        };
-        let (code, count) = perform(code, list, |orders| {
-            let kind = self::code(MAUP, reading.kind);
-            orders.push_each(self.recipients(place), kind, reading.id, 0);
         });
         self.next(code, count)
     }
 
     /// The event, whichever it is.
-    pub fn event(self, event: Event, list: &mut [u32]) -> Next {
+    pub fn event(self, event: Event, hold: &mut [u8], list: &mut [u32]) -> Next {
         match event {
-            Event::Message { asp, message } => self.message(asp, message, list),
-            Event::Lost { asp } => self.lost(asp, list),
-            Event::Recovery { server } => self.recovery(server, list),
-            Event::LinkUp { link } => self.link_up(link, list),
-            Event::LinkDown { link } => self.link_down(link, list),
-            Event::LinkMessage { message } => self.link_message(message, list),
+            Event::Message { asp, message } => self.message(asp, message, hold, list),
+            Event::Lost { asp } => self.lost(asp, hold, list),
+            Event::Recovery { server } => self.recovery(server, hold, list),
+            Event::LinkUp { link } => self.link_up(link, hold, list),
+            Event::LinkDown { link } => self.link_down(link, hold, list),
+            Event::LinkMessage { message } => self.link_message(message, hold, list),
         }
+    }
+
+    /// The orders of an event that is lent a hold of so many bytes, in the
+    /// list: 0 and their number, or the refusal and 0. Nothing is put in the
+    /// hold: data that stays there gives no order.
+    pub(crate) fn orders(self, event: Event, hold: usize, list: &mut [u32]) -> (u32, u32) {
+        let next = match event {
+            Event::Message { asp, message } => self.run_message(asp, message, hold, list),
+            Event::Lost { asp } => self.run_lost(asp, hold, list),
+            Event::Recovery { server } => self.run_recovery(server, hold, list),
+            Event::LinkUp { link } => self.run_link_up(link, hold, list),
+            Event::LinkDown { link } => self.run_link_down(link, hold, list),
+            Event::LinkMessage { message } => {
+                let (code, link, reading) = self.link_message_asked(message);
+                return perform(code, hold, list, |orders| {
+                    self.pass_on(link, &reading, orders)
+                });
+            }
+        };
+        (next.code, next.count)
+    }
+
+    // Five events ask of the hold only how long it is.
+
+    #[inline(always)]
+    fn run_message(mut self, asp: u32, message: &[u8], hold: usize, list: &mut [u32]) -> Next {
+        let code = self.refusal(asp, self.asps);
+        let (code, count) = perform(code, hold, list, |orders| {
+            self.on_message(asp as usize, message, orders)
+        });
+        self.next(code, count)
+    }
+
+    #[inline(always)]
+    fn run_lost(mut self, asp: u32, hold: usize, list: &mut [u32]) -> Next {
+        let code = self.refusal(asp, self.asps);
+        let (code, count) = perform(code, hold, list, |orders| {
+            self.take_down(asp as usize, orders)
+        });
+        self.next(code, count)
+    }
+
+    #[inline(always)]
+    fn run_recovery(mut self, server: u32, hold: usize, list: &mut [u32]) -> Next {
+        let code = self.refusal(server, self.ases);
+        let (code, count) = perform(code, hold, list, |orders| {
+            self.end_waiting(server as usize, orders)
+        });
+        self.next(code, count)
+    }
+
+    #[inline(always)]
+    fn run_link_up(mut self, link: u32, hold: usize, list: &mut [u32]) -> Next {
+        let code = self.refusal(link, self.links);
+        let (code, count) = perform(code, hold, list, |orders| {
+            self.on_link_up(link as usize, orders)
+        });
+        self.next(code, count)
+    }
+
+    #[inline(always)]
+    fn run_link_down(mut self, link: u32, hold: usize, list: &mut [u32]) -> Next {
+        let code = self.refusal(link, self.links);
+        let (code, count) = perform(code, hold, list, |orders| {
+            self.on_link_down(link as usize, orders)
+        });
+        self.next(code, count)
     }
 
     /// Whether an event is refused for the state or for its index, which must
@@ -226,6 +278,43 @@ impl Gateway {
             return None;
         }
         Some((self.find_link(reading.id)?, reading))
+    }
+
+    /// Whether a link-side message is refused, else its link and what it says.
+    #[inline(always)]
+    fn link_message_asked(&self, message: &[u8]) -> (u32, usize, Reading) {
+        if !self.is_sound() {
+            return (NOT_SOUND, 0, Reading::default());
+        }
+        match self.link_message_place(message) {
+            Some((link, reading)) => (0, link, reading),
+            None => (BAD_EVENT, 0, Reading::default()),
+        }
+    }
+
+    /// What the link side sent, to the recipients.
+    #[inline(always)]
+    fn pass_on(&self, link: usize, reading: &Reading, orders: &mut Orders) {
+        let kind = code(MAUP, reading.kind);
+        orders.push_each(self.recipients(link), kind, reading.id, 0);
+    }
+
+    /// Data for an AS that is pending: held, if there is a place left. Behind
+    /// the unit the hold keeps what it had.
+    #[inline(always)]
+    fn take_in(&mut self, a: usize, reading: &Reading, message: &[u8], hold: &mut [u8]) {
+        let k = self.held_of(a);
+        let Some(data) = data_of(message).filter(|_| k < MAX_HELD) else {
+            return;
+        };
+        hold[place_in_hold(a, k)][..data.value.len()].copy_from_slice(data.value);
+        let unit = Unit {
+            tag: data.tag,
+            len: data.len,
+            id: reading.id,
+            correlation: (reading.has_correlation != 0).then_some(reading.correlation),
+        };
+        self.add_unit(a, unit);
     }
 
     fn on_message(&mut self, p: usize, message: &[u8], orders: &mut Orders) {
@@ -343,6 +432,7 @@ impl Gateway {
         if actives == 0 {
             self.waiting[a] = 0;
             self.set_actives(a, one(p));
+            self.send_units(a, p, orders);
             let to = self.members(a) & self.up_set();
             self.notify_state(a, to, AsState::Active, orders);
         } else if self.mode[a] == OVERRIDE {
@@ -351,6 +441,19 @@ impl Gateway {
         } else {
             self.set_actives(a, actives | one(p));
         }
+    }
+
+    /// What AS a holds goes to p, the oldest first: nobody else is active.
+    #[inline(always)]
+    fn send_units(&mut self, a: usize, p: usize, orders: &mut Orders) {
+        let held = self.held_of(a);
+        if held == 0 {
+            return;
+        }
+        for k in 0..held {
+            orders.push(p as u32, DATA, self.held_id[MAX_HELD * a + k], 0);
+        }
+        self.drop_units(a);
     }
 
     fn deactivate(&mut self, a: usize, p: usize, orders: &mut Orders) {
@@ -496,6 +599,8 @@ impl Gateway {
             return;
         }
         self.waiting[a] = 0;
+        // Nobody came for them.
+        self.drop_units(a);
         // Nobody up: down, of which nobody is told.
         let to = self.members(a) & self.up_set();
         self.notify_state(a, to, AsState::Inactive, orders);
@@ -522,11 +627,15 @@ impl Gateway {
     }
 }
 
-/// Runs an event that is not refused so far, if the list has room.
+/// Runs an event that is not refused so far, if the hold has its length and
+/// the list has room.
 #[inline(always)]
-fn perform(code: u32, list: &mut [u32], run: impl FnOnce(&mut Orders)) -> (u32, u32) {
+fn perform(code: u32, hold: usize, list: &mut [u32], run: impl FnOnce(&mut Orders)) -> (u32, u32) {
     if code != 0 {
         return (code, 0);
+    }
+    if hold != HOLD_BYTES {
+        return (WRONG_HOLD, 0);
     }
     let Some(room) = list.first_chunk_mut::<LIST_WORDS>() else {
         return (SHORT_LIST, 0);

@@ -1,9 +1,19 @@
-//! The state: what the gateway knows of ASPs, ASes and links.
+//! The state: what the gateway knows of ASPs, ASes, links and the units that
+//! wait with an AS.
+
+use crate::wire::DATA2;
 
 /// Most ASPs and most ASes.
 pub const MAX_ASPS: usize = 16;
 pub const MAX_ASES: usize = 16;
 pub const MAX_LINKS: usize = 128;
+
+/// Units that one AS holds at most.
+pub const MAX_HELD: usize = 8;
+/// Bytes of the longest unit, which are those of a place in the hold.
+pub const PLACE_BYTES: usize = 273;
+/// Bytes of the hold: for each AS its places, one behind the other.
+pub const HOLD_BYTES: usize = MAX_ASES * MAX_HELD * PLACE_BYTES;
 
 // Traffic modes of an AS.
 pub const OVERRIDE: u8 = 1;
@@ -17,7 +27,9 @@ pub const IN_SERVICE: u8 = 2;
 pub const STOPPING: u8 = 3;
 
 /// The state with its plan. The place of a pair is 16 times the AS plus the
-/// ASP, so that the ASPs of one AS are 16 bytes in a row.
+/// ASP, so that the ASPs of one AS are 16 bytes in a row. The place of a unit
+/// is 8 times the AS plus its number among those held, the oldest 0; its
+/// bytes are in the hold, which is no part of this.
 #[repr(C)]
 #[derive(Clone, Copy, PartialEq, Eq, Debug)]
 pub struct Gateway {
@@ -41,6 +53,33 @@ pub struct Gateway {
     /// The AS that owns each link.
     pub owner: [u8; 128],
     pub state: [u8; 128],
+    /// How many units each AS holds.
+    pub held: [u8; 16],
+    /// Tag and length field of each unit's data parameter.
+    pub held_tag: [u16; 128],
+    pub held_len: [u16; 128],
+    /// 1 for a unit that came with a correlation id.
+    pub held_marked: [u16; 128],
+    /// The identifier of the link that a unit came from.
+    pub held_id: [u32; 128],
+    pub held_correlation: [u32; 128],
+}
+
+/// What the state keeps of a unit.
+#[derive(Clone, Copy, PartialEq, Eq, Debug)]
+pub struct Unit {
+    pub tag: u16,
+    /// The length field: 4 more than the unit has bytes.
+    pub len: u16,
+    pub id: u32,
+    pub correlation: Option<u32>,
+}
+
+/// The bytes of a place of the hold: unit k of AS a.
+#[inline(always)]
+pub const fn place_in_hold(a: usize, k: usize) -> std::ops::Range<usize> {
+    let start = (MAX_HELD * a + k) * PLACE_BYTES;
+    start..start + PLACE_BYTES
 }
 
 /// State of an AS, numbered as Notify numbers it.
@@ -105,6 +144,12 @@ impl Gateway {
         link_id: [0; 128],
         owner: [0; 128],
         state: [0; 128],
+        held: [0; 16],
+        held_tag: [0; 128],
+        held_len: [0; 128],
+        held_marked: [0; 128],
+        held_id: [0; 128],
+        held_correlation: [0; 128],
     };
 
     /// The ASPs that are up.
@@ -171,6 +216,48 @@ impl Gateway {
         (self.link_ids().get(place) == Some(&id)).then_some(place)
     }
 
+    /// How many units an AS holds.
+    #[inline(always)]
+    pub fn held_of(&self, a: usize) -> usize {
+        (self.held[a] as usize).min(MAX_HELD)
+    }
+
+    /// Unit k of AS a.
+    #[inline(always)]
+    pub fn unit(&self, a: usize, k: usize) -> Unit {
+        let i = MAX_HELD * a + k;
+        Unit {
+            tag: self.held_tag[i],
+            len: self.held_len[i],
+            id: self.held_id[i],
+            correlation: (self.held_marked[i] != 0).then_some(self.held_correlation[i]),
+        }
+    }
+
+    /// One more unit of AS a, which holds fewer than 8.
+    #[inline(always)]
+    pub(crate) fn add_unit(&mut self, a: usize, unit: Unit) {
+        let i = MAX_HELD * a + self.held_of(a);
+        self.held[a] += 1;
+        self.held_tag[i] = unit.tag;
+        self.held_len[i] = unit.len;
+        self.held_id[i] = unit.id;
+        self.held_marked[i] = unit.correlation.is_some() as u16;
+        self.held_correlation[i] = unit.correlation.unwrap_or(0);
+    }
+
+    /// AS a holds nothing any more.
+    #[inline(always)]
+    pub(crate) fn drop_units(&mut self, a: usize) {
+        let places = MAX_HELD * a..MAX_HELD * a + MAX_HELD;
+        self.held[a] = 0;
+        self.held_tag[places.clone()].fill(0);
+        self.held_len[places.clone()].fill(0);
+        self.held_marked[places.clone()].fill(0);
+        self.held_id[places.clone()].fill(0);
+        self.held_correlation[places].fill(0);
+    }
+
     /// Those that get what comes from a link.
     #[inline]
     pub fn recipients(&self, link: usize) -> Asps {
@@ -200,6 +287,7 @@ impl Gateway {
             return false;
         }
         self.asps_sound(asps) & self.ases_sound(asps, ases) & self.links_sound(ases, links)
+            && self.held_sound()
     }
 
     /// Identifiers that differ, zeros beyond.
@@ -262,6 +350,57 @@ impl Gateway {
         beyond |= owners_beyond.iter().fold(0, |bits, owner| bits | owner) as u32;
         beyond |= states_beyond.iter().fold(0, |bits, state| bits | state) as u32;
         !wrong & (beyond == 0)
+    }
+
+    /// Units only where an AS waits, and zeros beyond them. Asked last: links
+    /// are found by their identifiers, which must ascend.
+    #[inline(always)]
+    fn held_sound(&self) -> bool {
+        // Mostly nothing is held anywhere.
+        if self.nothing_held() {
+            return true;
+        }
+        (0..MAX_ASES).all(|a| {
+            let held = self.held[a] as usize;
+            held <= MAX_HELD * self.waiting[a] as usize
+                && (0..held).all(|k| self.unit_sound(a, k))
+                && (held..MAX_HELD).all(|k| self.place_empty(MAX_HELD * a + k))
+        })
+    }
+
+    #[inline(always)]
+    fn nothing_held(&self) -> bool {
+        let counts = self.held.iter().fold(0, |bits, count| bits | count);
+        let mut halves = 0;
+        let mut words = 0;
+        for i in 0..MAX_ASES * MAX_HELD {
+            halves |= self.held_tag[i] | self.held_len[i] | self.held_marked[i];
+            words |= self.held_id[i] | self.held_correlation[i];
+        }
+        (counts == 0) & (halves == 0) & (words == 0)
+    }
+
+    #[inline(always)]
+    fn place_empty(&self, i: usize) -> bool {
+        let halves = self.held_tag[i] | self.held_len[i] | self.held_marked[i];
+        (halves == 0) & (self.held_id[i] | self.held_correlation[i] == 0)
+    }
+
+    /// Tag, length, mark and number; and the link is one of the AS's own.
+    #[inline(always)]
+    fn unit_sound(&self, a: usize, k: usize) -> bool {
+        let i = MAX_HELD * a + k;
+        let (marked, number) = (self.held_marked[i], self.held_correlation[i]);
+        let fits = (self.held_tag[i] | 1 == DATA2)
+            & (self.held_len[i].wrapping_sub(5) < PLACE_BYTES as u16)
+            & ((marked == 1) | ((marked == 0) & (number == 0)));
+        let id = self.held_id[i];
+        // Often several come from one link.
+        if k > 0 && self.held_id[i - 1] == id {
+            return fits;
+        }
+        let link = self.find_link(id);
+        fits && link.is_some_and(|link| self.owner[link] as usize == a)
     }
 }
 

@@ -15,7 +15,7 @@ pub mod write;
 
 pub use bytes::Batch;
 pub use events::{Event, Next};
-pub use gateway::{is_sound, Gateway};
+pub use gateway::{is_sound, Gateway, Unit, HOLD_BYTES};
 pub use plan::{load, Loaded};
 pub use read::{protocol_data, read, Reading};
 pub use wire::{Param, Params, Step};

@@ -1,16 +1,16 @@
-//! What an event reaches: the ASes, and with them their links, whose records
-//! it may change.
+//! What an event reaches: the ASes, and with them their links and their part
+//! of the hold, which it may change.
 
 use crate::events::{is_error, Event, ACTIVE, DOWN, INACTIVE, LIST_WORDS, UP};
-use crate::gateway::Gateway;
+use crate::gateway::{Gateway, HOLD_BYTES};
 use crate::read::read;
 use crate::wire::*;
 
 impl Gateway {
     /// The ASes reached, bit a for AS a. An event that is refused, also for a
-    /// list of fewer words, reaches none.
-    pub fn reach(&self, event: Event, list_words: usize) -> u16 {
-        if !self.is_sound() || list_words < LIST_WORDS {
+    /// hold of another length or a list of fewer words, reaches none.
+    pub fn reach(&self, event: Event, hold_bytes: usize, list_words: usize) -> u16 {
+        if !self.is_sound() || hold_bytes != HOLD_BYTES || list_words < LIST_WORDS {
             return 0;
         }
         match event {

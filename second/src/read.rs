@@ -407,12 +407,13 @@ fn ascending_pairs(value: &[u8]) -> bool {
     !wrong
 }
 
+/// The data parameter of a message, if it has one.
+#[inline]
+pub(crate) fn data_of(message: &[u8]) -> Option<Param<'_>> {
+    Params::new(message).find(|param| param.tag == DATA1 || param.tag == DATA2)
+}
+
 /// The protocol data of a message as a part of it; empty where there is none.
 pub fn protocol_data(message: &[u8]) -> &[u8] {
-    for param in Params::new(message) {
-        if param.tag == DATA1 || param.tag == DATA2 {
-            return param.value;
-        }
-    }
-    &[]
+    data_of(message).map_or(&[], |param| param.value)
 }

@@ -1,7 +1,7 @@
 //! Scripts: one command to a line, one line of result to a command.
 
 use crate::events::{bits, Event};
-use crate::gateway::Gateway;
+use crate::gateway::{place_in_hold, Gateway, HOLD_BYTES, MAX_ASES, MAX_HELD};
 use crate::plan::load;
 use crate::read::read;
 use crate::wire::Params;
@@ -10,9 +10,11 @@ use crate::write::{write, Written};
 /// The longest line that is a command.
 pub const MAX_LINE: usize = 65_535;
 
-/// The most that can be lent to a command: words of a list, bytes of a buffer.
+/// The most that can be lent to a command: words of a list, bytes of a buffer,
+/// bytes of a hold.
 const MAX_LIST: usize = 2048;
 const MAX_BUFFER: usize = 8192;
+const MAX_HOLD: usize = 65_536;
 
 /// A line that is no command.
 struct Malformed;
@@ -29,10 +31,69 @@ pub struct Session {
     lens: Vec<u32>,
     /// The current state.
     gateway: Gateway,
+    /// The hold that goes with the state.
+    hold: Hold,
     /// The list lent to events.
     list: Vec<u32>,
     /// The buffer lent to `write` and `bytes`.
     buffer: Vec<u8>,
+}
+
+/// The hold that is kept, and another one to be lent in its place.
+struct Hold {
+    kept: Vec<u8>,
+    other: Vec<u8>,
+    /// Bytes that are lent.
+    bytes: usize,
+}
+
+impl Hold {
+    fn new() -> Self {
+        Hold {
+            kept: vec![0; HOLD_BYTES],
+            other: vec![0; MAX_HOLD],
+            bytes: HOLD_BYTES,
+        }
+    }
+
+    fn lent(&self) -> &[u8] {
+        match self.bytes {
+            HOLD_BYTES => &self.kept,
+            bytes => &self.other[..bytes],
+        }
+    }
+
+    fn lend(&mut self) -> &mut [u8] {
+        match self.bytes {
+            HOLD_BYTES => &mut self.kept,
+            bytes => &mut self.other[..bytes],
+        }
+    }
+
+    /// `hold`, `paint` and `held`.
+    fn command(&mut self, command: &[u8], words: &mut Words, out: &mut Vec<u8>) -> Parsed<()> {
+        match command {
+            b"hold" => {
+                let bytes = number(word(words)?)? as usize;
+                end(words)?;
+                self.bytes = bytes.min(MAX_HOLD);
+                out.push(b'0');
+            }
+            b"paint" => {
+                let byte = number_below(256, word(words)?)?;
+                end(words)?;
+                self.kept.fill(byte as u8);
+                out.push(b'0');
+            }
+            _ => {
+                let a = number_below(MAX_ASES, word(words)?)?;
+                let k = number_below(MAX_HELD, word(words)?)?;
+                end(words)?;
+                put_hex(&self.kept[place_in_hold(a, k)], out);
+            }
+        }
+        Ok(())
+    }
 }
 
 impl Default for Session {
@@ -48,6 +109,7 @@ impl Session {
             tags: Vec::new(),
             lens: Vec::new(),
             gateway: Gateway::ZERO,
+            hold: Hold::new(),
             list: vec![0; MAX_LIST],
             buffer: vec![0; MAX_BUFFER],
         }
@@ -56,6 +118,11 @@ impl Session {
     /// The current state.
     pub fn gateway(&self) -> &Gateway {
         &self.gateway
+    }
+
+    /// The hold that the next event is lent.
+    pub fn hold(&self) -> &[u8] {
+        self.hold.lent()
     }
 
     /// Takes one line, without its newline, and appends its result, if it has
@@ -106,24 +173,28 @@ impl Session {
                 let written = write(class, kind, &self.tags, &self.lens, &self.bytes, buffer);
                 put_written(written, &self.buffer, out);
             }
+            b"hold" | b"paint" | b"held" => self.hold.command(command, &mut words, out)?,
             b"bytes" => {
                 let place = number(word(&mut words)?)?;
                 let room = number(word(&mut words)?)? as usize;
                 let command = word(&mut words)?;
                 let (event, _) = event(command, &mut words, &mut self.bytes)?;
                 let buffer = &mut self.buffer[..room.min(MAX_BUFFER)];
-                let written = self.gateway.order_bytes(event, place, buffer);
+                let written = self
+                    .gateway
+                    .order_bytes(event, self.hold.lent(), place, buffer);
                 put_written(written, &self.buffer, out);
             }
             b"reach" => {
                 let command = word(&mut words)?;
                 let (event, words) = event(command, &mut words, &mut self.bytes)?;
-                put_reach(self.gateway.reach(event, words), out);
+                let ases = self.gateway.reach(event, self.hold.bytes, words);
+                put_reach(ases, out);
             }
             _ => {
                 let (event, words) = event(command, &mut words, &mut self.bytes)?;
                 let list = &mut self.list[..words];
-                let next = self.gateway.event(event, list);
+                let next = self.gateway.event(event, self.hold.lend(), list);
                 self.gateway = next.gateway;
                 put_orders(next.code, next.count, list, out);
             }
@@ -233,6 +304,15 @@ fn number(text: &[u8]) -> Parsed<u32> {
         let tens = number.checked_mul(10).ok_or(Malformed)?;
         tens.checked_add(digit as u32).ok_or(Malformed)
     })
+}
+
+/// A number below a limit.
+fn number_below(limit: usize, text: &[u8]) -> Parsed<usize> {
+    let number = number(text)? as usize;
+    if number >= limit {
+        return Err(Malformed);
+    }
+    Ok(number)
 }
 
 /// Marks a byte that is no hex digit.
@@ -356,6 +436,29 @@ fn put_state(gateway: &Gateway, out: &mut Vec<u8>) {
     digits(&gateway.waiting[..ases], out);
     out.extend_from_slice(b" links=");
     digits(&gateway.state[..gateway.links as usize], out);
+    out.extend_from_slice(b" held=");
+    put_held(gateway, out);
+}
+
+/// The units held, ASes ascending, in each the oldest first.
+fn put_held(gateway: &Gateway, out: &mut Vec<u8>) {
+    let start = out.len();
+    for a in 0..MAX_ASES {
+        for k in 0..gateway.held_of(a) {
+            if out.len() > start {
+                out.push(b',');
+            }
+            let unit = gateway.unit(a, k);
+            for number in [a as u32, unit.tag as u32, unit.len as u32, unit.id] {
+                put_number(number, out);
+                out.push(b':');
+            }
+            match unit.correlation {
+                Some(number) => put_number(number, out),
+                None => out.push(b'-'),
+            }
+        }
+    }
 }
 
 /// The result of an event.

@@ -4,7 +4,7 @@
 use second::events::{bits, Event};
 use second::generate::{generate, Kind};
 use second::script::{run, Session};
-use second::{is_sound, load, read, Gateway, Params};
+use second::{is_sound, load, read, Gateway, Params, HOLD_BYTES};
 use std::collections::{BTreeMap, BTreeSet};
 
 const M: &str = "010004010000001c000b0008000000010008000c0000006400000073";
@@ -79,7 +79,7 @@ fn check(plan: &str, lines: &[(&str, &str)]) {
 }
 
 fn msg(p: u32, hex: &str) -> String {
-    format!("msg {p} 1032 {hex}")
+    format!("msg {p} 1544 {hex}")
 }
 
 #[test]
@@ -89,15 +89,18 @@ fn samples() {
         &plan_s(),
         &[
             (&msg(0, UP), "N 2 (0,772,0,0) (0,1,0,65538)"),
-            (&format!("msg 0 1031 {M}"), "R 101"),
-            (&format!("msg 0 1032 {stop116}"), "N 1 (0,0,116,2)"),
+            (&format!("msg 0 1543 {M}"), "R 101"),
+            (&format!("msg 0 1544 {stop116}"), "N 1 (0,0,116,2)"),
             (&msg(0, M), "N 2 (0,1027,0,0) (0,1,0,65539)"),
             (&msg(1, UP), "N 1 (1,772,0,0)"),
             (&msg(1, ACTIVE), "N 2 (1,1027,0,0) (0,1,0,131074)"),
             (&msg(1, DOWN), "N 2 (1,773,0,0) (0,1,0,65540)"),
-            ("state", "up=100 active= waiting=10 links=00000000000000000"),
-            ("recovery 0 1032", "N 1 (0,1,0,65538)"),
-            ("recovery 0 1032", "N 0"),
+            (
+                "state",
+                "up=100 active= waiting=10 links=00000000000000000 held=",
+            ),
+            ("recovery 0 1544", "N 1 (0,1,0,65538)"),
+            ("recovery 0 1544", "N 0"),
         ],
     );
 }
@@ -105,7 +108,7 @@ fn samples() {
 #[test]
 fn refusals_in_order() {
     // The state of zeros is not sound: 105 before all else.
-    let script = format!("msg 99 0 {M}\nlost 0 0\nrecovery 0 1032\nup 0 1032\ndown 0 1032\nlinkmsg 0 -\nbytes 0 0 lost 0 0\nreach lost 0 1032\n");
+    let script = format!("msg 99 0 {M}\nlost 0 0\nrecovery 0 1544\nup 0 1544\ndown 0 1544\nlinkmsg 0 -\nbytes 0 0 lost 0 0\nreach lost 0 1544\n");
     assert_eq!(
         run(script.as_bytes()),
         b"R 105\nR 105\nR 105\nR 105\nR 105\nR 105\n105\n-\n"
@@ -114,23 +117,23 @@ fn refusals_in_order() {
         &plan_s(),
         &[
             (&format!("msg 3 0 {UP}"), "R 102"),
-            ("msg 4294967295 1032 -", "R 102"),
+            ("msg 4294967295 1544 -", "R 102"),
             ("lost 3 0", "R 102"),
             ("recovery 2 0", "R 102"),
             ("up 17 0", "R 102"),
             ("down 17 0", "R 102"),
             ("linkmsg 0 -", "R 102"),
-            (&format!("linkmsg 1032 {M}"), "R 102"),
-            ("linkmsg 1032 01000000000000100000000000000000", "R 102"),
-            ("msg 2 1031 -", "R 101"),
-            ("msg 2 1032 -", "N 1 (2,0,0,7)"),
-            ("lost 2 1031", "R 101"),
-            ("recovery 1 1031", "R 101"),
-            ("up 16 1031", "R 101"),
-            ("down 16 1031", "R 101"),
+            (&format!("linkmsg 1544 {M}"), "R 102"),
+            ("linkmsg 1544 01000000000000100000000000000000", "R 102"),
+            ("msg 2 1543 -", "R 101"),
+            ("msg 2 1544 -", "N 1 (2,0,0,7)"),
+            ("lost 2 1543", "R 101"),
+            ("recovery 1 1543", "R 101"),
+            ("up 16 1543", "R 101"),
+            ("down 16 1543", "R 101"),
             ("up 16 4294967295", "N 0"),
-            ("reach up 16 1031", "-"),
-            ("reach up 16 1032", "1"),
+            ("reach up 16 1543", "-"),
+            ("reach up 16 1544", "1"),
         ],
     );
 }
@@ -167,13 +170,19 @@ fn up_and_down() {
             (&msg(0, &wrong), "N 1 (0,0,0,15)"),
             (&msg(0, UP), "N 3 (0,772,0,0) (0,0,0,6) (0,1,0,65540)"),
             // Pending stays pending when the last one drops.
-            ("lost 0 1032", "N 0"),
-            ("state", "up=000 active= waiting=10 links=00000000000000000"),
+            ("lost 0 1544", "N 0"),
+            (
+                "state",
+                "up=000 active= waiting=10 links=00000000000000000 held=",
+            ),
             (&msg(0, UP), "N 1 (0,772,0,0)"),
             (&msg(0, ACTIVE), "N 2 (0,1027,0,0) (0,1,0,65539)"),
-            ("lost 0 1032", "N 0"),
-            ("recovery 0 1032", "N 0"),
-            ("state", "up=000 active= waiting=00 links=00000000000000000"),
+            ("lost 0 1544", "N 0"),
+            ("recovery 0 1544", "N 0"),
+            (
+                "state",
+                "up=000 active= waiting=00 links=00000000000000000 held=",
+            ),
         ],
     );
 }
@@ -247,18 +256,24 @@ fn active_and_inactive() {
                 &msg(0, &all),
                 "N 5 (0,1027,0,0) (0,1,0,65539) (1,1,0,65539) (0,1,2,65539) (1,1,2,65539)",
             ),
-            ("state", "up=1101 active=0:0,0:2 waiting=000 links=0000"),
+            (
+                "state",
+                "up=1101 active=0:0,0:2 waiting=000 links=0000 held=",
+            ),
             (&msg(1, &second), "N 1 (1,1027,0,0)"),
             (&msg(1, ACTIVE), "N 2 (1,1027,0,0) (0,1,0,131074)"),
-            ("state", "up=1101 active=0:2,1:0,1:2 waiting=000 links=0000"),
+            (
+                "state",
+                "up=1101 active=0:2,1:0,1:2 waiting=000 links=0000 held=",
+            ),
             (&msg(0, &off), "N 1 (0,1028,0,0)"),
             (&msg(0, INACTIVE), "N 1 (0,1028,0,0)"),
             (
                 &msg(1, INACTIVE),
                 "N 5 (1,1028,0,0) (0,1,0,65540) (1,1,0,65540) (0,1,2,65540) (1,1,2,65540)",
             ),
-            ("state", "up=1101 active= waiting=101 links=0000"),
-            ("reach msg 0 1032 0100040100000008", "0,1,2"),
+            ("state", "up=1101 active= waiting=101 links=0000 held="),
+            ("reach msg 0 1544 0100040100000008", "0,1,2"),
             (&format!("reach {}", msg(3, &every)), "0,2"),
             (&format!("reach {}", msg(1, &last)), "2"),
         ],
@@ -280,7 +295,7 @@ fn links() {
     let ack = message(6, 15, &[(1, &[10]), (0x13, &[1])]);
     let ind = |id: u32| {
         format!(
-            "linkmsg 1032 {}",
+            "linkmsg 1544 {}",
             message(6, 9, &[(1, &[id]), (0x303, &[1])])
         )
     };
@@ -298,12 +313,12 @@ fn links() {
             (&msg(0, &ack), "N 0"),
             (&msg(0, &data), "N 1 (0,0,0,6)"),
             (&msg(0, &m(4, 10)), "N 1 (0,1541,10,0)"),
-            ("up 0 1032", "N 0"),
-            ("down 0 1032", "N 0"),
+            ("up 0 1544", "N 0"),
+            ("down 0 1544", "N 0"),
             (&msg(0, &m(2, 10)), "N 1 (255,1538,10,0)"),
             (&msg(0, &m(2, 10)), "N 0"),
             (&msg(0, &data), "N 1 (0,0,0,6)"),
-            ("up 0 1032", "N 1 (0,1539,10,0)"),
+            ("up 0 1544", "N 1 (0,1539,10,0)"),
             (&msg(0, &m(2, 10)), "N 1 (0,1539,10,0)"),
             (&msg(0, &data), "N 1 (255,1537,10,0)"),
             (&msg(0, &corr), "N 2 (255,1537,10,0) (0,1551,10,77)"),
@@ -318,11 +333,11 @@ fn links() {
             (&msg(1, &m(4, 10)), "N 0"),
             (&msg(1, &m(2, 10)), "N 1 (255,1538,10,0)"),
             (&msg(1, &m(4, 10)), "N 1 (255,1540,10,0)"),
-            ("state", "up=110 active=0:0,1:0 waiting=00 links=300"),
-            ("down 0 1032", "N 1 (0,1541,10,0)"),
+            ("state", "up=110 active=0:0,1:0 waiting=00 links=300 held="),
+            ("down 0 1544", "N 1 (0,1541,10,0)"),
             (&msg(1, &m(2, 11)), "N 1 (255,1538,11,0)"),
-            ("down 1 1032", "N 1 (1,1542,11,0)"),
-            ("state", "up=110 active=0:0,1:0 waiting=00 links=000"),
+            ("down 1 1544", "N 1 (1,1542,11,0)"),
+            ("state", "up=110 active=0:0,1:0 waiting=00 links=000 held="),
             (&format!("reach {}", msg(0, &m(3, 20))), "1"),
             (&format!("reach {}", msg(0, &m(3, 21))), "-"),
             (&format!("reach {}", ind(20)), "1"),
@@ -414,7 +429,7 @@ fn orders_as_bytes() {
                 &bytes(0, 16, "down 0 0"),
                 "0 01000606000000100001000800000064",
             ),
-            ("up 0 1032", "N 1 (0,1539,100,0)"),
+            ("up 0 1544", "N 1 (0,1539,100,0)"),
             (
                 &bytes(
                     1,
@@ -436,7 +451,7 @@ fn most_orders() {
     let mut lines = vec![plan(&asps, &[2; 16], &[])];
     lines.extend((0..16).map(|p| msg(p, UP)));
     lines.push(msg(5, ACTIVE));
-    lines.push(format!("msg 5 1031 {UP}"));
+    lines.push(format!("msg 5 1543 {UP}"));
     lines.push(format!("bytes 257 99 {}", msg(5, UP)));
     lines.push(msg(5, UP));
     let out = String::from_utf8(run(lines.join("\n").as_bytes())).unwrap();
@@ -448,30 +463,312 @@ fn most_orders() {
     assert!(results[20].ends_with("(15,1,15,65540)"));
 }
 
+/// The command of a link's Data, with a correlation id or without.
+fn data(id: u32, unit: &[u8], correlation: Option<u32>) -> String {
+    let mut out = vec![1, 0, 6, 1, 0, 0, 0, 0, 0, 1, 0, 8];
+    out.extend_from_slice(&id.to_be_bytes());
+    if let Some(number) = correlation {
+        out.extend_from_slice(&[0, 0x13, 0, 8]);
+        out.extend_from_slice(&number.to_be_bytes());
+    }
+    out.extend_from_slice(&[3, 0]);
+    out.extend_from_slice(&(unit.len() as u16 + 4).to_be_bytes());
+    out.extend_from_slice(unit);
+    out.resize((out.len() + 3) & !3, 0);
+    let len = out.len() as u32;
+    out[4..8].copy_from_slice(&len.to_be_bytes());
+    format!("linkmsg 1544 {}", hex(&out))
+}
+
+/// A place of the hold that has these bytes first and then all of another.
+fn place(first: &str, then: &str) -> String {
+    format!("{first}{}", then.repeat(273 - first.len() / 2))
+}
+
+/// Plan S with ASP 0 up and active, then inactive: AS 0 is pending.
+fn pending(then: &[(&str, &str)]) {
+    let mut lines = vec![
+        (msg(0, UP), "N 2 (0,772,0,0) (0,1,0,65538)"),
+        (msg(0, M), "N 2 (0,1027,0,0) (0,1,0,65539)"),
+        (msg(0, INACTIVE), "N 2 (0,1028,0,0) (0,1,0,65540)"),
+    ];
+    lines.extend(then.iter().map(|line| (line.0.to_string(), line.1)));
+    let lines: Vec<(&str, &str)> = lines.iter().map(|line| (&line.0[..], line.1)).collect();
+    check(&plan_s(), &lines);
+}
+
+#[test]
+fn held_and_sent_out() {
+    let links = "links=00000000000000000";
+    let two = "held=0:768:7:100:-,0:768:5:115:9";
+    let first = "01000601 00000018 00010008 00000064 03000007 aabbcc00".replace(' ', "");
+    let second =
+        "01000601 00000020 00010008 00000073 03000005 dd000000 00130008 00000009".replace(' ', "");
+    let notify = "01000001 00000054 000d0008 00010003 00010044".replace(' ', "");
+    let active = msg(0, ACTIVE);
+    pending(&[
+        ("paint 238", "0"),
+        (&data(100, &[0xaa, 0xbb, 0xcc], None), "N 0"),
+        (&data(115, &[0xdd], Some(9)), "N 0"),
+        ("state", &format!("up=100 active= waiting=10 {links} {two}")),
+        ("held 0 0", &place("aabbcc", "ee")),
+        ("held 0 1", &place("dd", "ee")),
+        ("held 0 2", &place("", "ee")),
+        (&format!("bytes 1 24 {active}"), &format!("0 {first}")),
+        (&format!("bytes 1 23 {active}"), "103"),
+        (&format!("bytes 2 32 {active}"), &format!("0 {second}")),
+        (&format!("bytes 2 31 {active}"), "103"),
+        (
+            &format!("bytes 3 84 {active}"),
+            &format!(
+                "0 {notify}{}",
+                (100..=115)
+                    .map(|id| format!("{id:08x}"))
+                    .collect::<String>()
+            ),
+        ),
+        (&format!("bytes 4 99 {active}"), "104"),
+        (
+            &active,
+            "N 4 (0,1027,0,0) (0,1537,100,0) (0,1537,115,0) (0,1,0,65539)",
+        ),
+        (
+            "state",
+            &format!("up=100 active=0:0 waiting=00 {links} held="),
+        ),
+        // What was sent out lies in the hold still.
+        ("held 0 0", &place("aabbcc", "ee")),
+        (&active, "N 1 (0,1027,0,0)"),
+    ]);
+}
+
+#[test]
+fn held_in_pending_only() {
+    let unit = data(100, &[1], None);
+    let indication = message(6, 12, &[(1, &[100]), (0x300, &[7])]);
+    let complete = message(6, 13, &[(1, &[100]), (0x301, &[7])]);
+    check(
+        &plan_s(),
+        &[
+            // Down, then inactive.
+            (&unit, "N 0"),
+            (&msg(0, UP), "N 2 (0,772,0,0) (0,1,0,65538)"),
+            (&unit, "N 0"),
+            (&msg(0, ACTIVE), "N 2 (0,1027,0,0) (0,1,0,65539)"),
+            (&unit, "N 1 (0,1537,100,0)"),
+            (
+                "state",
+                "up=100 active=0:0 waiting=00 links=00000000000000000 held=",
+            ),
+            ("lost 0 1544", "N 0"),
+            // Other messages with data are not held.
+            (&format!("linkmsg 1544 {indication}"), "N 0"),
+            (&format!("linkmsg 1544 {complete}"), "N 0"),
+            (&unit, "N 0"),
+            (
+                "state",
+                "up=000 active= waiting=10 links=00000000000000000 held=0:768:5:100:-",
+            ),
+            // Nothing of ASPs that come and go touches it.
+            (&msg(0, UP), "N 1 (0,772,0,0)"),
+            (&msg(0, INACTIVE), "N 1 (0,1028,0,0)"),
+            (&msg(1, UP), "N 1 (1,772,0,0)"),
+            (&msg(0, DOWN), "N 1 (0,773,0,0)"),
+            (&msg(1, DOWN), "N 1 (1,773,0,0)"),
+            (
+                "state",
+                "up=000 active= waiting=10 links=00000000000000000 held=0:768:5:100:-",
+            ),
+            // It goes to the ASP that becomes active.
+            (&msg(1, UP), "N 1 (1,772,0,0)"),
+            (
+                &msg(1, ACTIVE),
+                "N 3 (1,1027,0,0) (1,1537,100,0) (1,1,0,65539)",
+            ),
+        ],
+    );
+}
+
+#[test]
+fn held_until_recovery() {
+    let up = "up=100 active= waiting=00 links=00000000000000000 held=";
+    pending(&[
+        (&data(100, &[1, 2], Some(0)), "N 0"),
+        (
+            "state",
+            "up=100 active= waiting=10 links=00000000000000000 held=0:768:6:100:0",
+        ),
+        ("recovery 0 1543", "R 101"),
+        ("recovery 0 1544", "N 1 (0,1,0,65538)"),
+        ("state", up),
+        ("held 0 0", &place("0102", "00")),
+        (&msg(0, ACTIVE), "N 2 (0,1027,0,0) (0,1,0,65539)"),
+    ]);
+}
+
+#[test]
+fn the_ninth_is_turned_away() {
+    let units: Vec<String> = (1..=9)
+        .map(|n| data(100 + n, &[n as u8; 273], None))
+        .collect();
+    let mut lines: Vec<(&str, &str)> = units.iter().map(|unit| (&unit[..], "N 0")).collect();
+    let held: Vec<String> = (101..=108).map(|id| format!("0:768:277:{id}:-")).collect();
+    let state = format!(
+        "up=100 active= waiting=10 links=00000000000000000 held={}",
+        held.join(",")
+    );
+    let last = place("", "08");
+    let next = place("", "00");
+    let sent: Vec<String> = (101..=108).map(|id| format!("(0,1537,{id},0)")).collect();
+    let active = format!("N 10 (0,1027,0,0) {} (0,1,0,65539)", sent.join(" "));
+    let back = msg(0, ACTIVE);
+    lines.extend([
+        ("state", &state[..]),
+        ("held 0 7", &last),
+        // The first place of AS 1.
+        ("held 1 0", &next),
+        (&back, &active),
+    ]);
+    pending(&lines);
+}
+
+#[test]
+fn holds_of_another_length() {
+    let unit = data(100, &[1], None);
+    let bytes = format!("bytes 9 0 {}", msg(0, UP));
+    let reach = format!("reach {}", msg(0, UP));
+    let mut lines = vec![("hold 34944", "0"), (&reach[..], "0"), (&bytes, "104")];
+    for length in ["hold 34943", "hold 34945", "hold 0", "hold 4294967295"] {
+        lines.extend([
+            (length, "0"),
+            // After 102, before 101, 103 and 104.
+            ("lost 3 0", "R 102"),
+            ("lost 2 0", "R 106"),
+            ("lost 2 1544", "R 106"),
+            ("recovery 0 1543", "R 106"),
+            ("up 0 1544", "R 106"),
+            ("down 17 1544", "R 102"),
+            ("msg 0 1544 -", "R 106"),
+            ("linkmsg 1544 -", "R 102"),
+            (&unit, "R 106"),
+            (&bytes, "106"),
+            ("bytes 0 0 lost 3 0", "102"),
+            (&reach, "-"),
+        ]);
+    }
+    lines.extend([
+        ("hold 34944", "0"),
+        ("lost 2 1543", "R 101"),
+        (&bytes, "104"),
+        (
+            "state",
+            "up=100 active= waiting=10 links=00000000000000000 held=",
+        ),
+    ]);
+    pending(&lines);
+    let zeros = "hold 0\nlost 0 0\nbytes 0 0 lost 0 0\nreach lost 0 1544\n";
+    assert_eq!(run(zeros.as_bytes()), b"0\nR 105\n105\n-\n");
+}
+
+#[test]
+fn commands_of_the_hold() {
+    let zeros = place("", "00");
+    let sevens = place("", "07");
+    check(
+        &plan_s(),
+        &[
+            ("held 0 0", &zeros),
+            ("held 15 7", &zeros),
+            ("paint 7", "0"),
+            // Another one is lent, and this one is still there.
+            ("hold 5", "0"),
+            ("held 15 7", &sevens),
+            ("paint 255", "0"),
+            ("hold 34944", "0"),
+            ("held 0 0", &place("", "ff")),
+            (&plan_s(), "0"),
+            ("held 0 0", &place("", "ff")),
+            ("paint 256", "?"),
+            ("paint", "?"),
+            ("paint 1 1", "?"),
+            ("held 16 0", "?"),
+            ("held 0 8", "?"),
+            ("held 0", "?"),
+            ("held 0 0 0", "?"),
+            ("hold", "?"),
+            ("hold 1 1", "?"),
+            ("hold 4294967296", "?"),
+            ("lost 0 1544", "N 0"),
+        ],
+    );
+}
+
+/// Eight units in each of 16 ASes: Ack, 128 units and 256 Notifies.
+#[test]
+fn most_orders_of_a_full_hold() {
+    let asps: Vec<(u32, u16)> = (0..16).map(|p| (p, 0xffff)).collect();
+    let links: Vec<(u32, u32)> = (0..16).map(|a| (500 + a, a)).collect();
+    let mut lines = vec![plan(&asps, &[2; 16], &links)];
+    lines.extend((0..16).map(|p| msg(p, UP)));
+    lines.push(msg(5, ACTIVE));
+    lines.push(msg(5, INACTIVE));
+    for k in 0..9u8 {
+        lines.extend((0..16).map(|a| data(500 + a, &[k, a as u8], None)));
+    }
+    let setup = lines.len();
+    lines.push(format!("msg 6 1543 {ACTIVE}"));
+    // The last unit of AS 15, the first Notify of AS 0, the last one.
+    for place in [1 + 24 * 15 + 7, 1 + 8, 384, 385] {
+        lines.push(format!("bytes {place} 99 {}", msg(6, ACTIVE)));
+    }
+    lines.push(msg(6, ACTIVE));
+    lines.push("state".into());
+    let out = String::from_utf8(run(lines.join("\n").as_bytes())).unwrap();
+    let results: Vec<&str> = out.lines().skip(setup).collect();
+    let notify = |a: u32| format!("0 0100000100000018000d00080001000300010008{:08x}", 500 + a);
+    assert_eq!(results[0], "R 101");
+    assert_eq!(
+        results[1],
+        "0 0100060100000018000100080000020303000006070f0000"
+    );
+    assert_eq!(results[2], notify(0));
+    assert_eq!(results[3], notify(15));
+    assert_eq!(results[4], "104");
+    assert!(results[5].starts_with("N 385 (6,1027,0,0) (6,1537,500,0) (6,1537,500,0)"));
+    assert!(results[5].contains(" (6,1537,500,0) (0,1,0,65539) (1,1,0,65539)"));
+    assert!(results[5].contains(" (15,1,0,65539) (6,1537,501,0)"));
+    assert!(results[5].ends_with("(15,1,15,65539)"));
+    assert!(results[6].ends_with(" held="));
+}
+
 #[test]
 fn words_after_the_orders_stay() {
     let mut session = Session::new();
     session.line(plan_s().as_bytes(), &mut Vec::new());
     let gateway = *session.gateway();
-    let mut list = [0xabab_abab; 1040];
-    let next = gateway.message(0, &unhex(UP), &mut list);
+    let mut hold = [0x77; HOLD_BYTES];
+    let mut list = [0xabab_abab; 1550];
+    let next = gateway.message(0, &unhex(UP), &mut hold, &mut list);
     assert_eq!((next.code, next.count), (0, 2));
     assert_eq!(list[..8], [0, 772, 0, 0, 0, 1, 0, 65538]);
     assert!(list[8..].iter().all(|word| *word == 0xabab_abab));
-    let mut list = [0xabab_abab; 1031];
-    let next = gateway.message(0, &unhex(UP), &mut list);
+    let mut list = [0xabab_abab; 1543];
+    let next = gateway.message(0, &unhex(UP), &mut hold, &mut list);
     assert_eq!((next.code, next.count, next.gateway), (101, 0, gateway));
+    let next = gateway.message(0, &unhex(UP), &mut hold[1..], &mut list);
+    assert_eq!((next.code, next.count, next.gateway), (106, 0, gateway));
     assert!(list.iter().all(|word| *word == 0xabab_abab));
+    assert!(hold.iter().all(|byte| *byte == 0x77));
     let mut buffer = [0x55; 40];
     let event = Event::Lost { asp: 9 };
-    assert_eq!(gateway.order_bytes(event, 0, &mut buffer).code, 102);
+    assert_eq!(gateway.order_bytes(event, &hold, 0, &mut buffer).code, 102);
     assert_eq!(buffer, [0x55; 40]);
     let message = unhex(UP);
     let event = Event::Message {
         asp: 0,
         message: &message,
     };
-    assert_eq!(gateway.order_bytes(event, 0, &mut buffer).length, 8);
+    assert_eq!(gateway.order_bytes(event, &hold, 0, &mut buffer).length, 8);
     assert_eq!(buffer[8..], [0x55; 32]);
 }
 
@@ -526,9 +823,13 @@ mod plain {
     }
 
     /// State changes of all ASes, with what else is told there.
-    fn notify(before: &Gateway, g: &Gateway, taken: &[(usize, usize)], orders: &mut Orders) {
+    fn notify(before: &Gateway, g: &mut Gateway, taken: &[(usize, usize)], orders: &mut Orders) {
         for a in 0..g.ases as usize {
             let (old, new) = (state(before, a), state(g, a));
+            // Units go out first: the one that is active now is the only one.
+            if let (4, 3, Some(p)) = (old, new, (0..16).find(|p| g.active[16 * a + p] == 1)) {
+                send_out(g, a, p, orders);
+            }
             for p in 0..16 {
                 let told = g.member[16 * a + p] == 1 && g.up[p] == 1;
                 if old != new && new != 1 && told {
@@ -558,7 +859,48 @@ mod plain {
         find(g, r.id as u64)
     }
 
-    pub fn event(before: &Gateway, event: Event, words: usize) -> Result<(Orders, Gateway), u32> {
+    /// What AS a holds goes out to p.
+    fn send_out(g: &mut Gateway, a: usize, p: usize, orders: &mut Orders) {
+        for k in 0..g.held[a] as usize {
+            orders.push([p as u32, 0x601, g.held_id[8 * a + k], 0]);
+        }
+        forget(g, a);
+    }
+
+    fn forget(g: &mut Gateway, a: usize) {
+        g.held[a] = 0;
+        for i in 8 * a..8 * a + 8 {
+            (g.held_tag[i], g.held_len[i], g.held_marked[i]) = (0, 0, 0);
+            (g.held_id[i], g.held_correlation[i]) = (0, 0);
+        }
+    }
+
+    /// Data of the link side for a pending AS.
+    fn hold_it(g: &mut Gateway, hold: &mut [u8], a: usize, m: &[u8]) {
+        let k = g.held[a] as usize;
+        if k == 8 {
+            return;
+        }
+        let i = 8 * a + k;
+        g.held[a] += 1;
+        for param in Params::new(m) {
+            let word = || u32::from_be_bytes(param.value[..4].try_into().unwrap());
+            match param.tag {
+                1 => g.held_id[i] = word(),
+                0x13 => (g.held_marked[i], g.held_correlation[i]) = (1, word()),
+                _ => {
+                    (g.held_tag[i], g.held_len[i]) = (param.tag, param.len);
+                    for (j, byte) in param.value.iter().enumerate() {
+                        hold[2184 * a + 273 * k + j] = *byte;
+                    }
+                }
+            }
+        }
+    }
+
+    type Given = (Orders, Gateway, Vec<u8>);
+
+    pub fn event(before: &Gateway, lent: &[u8], event: Event, words: usize) -> Result<Given, u32> {
         if !is_sound(before) {
             return Err(105);
         }
@@ -571,10 +913,14 @@ mod plain {
         if !inside {
             return Err(102);
         }
-        if words < 1032 {
+        if lent.len() != 34944 {
+            return Err(106);
+        }
+        if words < 1544 {
             return Err(101);
         }
         let mut g = *before;
+        let mut hold = lent.to_vec();
         let mut orders = Vec::new();
         match event {
             Event::Message { asp, message } => {
@@ -584,11 +930,12 @@ mod plain {
                 let p = asp as usize;
                 (0..16).for_each(|a| deactivate(&mut g, a, p));
                 g.up[p] = 0;
-                notify(before, &g, &[], &mut orders);
+                notify(before, &mut g, &[], &mut orders);
             }
             Event::Recovery { server } => {
                 g.waiting[server as usize] = 0;
-                notify(before, &g, &[], &mut orders);
+                forget(&mut g, server as usize);
+                notify(before, &mut g, &[], &mut orders);
             }
             Event::LinkUp { link } | Event::LinkDown { link } => {
                 let link = link as usize;
@@ -608,12 +955,16 @@ mod plain {
             }
             Event::LinkMessage { message } => {
                 let link = link_side_place(&g, message).unwrap();
+                let a = g.owner[link] as usize;
+                if message[3] == 1 && state(&g, a) == 4 {
+                    hold_it(&mut g, &mut hold, a, message);
+                }
                 for p in recipients(&g, link) {
                     orders.push([p as u32, 0x600 + message[3] as u32, g.link_id[link], 0]);
                 }
             }
         }
-        Ok((orders, g))
+        Ok((orders, g, hold))
     }
 
     fn on_message(g: &mut Gateway, p: usize, m: &[u8], orders: &mut Orders) {
@@ -728,9 +1079,9 @@ mod plain {
         }
     }
 
-    pub fn reach(g: &Gateway, event: Event, words: usize) -> BTreeSet<usize> {
+    pub fn reach(g: &Gateway, lent: &[u8], event: Event, words: usize) -> BTreeSet<usize> {
         let mut all = BTreeSet::new();
-        if self::event(g, event, words).is_err() {
+        if self::event(g, lent, event, words).is_err() {
             return all;
         }
         let mine = |p: u32| (0..16).filter(move |a| g.member[16 * a + p as usize] == 1);
@@ -770,9 +1121,31 @@ mod plain {
         all
     }
 
+    /// The units of the ASes that an event leaves with none, as tags and values:
+    /// an Active sends them out in this sequence.
+    fn units(g: &Gateway, after: &Gateway, hold: &[u8]) -> Vec<Vec<(u16, Vec<u8>)>> {
+        let mut all = Vec::new();
+        for i in (0..128).filter(|i| g.held_tag[*i] != 0 && after.held_tag[*i] == 0) {
+            let unit = &hold[273 * i..273 * i + g.held_len[i] as usize - 4];
+            let mut list = vec![(1, g.held_id[i].to_be_bytes().to_vec())];
+            list.push((g.held_tag[i], unit.to_vec()));
+            if g.held_marked[i] == 1 {
+                list.push((0x13, g.held_correlation[i].to_be_bytes().to_vec()));
+            }
+            all.push(list);
+        }
+        all
+    }
+
     /// The order as a list of tags and values, written by the writer.
-    pub fn bytes(g: &Gateway, event: Event, place: u32, room: usize) -> Result<Vec<u8>, u32> {
-        let (orders, _) = self::event(g, event, 1032)?;
+    pub fn bytes(
+        g: &Gateway,
+        lent: &[u8],
+        event: Event,
+        place: u32,
+        room: usize,
+    ) -> Result<Vec<u8>, u32> {
+        let (orders, after, _) = self::event(g, lent, event, 1544)?;
         let order = orders.get(place as usize).ok_or(104u32)?;
         let [addressee, code, subject, value] = *order;
         if addressee == 255 {
@@ -801,6 +1174,11 @@ mod plain {
                     list.push((1, ids));
                 }
                 list
+            }
+            (_, 0x601) => {
+                let earlier = orders[..place as usize].iter();
+                let number = earlier.filter(|order| order[1] == 0x601).count();
+                units(g, &after, lent).swap_remove(number)
             }
             (_, 0x306) => only(&[9]),
             (_, 0x403 | 0x404) => [only(&[0xb]), only(&[1, 8])].concat(),
@@ -839,8 +1217,61 @@ fn parse(words: &[&str], bytes: &mut Vec<u8>) -> Option<(Vec<u32>, &'static str)
     Some((indexes, name))
 }
 
+/// What generated histories do with units, and how many links are idle.
+#[derive(Default, Debug)]
+struct Tally {
+    came: u64,
+    sent: u64,
+    discarded: u64,
+    turned_away: u64,
+    still_held: u64,
+    /// Lengths of units that came in, and whether with a correlation id.
+    lengths: BTreeSet<u16>,
+    marks: BTreeSet<u16>,
+    lines: u64,
+    idle: f64,
+}
+
+impl Tally {
+    fn line(&mut self, g: &Gateway) {
+        if g.links > 0 {
+            let states = &g.state[..g.links as usize];
+            let idle = states.iter().filter(|state| **state == 0).count();
+            self.lines += 1;
+            self.idle += idle as f64 / states.len() as f64;
+        }
+    }
+
+    /// An event that is not refused.
+    fn event(&mut self, name: &str, before: &Gateway, after: &Gateway, message: &[u8]) {
+        let held = |g: &Gateway| g.held.iter().map(|count| *count as u64).sum::<u64>();
+        let (old, new) = (held(before), held(after));
+        match name {
+            "linkmsg" if message[3] == 1 => {
+                let link = before.find_link(read(message).id).unwrap();
+                let a = before.owner[link] as usize;
+                if before.waiting[a] == 1 {
+                    self.came += 1;
+                    self.turned_away += (before.held[a] == 8) as u64;
+                    self.lengths.extend(&after.held_len[8 * a..8 * a + 8]);
+                    self.marks.extend(&after.held_marked[8 * a..8 * a + 8]);
+                }
+            }
+            "recovery" => self.discarded += old - new,
+            "msg" => self.sent += old - new,
+            _ => assert_eq!(old, new),
+        }
+    }
+
+    /// The units that a plan leaves behind.
+    fn end(&mut self, g: &Gateway) {
+        self.still_held += g.held.iter().map(|count| *count as u64).sum::<u64>();
+    }
+}
+
 #[test]
 fn generated_histories() {
+    let mut tally = Tally::default();
     let mut errors = BTreeMap::new();
     let mut kinds = BTreeMap::new();
     let mut results = BTreeMap::new();
@@ -858,7 +1289,7 @@ fn generated_histories() {
         let mut session = Session::new();
         generate(seed, 10_000, kind, &mut |line| {
             chars += line.len() + 1;
-            let before = *session.gateway();
+            let (before, lent) = (*session.gateway(), session.hold().to_vec());
             let mut out = Vec::new();
             session.line(line, &mut out);
             let result = String::from_utf8(out).unwrap();
@@ -868,9 +1299,16 @@ fn generated_histories() {
             let mut words: Vec<&str> = text.split(' ').collect();
             if result.is_empty() || result == "?" {
                 assert_eq!(before, after);
+                assert!(lent == session.hold());
                 return Ok(());
             }
             let first = words[0];
+            if first == "plan" {
+                tally.end(&before);
+            }
+            if !["plan", "hold", "paint"].contains(&first) {
+                tally.line(&before);
+            }
             let skip = match first {
                 "reach" => 1,
                 "bytes" => 3,
@@ -896,7 +1334,7 @@ fn generated_histories() {
             };
             compared += 1;
             if first == "reach" {
-                let reached = plain::reach(&before, event, list);
+                let reached = plain::reach(&before, &lent, event, list);
                 let reached: Vec<String> = reached.iter().map(|a| a.to_string()).collect();
                 let expected = if reached.is_empty() {
                     "-".into()
@@ -909,7 +1347,7 @@ fn generated_histories() {
             }
             if first == "bytes" {
                 let room = numbers[1].min(8192) as usize;
-                let expected = match plain::bytes(&before, event, numbers[0], room) {
+                let expected = match plain::bytes(&before, &lent, event, numbers[0], room) {
                     Ok(bytes) => {
                         assert_eq!(read(&bytes).code, 0);
                         format!("0 {}", hex(&bytes))
@@ -922,13 +1360,14 @@ fn generated_histories() {
                 assert_eq!(before, after);
                 return Ok(());
             }
-            match plain::event(&before, event, list) {
+            match plain::event(&before, &lent, event, list) {
                 Err(code) => {
                     *results.entry(format!("R {code}")).or_insert(0) += 1;
                     assert_eq!(result, format!("R {code}"), "{text}");
                     assert_eq!(before, after);
+                    assert!(lent == session.hold());
                 }
-                Ok((orders, next)) => {
+                Ok((orders, next, hold)) => {
                     let mut expected = format!("N {}", orders.len());
                     for [a, c, s, v] in &orders {
                         expected += &format!(" ({a},{c},{s},{v})");
@@ -942,12 +1381,20 @@ fn generated_histories() {
                     most = most.max(orders.len());
                     assert_eq!(result, expected, "{text}");
                     assert_eq!(after, next, "{text}");
+                    assert!(hold == session.hold(), "{text}");
                     assert!(is_sound(&after));
+                    tally.event(name, &before, &after, &bytes);
                     states.extend(&after.state[..after.links as usize]);
                     modes.extend(&after.mode[..after.ases as usize]);
                     // What is not reached is as it was.
-                    let reached = before.reach(event, list);
+                    let reached = before.reach(event, lent.len(), list);
                     for a in (0..16).filter(|a| !bits(reached).any(|b| b == *a)) {
+                        let place = 2184 * a..2184 * a + 2184;
+                        assert_eq!(lent[place.clone()], session.hold()[place]);
+                        assert_eq!(before.held[a], after.held[a]);
+                        for k in 0..8 {
+                            assert_eq!(before.unit(a, k), after.unit(a, k));
+                        }
                         assert_eq!(before.actives(a), after.actives(a));
                         assert_eq!(before.waiting[a], after.waiting[a]);
                         for link in (0..128).filter(|i| before.owner[*i] as usize == a) {
@@ -959,6 +1406,7 @@ fn generated_histories() {
             Ok(())
         })
         .unwrap();
+        tally.end(session.gateway());
     }
     println!("{compared} compared, most orders {most}, {chars} characters");
     println!("errors {errors:?}\nkinds {kinds:?}\nresults {results:?}");
@@ -969,9 +1417,30 @@ fn generated_histories() {
     let seen: Vec<&str> = results.keys().map(|key| &key[..]).collect();
     assert_eq!(
         seen,
-        ["0", "102", "103", "104", "105", "R 101", "R 102", "R 105"]
+        ["0", "102", "103", "104", "105", "106", "R 101", "R 102", "R 105", "R 106"]
     );
-    assert_eq!((states.len(), modes.len(), most), (4, 3, 258));
+    assert_eq!((states.len(), modes.len(), most), (4, 3, 385));
+    check_tally(&tally);
+}
+
+fn check_tally(tally: &Tally) {
+    let Tally {
+        came,
+        sent,
+        discarded,
+        turned_away,
+        still_held,
+        ..
+    } = *tally;
+    let idle = tally.idle / tally.lines as f64;
+    println!("{came} units came in pending: {sent} sent out, {discarded} discarded, {turned_away} turned away, {still_held} still held");
+    println!("{:.1} % of the links are idle", 100.0 * idle);
+    assert_eq!(came, sent + discarded + turned_away + still_held);
+    assert!(sent > 500 && discarded > 100 && turned_away > 100 && still_held > 0);
+    // Every length that a unit can have is rare; both ends must be there.
+    assert!(tally.lengths.contains(&5) && tally.lengths.contains(&277));
+    assert!(tally.lengths.len() > 100 && tally.marks.len() == 2);
+    assert!(idle < 0.5);
 }
 
 /// Loads a generated plan: `load` and the script agree.

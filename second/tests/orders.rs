@@ -4,7 +4,7 @@
 use second::bytes::Batch;
 use second::generate::{generate, Kind, Rng};
 use second::script::Session;
-use second::{load, Event, Gateway, Params};
+use second::{load, Event, Gateway, Params, HOLD_BYTES};
 use std::collections::BTreeMap;
 
 /// ASPs 7 and 8 in AS 0 (override, links 100 and 101) and AS 1 (load-share, no
@@ -111,8 +111,8 @@ fn active_inactive() {
     let of_100 = "01000401 00000010 00010008 00000064";
     let of_101 = "01000401 00000018 000b0008 00000001 00010008 00000065";
     check(&[
-        ("msg 0 1032", UP, both),
-        ("msg 1 1032", UP, "N 2 (1,772,0,0) (1,1,2,65538)"),
+        ("msg 0 1544", UP, both),
+        ("msg 1 1544", UP, "N 2 (1,772,0,0) (1,1,2,65538)"),
         ("bytes 0 msg 0 0", "01000401 00000008", "01000403 00000008"),
         // The mode comes first, then the identifiers as they came; the text
         // does not come.
@@ -129,7 +129,7 @@ fn active_inactive() {
             "01000001 0000001c 000d0008 00010003 0001000c 00000064 00000065",
         ),
         (
-            "msg 0 1032",
+            "msg 0 1544",
             of_100,
             "N 3 (0,1027,0,0) (0,1,0,65539) (1,1,0,65539)",
         ),
@@ -144,7 +144,7 @@ fn active_inactive() {
             of_101,
             "01000001 0000001c 000d0008 00020002 0001000c 00000064 00000065",
         ),
-        ("msg 1 1032", of_101, "N 2 (1,1027,0,0) (0,1,0,131074)"),
+        ("msg 1 1544", of_101, "N 2 (1,1027,0,0) (0,1,0,131074)"),
         ("bytes 0 msg 1 0", "01000402 00000008", "01000404 00000008"),
         (
             "bytes 0 msg 1 0",
@@ -163,7 +163,7 @@ fn active_inactive() {
             "01000001 0000001c 000d0008 00010004 0001000c 00000064 00000065",
         ),
         ("bytes 1 lost 1 0", "", "104"),
-        ("lost 1 1032", "", "N 1 (0,1,0,65540)"),
+        ("lost 1 1544", "", "N 1 (0,1,0,65540)"),
         (
             "bytes 0 recovery 0 0",
             "",
@@ -197,7 +197,7 @@ fn errors() {
     }
     let all = "N 4 (1,772,0,0) (1,1,0,65538) (1,1,1,65538) (1,1,2,65538)";
     check(&[
-        ("msg 1 1032", UP, all),
+        ("msg 1 1544", UP, all),
         // Of another mode than AS 0.
         (
             "bytes 0 msg 1 0",
@@ -229,19 +229,19 @@ fn links() {
     let released = "01000605 00000010 00010008 00000065";
     check(&[
         (
-            "msg 0 1032",
+            "msg 0 1544",
             UP,
             "N 3 (0,772,0,0) (0,1,0,65538) (0,1,1,65538)",
         ),
         (
-            "msg 0 1032",
+            "msg 0 1544",
             "01000401 00000008",
             "N 3 (0,1027,0,0) (0,1,0,65539) (0,1,1,65539)",
         ),
         ("bytes 0 msg 0 0", release, released),
         // To the link side.
         ("bytes 0 msg 0 0", establish, "104"),
-        ("msg 0 1032", establish, "N 1 (255,1538,101,0)"),
+        ("msg 0 1544", establish, "N 1 (255,1538,101,0)"),
         ("bytes 0 up 1 0", "", confirm),
         ("bytes 1 up 1 0", "", "104"),
         ("bytes 0 up 3 0", "", "102"),
@@ -250,7 +250,7 @@ fn links() {
             "",
             "01000606 00000010 00010008 00000065",
         ),
-        ("up 1 1032", "", "N 1 (0,1539,101,0)"),
+        ("up 1 1544", "", "N 1 (0,1539,101,0)"),
         ("bytes 0 msg 0 0", establish, confirm),
         // Data: first to the link side, then its Ack.
         (
@@ -263,7 +263,7 @@ fn links() {
             "01000601 00000020 00010008 00000065 03000005 61ffffff 00130008 89abcdef",
             "0100060f 00000018 00010008 00000065 00130008 89abcdef",
         ),
-        ("msg 0 1032", release, "N 1 (255,1540,101,0)"),
+        ("msg 0 1544", release, "N 1 (255,1540,101,0)"),
         ("bytes 0 down 1 0", "", released),
     ]);
 }
@@ -272,17 +272,17 @@ fn links() {
 fn link_side() {
     check(&[
         (
-            "msg 1 1032",
+            "msg 1 1544",
             UP,
             "N 4 (1,772,0,0) (1,1,0,65538) (1,1,1,65538) (1,1,2,65538)",
         ),
-        ("msg 2 1032", UP, "N 1 (2,772,0,0)"),
+        ("msg 2 1544", UP, "N 1 (2,772,0,0)"),
         (
-            "msg 1 1032",
+            "msg 1 1544",
             "01000401 00000010 00010008 12345678",
             "N 3 (1,1027,0,0) (1,1,2,65539) (2,1,2,65539)",
         ),
-        ("msg 2 1032", "01000401 00000008", "N 1 (2,1027,0,0)"),
+        ("msg 2 1544", "01000401 00000008", "N 1 (2,1027,0,0)"),
         // Both are active and both get it, with spare and padding zero.
         (
             "bytes 0 linkmsg 0",
@@ -368,10 +368,13 @@ fn fresh() -> Gateway {
     loaded.gateway
 }
 
+/// A hold that nothing was put in.
+static EMPTY: [u8; HOLD_BYTES] = [0; HOLD_BYTES];
+
 /// The state after messages of ASPs.
 fn after(messages: &[(u32, &str)]) -> Gateway {
     messages.iter().fold(fresh(), |gateway, (asp, message)| {
-        let next = gateway.message(*asp, &unhex(message), &mut [0; 1032]);
+        let next = gateway.message(*asp, &unhex(message), &mut EMPTY.clone(), &mut [0; 1544]);
         assert_eq!(next.code, 0);
         next.gateway
     })
@@ -381,11 +384,21 @@ fn after(messages: &[(u32, &str)]) -> Gateway {
 /// these lengths and these bytes. All else must stay.
 fn batch(
     (gateway, event): (&Gateway, Event),
+    at: (u32, usize, usize),
+    expected: Result<(&[u32], &str), u32>,
+) {
+    batch_lent(&EMPTY, (gateway, event), at, expected);
+}
+
+/// The same, lent a hold.
+fn batch_lent(
+    hold: &[u8],
+    (gateway, event): (&Gateway, Event),
     (place, slots, room): (u32, usize, usize),
     expected: Result<(&[u32], &str), u32>,
 ) {
     let (mut lens, mut out) = (vec![UNSET; slots], vec![STALE; room]);
-    let got = gateway.orders_bytes(event, place, &mut lens, &mut out);
+    let got = gateway.orders_bytes(event, hold, place, &mut lens, &mut out);
     let (code, written, bytes) = match expected {
         Ok((written, bytes)) => (0, written, unhex(bytes)),
         Err(code) => (code, &[][..], vec![]),
@@ -452,7 +465,9 @@ fn batch_of_an_up() {
 fn batch_with_the_link_side() {
     let establish = "01000602 00000010 00010008 00000065";
     let started = after(&[(0, UP), (0, "01000401 00000008"), (0, establish)]);
-    let gateway = &started.link_up(1, &mut [0; 1032]).gateway;
+    let gateway = &started
+        .link_up(1, &mut EMPTY.clone(), &mut [0; 1544])
+        .gateway;
     let message = unhex("01000601 00000020 00010008 00000065 03000005 61000000 00130008 89abcdef");
     let message = &message[..];
     let data = (gateway, Event::Message { asp: 0, message });
@@ -475,16 +490,80 @@ fn batch_with_the_link_side() {
     );
 }
 
+/// AS 0 gets three units in pending, AS 2 none and is down: two of one link that
+/// differ in their bytes alone, then one with a correlation id.
+fn three_held() -> (Gateway, Vec<u8>) {
+    let active = "01000401 00000008";
+    let state = after(&[(0, UP), (0, active), (0, "01000402 00000008")]);
+    let mut hold = vec![STALE; HOLD_BYTES];
+    let units = [
+        "01ff0601 00000018 00010008 00000065 03000005 61ffffff",
+        "01000601 00000018 00010008 00000065 03000005 62000000",
+        "01000601 00000024 00010008 00000064 00130008 00000000 03010009 31323334 35010203",
+    ];
+    let state = units.iter().fold(state, |gateway, message| {
+        let next = gateway.link_message(&unhex(message), &mut hold, &mut [0; 1544]);
+        assert_eq!((next.code, next.count), (0, 0));
+        next.gateway
+    });
+    (state, hold)
+}
+
+#[test]
+fn batch_of_held_units() {
+    let (gateway, hold) = three_held();
+    let message = unhex("01000401 00000008");
+    let message = &message[..];
+    let active = (&gateway, Event::Message { asp: 0, message });
+    let ack = "01000403 00000008";
+    let units = [
+        "01000601 00000018 00010008 00000065 03000005 61000000",
+        "01000601 00000018 00010008 00000065 03000005 62000000",
+        "01000601 00000024 00010008 00000064 03010009 31323334 35000000 00130008 00000000",
+    ];
+    let notify = "01000001 0000001c 000d0008 00010003 0001000c 00000064 00000065";
+    let without = "01000001 00000010 000d0008 00010003";
+    let all = [ack, units[0], units[1], units[2], notify, without].concat();
+    let lens = [8, 24, 24, 36, 28, 16];
+    batch_lent(&hold, active, (0, 6, 136), Ok((&lens, &all)));
+    batch_lent(&hold, active, (0, 9, 999), Ok((&lens, &all)));
+    // Each place first, and one byte too few for the next.
+    let all = [units[1], units[2]].concat();
+    batch_lent(&hold, active, (2, 9, 87), Ok((&[24, 36], &all)));
+    batch_lent(&hold, active, (2, 9, 59), Ok((&[24], units[1])));
+    batch_lent(&hold, active, (3, 1, 36), Ok((&[36], units[2])));
+    batch_lent(&hold, active, (3, 1, 35), Err(103));
+    batch_lent(&hold, active, (1, 1, 24), Ok((&[24], units[0])));
+    batch_lent(&hold, active, (6, 9, 99), Err(104));
+    // Before that a hold of another length, and before it a bad event.
+    batch_lent(&hold[1..], active, (6, 0, 0), Err(106));
+    batch_lent(&[], active, (0, 9, 99), Err(106));
+    let bad = (&gateway, Event::Message { asp: 3, message });
+    batch_lent(&[], bad, (0, 9, 99), Err(102));
+    let unsound = (&Gateway::ZERO, Event::Lost { asp: 0 });
+    batch_lent(&[], unsound, (0, 9, 99), Err(105));
+    // The fourth unit gives no order, and is not put in this hold.
+    let data = unhex("01000601 00000018 00010008 00000064 03000005 63000000");
+    let fourth = (&gateway, Event::LinkMessage { message: &data });
+    batch_lent(&hold, fourth, (0, 9, 99), Err(104));
+}
+
 /// The batch form, told by the single form: place by place until one does not
 /// go in.
-fn told(gateway: &Gateway, event: Event, place: u32, lens: &mut [u32], out: &mut [u8]) -> Batch {
+fn told(
+    (gateway, hold): (&Gateway, &[u8]),
+    event: Event,
+    place: u32,
+    lens: &mut [u32],
+    out: &mut [u8],
+) -> Batch {
     let refused = |code| Batch {
         code,
         count: 0,
         length: 0,
     };
-    let mut list = [0; 1032];
-    let next = gateway.event(event, &mut list);
+    let mut list = [0; 1544];
+    let next = gateway.event(event, &mut hold.to_vec(), &mut list);
     if next.code != 0 {
         return refused(next.code);
     }
@@ -494,7 +573,7 @@ fn told(gateway: &Gateway, event: Event, place: u32, lens: &mut [u32], out: &mut
     let (mut count, mut length) = (0, 0);
     while place + count < next.count && (count as usize) < lens.len() {
         let at = place + count;
-        let written = gateway.order_bytes(event, at, &mut out[length as usize..]);
+        let written = gateway.order_bytes(event, hold, at, &mut out[length as usize..]);
         match written.code {
             0 => {}
             104 => assert_eq!(list[4 * at as usize], 255),
@@ -548,7 +627,7 @@ fn generated_batches() {
     for (seed, kind) in [(5, Kind::Event), (6, Kind::Bytes)] {
         let mut session = Session::new();
         generate(seed, 10_000, kind, &mut |line| {
-            let gateway = *session.gateway();
+            let (gateway, hold) = (*session.gateway(), session.hold().to_vec());
             let mut result = Vec::new();
             session.line(line, &mut result);
             let text = String::from_utf8(line.to_vec()).unwrap();
@@ -560,14 +639,16 @@ fn generated_batches() {
             let Some(event) = event_of(&words, &mut message) else {
                 return Ok(());
             };
-            let count = gateway.event(event, &mut [0; 1032]).count as u64;
+            let next = gateway.event(event, &mut hold.clone(), &mut [0; 1544]);
+            let count = next.count as u64;
             let place = rng.below(count + 1 + count / 8) as u32;
-            let slots = rng.pick(&[0, 1, 2, 3, 17, 258, 300]);
+            let slots = rng.pick(&[0, 1, 2, 3, 17, 258, 386, 400]);
             let room = rng.pick(&[0, 8, 16, 24, 52, 64, 1000, 20_000]) + rng.below(40) as usize;
             let (mut lens, mut out) = (vec![UNSET; slots], vec![STALE; room]);
             let (mut told_lens, mut told_out) = (lens.clone(), out.clone());
-            let got = gateway.orders_bytes(event, place, &mut lens, &mut out);
-            let expected = told(&gateway, event, place, &mut told_lens, &mut told_out);
+            let got = gateway.orders_bytes(event, &hold, place, &mut lens, &mut out);
+            let lent = (&gateway, &hold[..]);
+            let expected = told(lent, event, place, &mut told_lens, &mut told_out);
             assert_eq!(got, expected, "{text}");
             assert_eq!((lens, out), (told_lens, told_out), "{text}");
             *codes.entry(got.code).or_insert(0) += 1;
@@ -578,7 +659,7 @@ fn generated_batches() {
     }
     println!("batches: results {codes:?}, most orders in one {most}");
     let codes: Vec<u32> = codes.into_keys().collect();
-    assert_eq!(codes, [0, 102, 103, 104, 105]);
+    assert_eq!(codes, [0, 102, 103, 104, 105, 106]);
     assert!(most > 100);
 }
 
@@ -591,6 +672,7 @@ fn kind_of(message: &[u8], event: &str) -> String {
     let (has_mode, has_ids) = (tags.contains(&0xb), tags.contains(&1) || tags.contains(&8));
     match (message[2], message[3]) {
         (6, kind) if event == "linkmsg" => format!("link side 6.{kind}"),
+        (6, 1) => format!("held unit, correlation id {}", tags.contains(&0x13)),
         (0, 0) => format!(
             "Error {}{}",
             word(12),
@@ -629,8 +711,8 @@ fn tally_of_bytes_lines() {
     let mut tally: BTreeMap<String, u32> = BTreeMap::new();
     let mut add = |what: String| *tally.entry(what).or_insert(0) += 1;
     let mut session = Session::new();
-    generate(1, 5000, Kind::Bytes, &mut |line| {
-        let gateway = *session.gateway();
+    generate(1, 8000, Kind::Bytes, &mut |line| {
+        let (gateway, hold) = (*session.gateway(), session.hold().to_vec());
         let mut result = Vec::new();
         session.line(line, &mut result);
         let result = String::from_utf8(result).unwrap();
@@ -649,7 +731,7 @@ fn tally_of_bytes_lines() {
         let event = event_of(&words[3..], &mut message).unwrap();
         let (code, hex) = result.split_once(' ').unwrap_or((result, ""));
         let mut whole = [0; 2048];
-        let length = gateway.order_bytes(event, place, &mut whole).length as usize;
+        let length = gateway.order_bytes(event, &hold, place, &mut whole).length as usize;
         match code {
             "0" => {
                 add(kind_of(&unhex(hex), words[3]));
@@ -675,8 +757,8 @@ fn tally_of_bytes_lines() {
                 });
             }
             "104" => {
-                let mut list = [0; 1032];
-                let count = gateway.event(event, &mut list).count;
+                let mut list = [0; 1544];
+                let count = gateway.event(event, &mut hold.clone(), &mut list).count;
                 add(match place {
                     _ if place < count => "104, to the link side".into(),
                     _ if place == count => "104, the first beyond".into(),
@@ -722,6 +804,11 @@ fn tally_of_bytes_lines() {
             "6.5",
             "6.6",
             "6.15",
+            "held unit, correlation id false",
+            "held unit, correlation id true",
+            "103 held unit, correlation id true",
+            "106 of msg",
+            "106 of linkmsg",
             "buffer exact",
             "buffer one longer",
             "buffer longer",

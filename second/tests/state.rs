@@ -73,6 +73,12 @@ fn sample_plan() {
     assert_eq!(g.active, [0; 256]);
     assert_eq!(g.waiting, [0; 16]);
     assert_eq!(g.state, [0; 128]);
+    assert_eq!(
+        (g.held, g.held_tag, g.held_len),
+        ([0; 16], [0; 128], [0; 128])
+    );
+    assert_eq!((g.held_marked, g.held_id), ([0; 128], [0; 128]));
+    assert_eq!(g.held_correlation, [0; 128]);
     assert!(is_sound(&g));
     assert!(!is_sound(&Gateway::ZERO));
 }
@@ -142,6 +148,33 @@ fn rows() {
     assert_eq!(two(&asp, &[1, 1], &[(5, 1)]), 0);
 }
 
+/// What the rules say of the units held, place by place.
+fn plainly_held(g: &Gateway) -> bool {
+    for a in 0..16 {
+        if g.held[a] > 8 || (g.held[a] > 0 && g.waiting[a] != 1) {
+            return false;
+        }
+        for k in 0..8 {
+            let i = 8 * a + k;
+            let (mark, number) = (g.held_marked[i], g.held_correlation[i]);
+            let unit = (g.held_tag[i], g.held_len[i], mark, g.held_id[i], number);
+            if k >= g.held[a] as usize {
+                if unit != (0, 0, 0, 0, 0) {
+                    return false;
+                }
+                continue;
+            }
+            let mut own = (0..g.links as usize).filter(|l| g.owner[*l] as usize == a);
+            let tag_and_length = [0x300, 0x301].contains(&unit.0) && (5..=277).contains(&unit.1);
+            let correlation = mark == 1 || (mark == 0 && number == 0);
+            if !tag_and_length || !correlation || !own.any(|l| g.link_id[l] == unit.3) {
+                return false;
+            }
+        }
+    }
+    true
+}
+
 /// Soundness as the rules say it (5.5 to 5.13 and 5.20), place by place.
 fn plainly_sound(g: &Gateway) -> bool {
     let (n, m, l) = (g.asps as usize, g.ases as usize, g.links as usize);
@@ -196,7 +229,7 @@ fn plainly_sound(g: &Gateway) -> bool {
             return false;
         }
     }
-    true
+    plainly_held(g)
 }
 
 /// A state with everything in use that can be.
@@ -215,7 +248,27 @@ fn busy(file: &[u8]) -> Gateway {
     for i in 0..g.links as usize {
         g.state[i] = (i % 4) as u8;
     }
+    for a in 0..g.ases as usize {
+        let own = (0..g.links as usize).filter(|l| g.owner[*l] as usize == a);
+        let own: Vec<u32> = own.map(|l| g.link_id[l]).collect();
+        if g.waiting[a] == 1 && !own.is_empty() {
+            hold(&mut g, a, 8 - a % 7, &own);
+        }
+    }
     g
+}
+
+/// AS a holds so many units of these links.
+fn hold(g: &mut Gateway, a: usize, count: usize, ids: &[u32]) {
+    g.held[a] = count as u8;
+    for k in 0..count {
+        let i = 8 * a + k;
+        g.held_tag[i] = 0x300 + (k % 2) as u16;
+        g.held_len[i] = [5, 277, 6, 100][k % 4];
+        g.held_marked[i] = (k % 3 != 0) as u16;
+        g.held_id[i] = ids[k / 2 % ids.len()];
+        g.held_correlation[i] = if k % 3 == 1 { 77 } else { 0 };
+    }
 }
 
 #[test]
@@ -253,6 +306,7 @@ fn every_byte_of_a_state() {
             check(&|g, b| g.up[i] = b);
             check(&|g, b| g.mode[i] = b);
             check(&|g, b| g.waiting[i] = b);
+            check(&|g, b| g.held[i] = b);
         }
         for i in 0..256 {
             check(&|g, b| g.member[i] = b);
@@ -264,6 +318,16 @@ fn every_byte_of_a_state() {
             check(&|g, b| g.link_id[i] = u32::MAX - b as u32);
             check(&|g, b| g.owner[i] = b);
             check(&|g, b| g.state[i] = b);
+            check(&|g, b| g.held_tag[i] = b as u16);
+            check(&|g, b| g.held_tag[i] = 0x2fe + b as u16);
+            check(&|g, b| g.held_len[i] = b as u16);
+            check(&|g, b| g.held_len[i] = 150 + b as u16);
+            check(&|g, b| g.held_len[i] = 0x8005 + b as u16);
+            check(&|g, b| g.held_marked[i] = b as u16);
+            check(&|g, b| g.held_marked[i] = 256 * b as u16);
+            check(&|g, b| g.held_id[i] = b as u32);
+            check(&|g, b| g.held_id[i] = g.link_id[b as usize % 128]);
+            check(&|g, b| g.held_correlation[i] = b as u32);
         }
     }
     assert!(sound > 1000);
@@ -285,12 +349,61 @@ fn two_active_in_override() {
 }
 
 #[test]
+fn units_held() {
+    let mut waits = load(&plan_s()).gateway;
+    waits.waiting[0] = 1;
+    let changed = |change: &dyn Fn(&mut Gateway)| {
+        let mut g = waits;
+        hold(&mut g, 0, 8, &[100, 115]);
+        assert!(is_sound(&g));
+        change(&mut g);
+        is_sound(&g)
+    };
+    // Both ends of each limit.
+    for (length, sound) in [(4, false), (5, true), (277, true), (278, false)] {
+        assert_eq!(changed(&|g| g.held_len[3] = length), sound);
+    }
+    for (tag, sound) in [(0x2ff, false), (0x300, true), (0x301, true), (0x302, false)] {
+        assert_eq!(changed(&|g| g.held_tag[3] = tag), sound);
+    }
+    // A link of another AS, and none.
+    for (id, sound) in [
+        (99, false),
+        (100, true),
+        (115, true),
+        (116, false),
+        (200, false),
+    ] {
+        assert_eq!(changed(&|g| g.held_id[3] = id), sound);
+    }
+    assert!(!changed(&|g| g.held[0] = 7));
+    assert!(!changed(&|g| g.held[0] = 9));
+    assert!(!changed(&|g| g.waiting[0] = 0));
+    // No correlation id, and 0 as one.
+    assert!(changed(
+        &|g| (g.held_marked[1], g.held_correlation[1]) = (0, 0)
+    ));
+    assert!(changed(
+        &|g| (g.held_marked[1], g.held_correlation[1]) = (1, 0)
+    ));
+    assert!(!changed(
+        &|g| (g.held_marked[1], g.held_correlation[1]) = (0, 1)
+    ));
+    assert!(!changed(
+        &|g| (g.held_marked[1], g.held_correlation[1]) = (2, 1)
+    ));
+    // The first unit of an AS that holds none.
+    assert!(!changed(&|g| g.held[1] = 1));
+    assert!(!changed(&|g| g.held_id[8] = 200));
+}
+
+#[test]
 fn script() {
     let hex: String = plan_s().iter().map(|b| format!("{b:02x}")).collect();
     let script = format!("state\nplan {hex}\nstate\nplan 00\nstate\nstate \nplan\nplan 0\n");
-    let expected = "up= active= waiting= links=\n0\n\
-                    up=000 active= waiting=00 links=00000000000000000\n201\n\
-                    up= active= waiting= links=\n?\n?\n?\n";
+    let expected = "up= active= waiting= links= held=\n0\n\
+                    up=000 active= waiting=00 links=00000000000000000 held=\n201\n\
+                    up= active= waiting= links= held=\n?\n?\n?\n";
     assert_eq!(run(script.as_bytes()), expected.as_bytes());
 }
 

@@ -1,23 +1,22 @@
 //! Times events of the proved library against the hand-written second program, both in this one run. A time is of one call: the state goes in by value
-//! and comes out by value. Each call is first checked to give the same on both sides: refusal, count, state and the whole list of words.
+//! and comes out by value. Each call is first checked to give the same on both sides: refusal, count, state, the whole list of words and the whole hold.
+use bench::holds::{full_hold, held_on_plan_s};
 use bench::messages::{active_of, bytes, data, message, number, sample_m};
 use bench::plans::{full_plan, plan_s};
 use bench::{proved, timing};
-use second::{load, Gateway, Next};
+use second::events::LIST_WORDS as ROOM;
+use second::{load, Gateway, Next, HOLD_BYTES};
 use std::hint::black_box;
-
-/// Room for the most orders of an event.
-const ROOM: usize = 1032;
 
 // The hand-written baseline gets the state by value too.
 #[inline(never)]
-fn hand_message(state: Gateway, p: u32, msg: &[u8], words: &mut [u32]) -> Next {
-    state.message(p, msg, words)
+fn hand_message(state: Gateway, p: u32, msg: &[u8], hold: &mut [u8], words: &mut [u32]) -> Next {
+    state.message(p, msg, hold, words)
 }
 
 #[inline(never)]
-fn hand_link_message(state: Gateway, msg: &[u8], words: &mut [u32]) -> Next {
-    state.link_message(msg, words)
+fn hand_link_message(state: Gateway, msg: &[u8], hold: &mut [u8], words: &mut [u32]) -> Next {
+    state.link_message(msg, hold, words)
 }
 
 /// A message of ASP p at a state.
@@ -26,9 +25,10 @@ type Call<'a> = (Gateway, u32, &'a [u8]);
 /// The calls in turn; all must give so many orders.
 fn messages(name: &str, calls: &[Call], orders: u32) {
     let (mut x, mut y) = ([0xaa; ROOM], [0xaa; ROOM]);
+    let mut w = vec![0xaa; HOLD_BYTES];
     for (state, p, msg) in calls {
         let a = proved::message(*state, *p as usize, msg, &mut x);
-        let b = hand_message(*state, *p, msg, &mut y);
+        let b = hand_message(*state, *p, msg, &mut w, &mut y);
         assert_eq!((a.refusal, a.count), (b.code, b.count as usize), "{name}");
         assert_eq!((b.code, b.count), (0, orders), "{name}");
         assert!(a.gateway == b.gateway && x == y, "{name}");
@@ -44,29 +44,30 @@ fn messages(name: &str, calls: &[Call], orders: u32) {
         || {
             j = (j + 1) % calls.len();
             let (state, p, msg) = black_box(&calls[j]);
-            hand_message(*state, *p, msg, &mut y)
+            hand_message(*state, *p, msg, &mut w, &mut y)
         },
     );
 }
 
 fn link_message(name: &str, state: &Gateway, msg: &[u8], orders: u32) {
     let (mut x, mut y) = ([0xaa; ROOM], [0xaa; ROOM]);
+    let mut w = vec![0xaa; HOLD_BYTES];
     let a = proved::link_message(*state, msg, &mut x);
-    let b = hand_link_message(*state, msg, &mut y);
+    let b = hand_link_message(*state, msg, &mut w, &mut y);
     assert_eq!((a.refusal, a.count), (b.code, b.count as usize), "{name}");
     assert_eq!((b.code, b.count), (0, orders), "{name}");
     assert!(a.gateway == b.gateway && x == y, "{name}");
     timing::compare(
         name,
         || proved::link_message(*black_box(state), msg, &mut x),
-        || hand_link_message(*black_box(state), msg, &mut y),
+        || hand_link_message(*black_box(state), msg, &mut w, &mut y),
     );
 }
 
 /// The state after messages of ASPs.
 fn after(state: Gateway, msgs: &[(u32, &[u8])]) -> Gateway {
     msgs.iter().fold(state, |g, (p, msg)| {
-        let next = g.message(*p, msg, &mut [0; ROOM]);
+        let next = g.message(*p, msg, &mut [0; HOLD_BYTES], &mut [0; ROOM]);
         assert_eq!(next.code, 0);
         next.gateway
     })
@@ -77,7 +78,8 @@ fn in_service(state: Gateway, p: u32, ids: &[u32]) -> Gateway {
     ids.iter().fold(state, |g, id| {
         let g = after(g, &[(p, &message(6, 2, &[number(0x1, *id)]))]);
         let place = g.link_id.iter().position(|x| x == id).expect("a link");
-        g.link_up(place as u32, &mut [0; ROOM]).gateway
+        g.link_up(place as u32, &mut [0; HOLD_BYTES], &mut [0; ROOM])
+            .gateway
     })
 }
 
@@ -131,8 +133,23 @@ fn on_full_plan() {
     messages("the same, ids mixed, full plan", &[(idle, 0, &mixed)], 257);
 }
 
+fn with_units() {
+    let unit = data(100);
+    for (name, count) in [("the first", 0), ("the eighth", 7), ("the ninth", 8)] {
+        let name = format!("Data held, {name}, plan S");
+        link_message(&name, &held_on_plan_s(count).0, &unit, 0);
+    }
+    let (beat, all) = (message(3, 3, &[]), message(4, 1, &[]));
+    let one = held_on_plan_s(8).0;
+    messages("Active, 8 units, plan S", &[(one, 0, &all)], 11);
+    let full = full_hold().0;
+    messages("Beat, 128 units held", &[(full, 0, &beat)], 1);
+    messages("Active in 16 ASes, 128 units", &[(full, 0, &all)], 385);
+}
+
 fn main() {
     timing::heading();
     on_plan_s();
     on_full_plan();
+    with_units();
 }

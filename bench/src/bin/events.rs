@@ -1,6 +1,6 @@
-//! Generated histories of events, call by call through the proved library and through the second program: refusal, count, next state and the whole list
-//! of words must be the same. `events SEED LINES`.
-use bench::lines::{generated, Line};
+//! Generated histories of events, call by call through the proved library and through the second program: refusal, count, next state, the whole list
+//! of words and the whole hold must be the same, and a hold of another length must stay. `events SEED LINES`.
+use bench::lines::{generated, Hold, Line};
 use bench::proved::Outcome;
 use second::{load, Gateway, Next};
 
@@ -15,18 +15,24 @@ fn main() {
     let mut state = Gateway::ZERO;
     let (mut tried, mut refused, mut orders, mut failures) = (0, 0, 0, 0);
     let mut kinds = [0u32; 6];
+    let (mut v, mut w) = (Hold::default(), Hold::default());
     for line in generated(seed, lines) {
         let call = match line {
             Line::Plan(file) => {
                 state = load(&file).gateway;
                 continue;
             }
+            Line::Paint(byte) => {
+                v.kept.fill(byte);
+                w.kept.fill(byte);
+                continue;
+            }
             Line::Call(call) => call,
         };
         let (mut x, mut y) = (call.list(), call.list());
-        let a = call.proved(state, &mut x);
-        let b = call.second(state, &mut y);
-        if differs(&a, &b, &x, &y) {
+        let a = call.proved(state, v.lend(call.hold), &mut x);
+        let b = call.second(state, w.lend(call.hold), &mut y);
+        if differs(&a, &b, &x, &y) || v != w || !w.other_untouched() {
             failures += 1;
             if failures <= 5 {
                 println!("differs: {call:?}");

@@ -1,54 +1,66 @@
 //! Times actions as bytes, of the proved library against the hand-written second program, both in this one run. A time is of one call: the state goes
 //! in by value, the event is run, and the bytes are written. Each call is first checked to give the same on both sides: result, lengths and all bytes.
+use bench::holds::full_hold;
 use bench::lines::{Call, What};
 use bench::messages::{active_of, data, message, number};
 use bench::plans::{full_plan, plan, plan_s};
 use bench::timing;
-use second::{load, Batch, Gateway, Written};
+use second::events::LIST_WORDS as ROOM;
+use second::{load, Batch, Gateway, Written, HOLD_BYTES};
 use std::hint::black_box;
 
-const ROOM: usize = 1032;
+/// The state that an event meets, and the hold.
+type Met<'a> = (&'a Gateway, &'a [u8]);
+
+/// A hold that no unit is in.
+static EMPTY: [u8; HOLD_BYTES] = [0; HOLD_BYTES];
 
 // The hand-written baseline gets the state by value too.
 #[inline(never)]
-fn hand_order(state: Gateway, call: &Call, place: u32, out: &mut [u8]) -> Written {
-    state.order_bytes(call.event(), place, out)
+fn hand_order(state: Gateway, hold: &[u8], call: &Call, place: u32, out: &mut [u8]) -> Written {
+    state.order_bytes(call.event(), hold, place, out)
 }
 
 #[inline(never)]
-fn hand_orders(state: Gateway, call: &Call, place: u32, lens: &mut [u32], out: &mut [u8]) -> Batch {
-    state.orders_bytes(call.event(), place, lens, out)
+fn hand_orders(
+    state: Gateway,
+    hold: &[u8],
+    call: &Call,
+    lens: &mut [u32],
+    out: &mut [u8],
+) -> Batch {
+    state.orders_bytes(call.event(), hold, 0, lens, out)
 }
 
 /// One action; its message must have so many bytes.
-fn single(name: &str, state: &Gateway, call: &Call, place: usize, length: usize) {
+fn single(name: &str, (state, hold): Met, call: &Call, place: usize, length: usize) {
     let (mut x, mut y) = ([0xaa; 2048], [0xaa; 2048]);
-    let a = call.order(state, place, &mut x);
-    let b = hand_order(*state, call, place as u32, &mut y);
+    let a = call.order(state, hold, place, &mut x);
+    let b = hand_order(*state, hold, call, place as u32, &mut y);
     assert_eq!((a.code, a.length), (b.code, b.length as usize), "{name}");
     assert_eq!((a.code, a.length), (0, length), "{name}");
     assert!(x == y, "{name}");
     timing::compare(
         name,
-        || call.order(black_box(state), place, &mut x),
-        || hand_order(*black_box(state), call, place as u32, &mut y),
+        || call.order(black_box(state), hold, place, &mut x),
+        || hand_order(*black_box(state), hold, call, place as u32, &mut y),
     );
 }
 
 /// All actions of an event; there must be so many.
-fn batch(name: &str, state: &Gateway, call: &Call, count: usize) {
-    let (mut x, mut y) = ([0xaa; 16384], [0xaa; 16384]);
-    let (mut k, mut l) = ([0xaa; 258], [0xaa; 258]);
-    let a = call.orders(state, 0, &mut k, &mut x);
-    let b = hand_orders(*state, call, 0, &mut l, &mut y);
+fn batch(name: &str, (state, hold): Met, call: &Call, count: usize) {
+    let (mut x, mut y) = ([0xaa; 32768], [0xaa; 32768]);
+    let (mut k, mut l) = ([0xaa; 386], [0xaa; 386]);
+    let a = call.orders(state, hold, 0, &mut k, &mut x);
+    let b = hand_orders(*state, hold, call, &mut l, &mut y);
     let numbers = (b.code, b.count as usize, b.length as usize);
     assert_eq!((a.code, a.count, a.length), numbers, "{name}");
     assert_eq!((a.code, a.count), (0, count), "{name}");
     assert!(x == y && k == l, "{name}");
     timing::compare(
         name,
-        || call.orders(black_box(state), 0, &mut k, &mut x),
-        || hand_orders(*black_box(state), call, 0, &mut l, &mut y),
+        || call.orders(black_box(state), hold, 0, &mut k, &mut x),
+        || hand_orders(*black_box(state), hold, call, &mut l, &mut y),
     );
 }
 
@@ -57,6 +69,7 @@ fn of(what: What, index: u32, message: Vec<u8>) -> Call {
         what,
         index,
         message,
+        hold: HOLD_BYTES,
         room: ROOM,
     }
 }
@@ -64,7 +77,7 @@ fn of(what: What, index: u32, message: Vec<u8>) -> Call {
 /// The state after events.
 fn after(state: Gateway, calls: &[Call]) -> Gateway {
     calls.iter().fold(state, |g, call| {
-        let next = call.second(g, &mut [0; ROOM]);
+        let next = call.second(g, &mut EMPTY.clone(), &mut [0; ROOM]);
         assert_eq!(next.code, 0);
         next.gateway
     })
@@ -79,19 +92,45 @@ fn main() {
     let ups: Vec<Call> = (0..16).map(up).collect();
     let idle = after(full, &ups);
     let active = of(What::Message, 0, active_of((0..500).map(|i| i % 128 * 3)));
-    single("Ack of an Active of 500 ids", &idle, &active, 0, 2012);
+    single(
+        "Ack of an Active of 500 ids",
+        (&idle, &EMPTY),
+        &active,
+        0,
+        2012,
+    );
 
     let links: Vec<(u32, u32)> = (0..128).map(|l| (l * 3, 0)).collect();
     let wide = load(&plan(&[(7, 1), (8, 1)], &[1], &links)).gateway;
-    single("Notify of 128 ids", &wide, &up(0), 1, 8 + 8 + 4 + 512);
+    single(
+        "Notify of 128 ids",
+        (&wide, &EMPTY),
+        &up(0),
+        1,
+        8 + 8 + 4 + 512,
+    );
 
     let establish = of(What::Message, 0, message(6, 2, &[number(0x1, 100)]));
     let in_service = of(What::LinkUp, 0, vec![]);
     let fresh = load(&plan_s()).gateway;
     let serving = after(fresh, &[up(0), all(0), establish, in_service]);
     let passed_on = of(What::LinkMessage, 0, data(100));
-    single("Data of 88 bytes passed on", &serving, &passed_on, 0, 88);
+    single(
+        "Data of 88 bytes passed on",
+        (&serving, &EMPTY),
+        &passed_on,
+        0,
+        88,
+    );
 
     let one = after(idle, &[all(0)]);
-    batch("all 258 actions of an Up", &one, &up(0), 258);
+    batch("all 258 actions of an Up", (&one, &EMPTY), &up(0), 258);
+    from_the_hold(&all(0));
+}
+
+fn from_the_hold(active: &Call) {
+    let (state, hold) = full_hold();
+    let held = (&state, &hold[..]);
+    single("Data of 88 bytes from the hold", held, active, 368, 88);
+    batch("all 385 actions of an Active", held, active, 385);
 }

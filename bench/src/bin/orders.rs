@@ -1,8 +1,9 @@
 //! Actions as bytes, call by call through the proved library and through the second program. Of each event of generated histories every place is
 //! tried, with buffers of the message's length, one short, longer and of no byte, and so is the batch form from random places, with random lists and buffers,
 //! also against the single form. Results and all bytes and lengths, with guards around what is lent, must be the same. `orders SEED LINES`.
-use bench::lines::{generated_of, Call, Line};
+use bench::lines::{generated_of, Call, Hold, Line};
 use bench::proved::{self, Batch, Written};
+use second::events::LIST_WORDS;
 use second::generate::{Kind, Rng};
 use second::{load, Gateway};
 use std::collections::BTreeMap;
@@ -11,6 +12,9 @@ use std::collections::BTreeMap;
 const GUARD: usize = 64;
 const LEFT: u8 = 0xa5;
 const UNSET: u32 = 0xdead_beef;
+
+/// The state that an event meets, and the hold that it is lent.
+type Met<'a> = (&'a Gateway, &'a [u8]);
 
 /// A slice to lend, with guards.
 struct Lent<T>(Vec<T>);
@@ -51,10 +55,10 @@ impl Tried {
     }
 
     /// One place with one buffer.
-    fn single(&mut self, call: &Call, state: &Gateway, place: usize, room: usize) {
+    fn single(&mut self, call: &Call, (state, hold): Met, place: usize, room: usize) {
         let (mut x, mut y) = (Lent::new(room, LEFT), Lent::new(room, LEFT));
-        let a = call.order(state, place, x.lend());
-        let b = state.order_bytes(call.event(), place as u32, y.lend());
+        let a = call.order(state, hold, place, x.lend());
+        let b = state.order_bytes(call.event(), hold, place as u32, y.lend());
         let same = (a.code, a.length) == (b.code, b.length as usize) && x.0 == y.0;
         self.expect(same, call, "single", place, room);
         self.singles += 1;
@@ -65,24 +69,26 @@ impl Tried {
         }
     }
 
-    fn all_places(&mut self, call: &Call, state: &Gateway, count: usize, rng: &mut Rng) {
+    fn all_places(&mut self, call: &Call, met: Met, count: usize, rng: &mut Rng) {
         for place in (0..count + 2).chain([u32::MAX as usize]) {
             let mut whole = [0; 2048];
-            let length = state
-                .order_bytes(call.event(), place as u32, &mut whole)
+            let length = met
+                .0
+                .order_bytes(call.event(), met.1, place as u32, &mut whole)
                 .length as usize;
-            self.single(call, state, place, length);
-            self.single(call, state, place, length + 1 + rng.below(99) as usize);
-            self.single(call, state, place, 0);
+            self.single(call, met, place, length);
+            self.single(call, met, place, length + 1 + rng.below(99) as usize);
+            self.single(call, met, place, 0);
             if length > 0 {
-                self.single(call, state, place, length - 1);
-                self.single(call, state, place, rng.below(length as u64) as usize);
+                self.single(call, met, place, length - 1);
+                self.single(call, met, place, rng.below(length as u64) as usize);
             }
         }
     }
 
     /// One batch.
-    fn batch(&mut self, call: &Call, state: &Gateway, place: usize, slots: usize, room: usize) {
+    fn batch(&mut self, call: &Call, met: Met, place: usize, slots: usize, room: usize) {
+        let (state, hold) = met;
         let (mut x, mut y, mut z) = (
             Lent::new(room, LEFT),
             Lent::new(room, LEFT),
@@ -93,12 +99,12 @@ impl Tried {
             Lent::new(slots, UNSET),
             Lent::new(slots, UNSET),
         );
-        let a = call.orders(state, place, k.lend(), x.lend());
-        let b = state.orders_bytes(call.event(), place as u32, l.lend(), y.lend());
+        let a = call.orders(state, hold, place, k.lend(), x.lend());
+        let b = state.orders_bytes(call.event(), hold, place as u32, l.lend(), y.lend());
         let numbers = (b.code, b.count as usize, b.length as usize);
         let same = (a.code, a.count, a.length) == numbers && k.0 == l.0 && x.0 == y.0;
         self.expect(same, call, "batch", place, room);
-        let c = by_singles(call, state, place, m.lend(), z.lend());
+        let c = by_singles(call, met, place, m.lend(), z.lend());
         let same = a == c && k.0 == m.0 && x.0 == z.0;
         self.expect(same, call, "batch against single", place, room);
         self.batches += 1;
@@ -106,29 +112,29 @@ impl Tried {
         self.most = self.most.max(a.count);
     }
 
-    fn some_batches(&mut self, call: &Call, state: &Gateway, count: usize, rng: &mut Rng) {
+    fn some_batches(&mut self, call: &Call, met: Met, count: usize, rng: &mut Rng) {
         for _ in 0..3 {
             let place = rng.below(count as u64 + 2) as usize;
-            let slots = rng.pick(&[0, 1, 2, 3, 8, 257, 258, 300]);
+            let slots = rng.pick(&[0, 1, 2, 3, 8, 257, 258, 385, 400]);
             let room = rng.pick(&[0, 8, 16, 24, 48, 64, 100, 1000, 14_000]);
-            self.batch(call, state, place, slots, room + rng.below(48) as usize);
+            self.batch(call, met, place, slots, room + rng.below(48) as usize);
         }
-        self.batch(call, state, 0, 258, 65_536);
+        self.batch(call, met, 0, 386, 65_536);
     }
 
     /// What a host does: batch after batch until all are written. The messages are those of the single form.
-    fn host(&mut self, call: &Call, state: &Gateway, count: usize, rng: &mut Rng) {
+    fn host(&mut self, call: &Call, (state, hold): Met, count: usize, rng: &mut Rng) {
         let (slots, room) = (rng.range(1, 40) as usize, 2048 + rng.below(4096) as usize);
         let (mut lens, mut out) = (vec![UNSET; slots], vec![LEFT; room]);
         let mut place = 0;
         while place < count {
-            let batch = call.orders(state, place, &mut lens, &mut out);
+            let batch = call.orders(state, hold, place, &mut lens, &mut out);
             let mut at = 0;
             let mut same = batch.code == 0 && batch.count > 0;
             for (i, len) in lens[..batch.count].iter().enumerate() {
                 let end = at + *len as usize;
                 let mut message = [0; 2048];
-                let one = call.order(state, place + i, &mut message);
+                let one = call.order(state, hold, place + i, &mut message);
                 same &= one.length == *len as usize && out[at..end] == message[..one.length];
                 at = end;
             }
@@ -143,7 +149,7 @@ impl Tried {
     }
 
     /// Numbers beyond 32 bits are not cut, and a kind that there is not is an ASP beyond the plan.
-    fn wide(&mut self, call: &Call, state: &Gateway, refusal: u32) {
+    fn wide(&mut self, call: &Call, (state, _hold): Met, refusal: u32) {
         let (far, kind, index) = (1 << 32, call.what as u32, call.index as usize);
         let wrong = if state.is_sound() { 102 } else { 105 };
         let beyond = match refusal {
@@ -180,7 +186,7 @@ impl Tried {
 /// The batch form, told by the single form of the proved library.
 fn by_singles(
     call: &Call,
-    state: &Gateway,
+    (state, hold): Met,
     place: usize,
     lens: &mut [u32],
     out: &mut [u8],
@@ -190,8 +196,8 @@ fn by_singles(
         count: 0,
         length: 0,
     };
-    let mut words = [0; 1032];
-    let next = call.second(*state, &mut words);
+    let mut words = [0; LIST_WORDS];
+    let next = call.second(*state, &mut hold.to_vec(), &mut words);
     if next.code != 0 {
         return refused(next.code);
     }
@@ -200,7 +206,7 @@ fn by_singles(
     }
     let (mut count, mut length) = (0, 0);
     while place + count < next.count as usize && count < lens.len() {
-        let written = call.order(state, place + count, &mut out[length..]);
+        let written = call.order(state, hold, place + count, &mut out[length..]);
         let to_link_side = words[4 * (place + count)] == 255;
         match written {
             Written { code: 0, .. } if !to_link_side => {}
@@ -231,22 +237,29 @@ fn main() {
     let mut events = 0;
     for kind in [Kind::Event, Kind::Bytes] {
         let mut state = Gateway::ZERO;
+        let mut hold = Hold::default();
         for line in generated_of(kind, seed, lines / 2) {
             let mut call = match line {
                 Line::Plan(file) => {
                     state = load(&file).gateway;
                     continue;
                 }
+                Line::Paint(byte) => {
+                    hold.kept.fill(byte);
+                    continue;
+                }
                 Line::Call(call) => call,
             };
             // the list's length plays no part
-            call.room = 1032;
-            let next = call.second(state, &mut [0; 1032]);
+            call.room = LIST_WORDS;
+            let before = hold.lent(call.hold).to_vec();
+            let next = call.second(state, hold.lend(call.hold), &mut [0; LIST_WORDS]);
             let count = next.count as usize;
-            tried.all_places(&call, &state, count, &mut rng);
-            tried.some_batches(&call, &state, count, &mut rng);
-            tried.host(&call, &state, count, &mut rng);
-            tried.wide(&call, &state, next.code);
+            let met = (&state, &before[..]);
+            tried.all_places(&call, met, count, &mut rng);
+            tried.some_batches(&call, met, count, &mut rng);
+            tried.host(&call, met, count, &mut rng);
+            tried.wide(&call, met, next.code);
             events += 1;
             state = next.gateway;
         }

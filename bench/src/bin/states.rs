@@ -1,5 +1,6 @@
 //! States that break one condition of soundness each, field by field: the proved library's verdict against the expected one; and every value that
 //! matters in every entry of every field, against the second program's verdict.
+use bench::holds::full_hold;
 use bench::plans::{full_plan, plan_s};
 use bench::proved;
 use second::{is_sound, load, Gateway};
@@ -60,6 +61,69 @@ const KEEPS: &[Break] = &[
     ("an AS without members", |g| g.member[16 + 2] = 0),
 ];
 
+/// Each breaks one condition alone on that state with AS 1 waiting and two units of link 200, of which the second has a correlation id.
+const HELD_BREAKS: &[Break] = &[
+    ("units and not waiting", |g| g.waiting[1] = 0),
+    ("a unit of an AS with an active member", |g| {
+        g.held[0] = 1;
+        (g.held_tag[0], g.held_len[0], g.held_id[0]) = (0x300, 5, 100)
+    }),
+    ("nine units", |g| {
+        fill(g, 8);
+        g.held[1] = 9
+    }),
+    ("one unit fewer than the tables have", |g| g.held[1] = 1),
+    ("one unit more than the tables have", |g| g.held[1] = 3),
+    ("a unit's tag 0x2ff", |g| g.held_tag[8] = 0x2ff),
+    ("a unit's tag 0x302", |g| g.held_tag[8] = 0x302),
+    ("a unit's length 4", |g| g.held_len[8] = 4),
+    ("a unit's length 278", |g| g.held_len[8] = 278),
+    ("a unit of a link that there is not", |g| g.held_id[8] = 201),
+    ("a unit of another AS's link", |g| g.held_id[8] = 100),
+    ("a unit's mark of 2", |g| g.held_marked[9] = 2),
+    ("a correlation id without its mark", |g| {
+        g.held_marked[9] = 0
+    }),
+    ("a tag beyond the units", |g| g.held_tag[10] = 0x300),
+    ("a length beyond the units", |g| g.held_len[10] = 5),
+    ("a mark beyond the units", |g| g.held_marked[10] = 1),
+    ("an identifier beyond the units", |g| g.held_id[10] = 200),
+    ("a correlation id beyond the units", |g| {
+        g.held_correlation[10] = 1
+    }),
+    ("a count beyond the ASes", |g| g.held[2] = 1),
+    ("an identifier beyond the ASes", |g| g.held_id[16] = 200),
+];
+
+/// Each leaves it sound.
+const HELD_KEEPS: &[Break] = &[
+    ("nothing", |_| {}),
+    ("no units", |g| fill(g, 0)),
+    ("eight units", |g| fill(g, 8)),
+    ("a unit's tag 0x301", |g| g.held_tag[8] = 0x301),
+    ("a unit's length 277", |g| g.held_len[8] = 277),
+    ("a correlation id of 0", |g| g.held_correlation[9] = 0),
+];
+
+/// AS 1 holds so many units of link 200; each but the first has a correlation id.
+fn fill(g: &mut Gateway, count: usize) {
+    g.held[1] = count as u8;
+    for i in 8..16 {
+        let unit = i < 8 + count;
+        let marked = unit && i > 8;
+        (g.held_tag[i], g.held_len[i]) = if unit { (0x300, 5) } else { (0, 0) };
+        g.held_id[i] = if unit { 200 } else { 0 };
+        (g.held_marked[i], g.held_correlation[i]) = if marked { (1, 7) } else { (0, 0) };
+    }
+}
+
+fn with_units() -> Gateway {
+    let mut g = base();
+    g.waiting[1] = 1;
+    fill(&mut g, 2);
+    g
+}
+
 fn base() -> Gateway {
     let mut g = load(&plan_s()).gateway;
     g.up[0] = 1;
@@ -69,9 +133,16 @@ fn base() -> Gateway {
 
 fn main() {
     let mut failures = 0;
-    for (cases, expected) in [(BREAKS, false), (KEEPS, true)] {
+    let cases = [
+        (base(), BREAKS, false),
+        (base(), KEEPS, true),
+        (with_units(), HELD_BREAKS, false),
+        (with_units(), HELD_KEEPS, true),
+    ];
+    let singles: usize = cases.iter().map(|(_, cases, _)| cases.len()).sum();
+    for (state, cases, expected) in cases {
         for (name, change) in cases {
-            let mut g = base();
+            let mut g = state;
             change(&mut g);
             if proved::is_sound(&g) != expected {
                 println!("{name}: expected {expected}");
@@ -88,7 +159,13 @@ fn main() {
             busy.active[a * 16 + q] = 1;
         }
     }
-    for mut g in [base(), load(&full_plan()).gateway, busy, base()] {
+    for mut g in [
+        base(),
+        load(&full_plan()).gateway,
+        busy,
+        with_units(),
+        full_hold().0,
+    ] {
         for at in 0..std::mem::size_of::<Gateway>() {
             for value in [0u8, 1, 2, 3, 4, 16, 17, 128, 129, 255] {
                 // SAFETY: every field is an array of plain numbers, so any bytes are a state.
@@ -115,8 +192,7 @@ fn main() {
         }
     }
     println!(
-        "states: {} single conditions and {tried} single bytes tried, {failures} failures",
-        BREAKS.len() + KEEPS.len()
+        "states: {singles} single conditions and {tried} single bytes tried, {failures} failures"
     );
     std::process::exit((failures > 0) as i32);
 }

@@ -1,59 +1,81 @@
 //! Lines of the kinds `event` and `bytes`: long histories, each over one
-//! state.
+//! plan.
 
 use super::hex::put_bytes;
 use super::message::{self, Message, Piece, MESSAGES};
 use super::plans::{self, Plan};
 use super::rng::Rng;
-use super::{malformed, orders, reading};
+use super::{malformed, orders, reading, scenes};
 use crate::events::{bits, Event};
-use crate::gateway::{Gateway, IDLE, IN_SERVICE, STARTING};
+use crate::gateway::{Each, Gateway, HOLD_BYTES, IDLE, IN_SERVICE, STARTING};
 use crate::script::{put_number, Session};
 use crate::wire::*;
 use std::collections::VecDeque;
 
 /// Lines that are no good events.
-const MALFORMED: [&str; 40] = [
+const MALFORMED: [&str; 62] = [
     "msg",
     "msg 0",
-    "msg 0 1032",
-    "msg 0 1032 ",
-    "msg 0 1032 0100030100000008 ",
-    "msg 0 1032 0100030100000008 0",
-    "msg 0 1032 010003010000000",
-    "msg 0 1032 010003010000000G",
-    "msg 4294967296 1032 0100030100000008",
+    "msg 0 1544",
+    "msg 0 1544 ",
+    "msg 0 1544 0100030100000008 ",
+    "msg 0 1544 0100030100000008 0",
+    "msg 0 1544 010003010000000",
+    "msg 0 1544 010003010000000G",
+    "msg 4294967296 1544 0100030100000008",
     "msg 0 4294967296 0100030100000008",
-    "msg -1 1032 0100030100000008",
-    "msg 0  1032 0100030100000008",
+    "msg -1 1544 0100030100000008",
+    "msg 0  1544 0100030100000008",
     "msg 0 x 0100030100000008",
     "lost",
     "lost 0",
     "lost 0 ",
-    "lost 0 1032 0",
-    "lost 0 1032 ",
-    "lost  0 1032",
+    "lost 0 1544 0",
+    "lost 0 1544 ",
+    "lost  0 1544",
     "recovery 0",
-    "recovery 0 1032 -",
-    "recovery 99999999999 1032",
+    "recovery 0 1544 -",
+    "recovery 99999999999 1544",
     "up 0",
-    "up 0 1032 1",
-    "up - 1032",
+    "up 0 1544 1",
+    "up - 1544",
     "down 0",
-    "down 0 1032 -",
+    "down 0 1544 -",
     "down 0 -",
-    "linkmsg 1032",
-    "linkmsg 0 1032 -",
+    "linkmsg 1544",
+    "linkmsg 0 1544 -",
     "linkmsg - -",
     "bytes 0 99",
     "bytes 0 99 state",
-    "bytes 0 lost 0 1032",
+    "bytes 0 lost 0 1544",
     "bytes 0 99 lost 0",
-    "bytes 0 99 reach lost 0 1032",
+    "bytes 0 99 reach lost 0 1544",
     "reach",
     "reach lost 0",
-    "reach bytes 0 99 lost 0 1032",
-    "reach reach lost 0 1032",
+    "reach bytes 0 99 lost 0 1544",
+    "reach reach lost 0 1544",
+    "hold",
+    "hold ",
+    "hold -",
+    "hold x",
+    "hold 0 0",
+    "hold  34944",
+    "hold 34944 ",
+    "hold 4294967296",
+    "holds 0",
+    "paint",
+    "paint ",
+    "paint -",
+    "paint 256",
+    "paint 4294967296",
+    "paint 0 0",
+    "held",
+    "held 0",
+    "held 0 ",
+    "held 0 8",
+    "held 16 0",
+    "held 0 0 0",
+    "held - 0",
 ];
 
 pub struct History {
@@ -61,8 +83,12 @@ pub struct History {
     session: Session,
     /// Lines that come next.
     queue: VecDeque<Vec<u8>>,
-    /// Events left on this state.
+    /// Lines left with this plan, but for those that are queued.
     left: u64,
+    /// Whether there was no plan yet.
+    first: bool,
+    /// Whether the links of this plan are still to be brought into service.
+    opening: bool,
     /// Whether `bytes` lines are made.
     bytes: bool,
     results: Vec<u8>,
@@ -75,12 +101,19 @@ impl History {
             queue: VecDeque::new(),
             // A few events on the state of zeros come first.
             left: if bytes { 15 } else { 3 },
+            first: true,
+            opening: false,
             bytes,
             results: Vec::new(),
         }
     }
 
     pub fn line(&mut self, rng: &mut Rng, line: &mut Vec<u8>) {
+        if self.queue.is_empty() && self.opening {
+            self.opening = false;
+            let lines = scenes::services(rng, self.session.gateway());
+            self.queue.extend(lines);
+        }
         if let Some(queued) = self.queue.pop_front() {
             line.extend_from_slice(&queued);
         } else if self.left == 0 {
@@ -95,90 +128,104 @@ impl History {
 
     /// A new plan.
     fn start(&mut self, rng: &mut Rng, line: &mut Vec<u8>) {
+        if self.session.hold().len() != HOLD_BYTES {
+            self.queue.push_back(scenes::RIGHT_HOLD.to_vec());
+        }
         if rng.one_in(20) {
             // Mostly refused, and then every event is.
             self.left = rng.range(1, 4);
             return plans::put(&plans::any(rng), line);
         }
-        // Of `bytes` an event has several lines, and plans should vary.
-        let most = if self.bytes { 200 } else { 400 };
-        self.left = rng.range(most / 5, most);
-        let plan = if rng.one_in(12) {
+        // The first plan has the most orders there can be.
+        let plan = if self.first || rng.one_in(8) {
             self.storm(rng)
         } else {
-            any_plan(rng)
+            let plan = any_plan(rng);
+            let lines = scenes::opening(rng, plan.asps.len(), self.bytes);
+            self.queue.extend(lines);
+            plan
         };
+        self.first = false;
+        self.opening = true;
+        self.left = self.length(rng, plan.links.is_empty());
         plans::put(&plan.encode(), line);
     }
 
-    /// The most orders there can be: all up, one active everywhere, and its
-    /// Up again.
+    /// How long a plan stays. Of `bytes` an event has several lines, and plans
+    /// should vary; but now and then one stays for long.
+    fn length(&self, rng: &mut Rng, no_links: bool) -> u64 {
+        let most = if self.bytes { 250 } else { 400 };
+        match rng.below(8) {
+            _ if no_links => rng.range(most / 10, most / 4),
+            0 => rng.range(2 * most, 6 * most),
+            _ => rng.range(most / 5, most),
+        }
+    }
+
+    /// All up, one active everywhere, and then its Up again, or all that can be
+    /// held and an Active.
     fn storm(&mut self, rng: &mut Rng) -> Plan {
-        let links = rng.pick(&[0, 16, 128]);
+        let links = if self.first {
+            128
+        } else {
+            rng.pick(&[0, 16, 128, 128])
+        };
         let mut plan = plans::valid(rng, 16, 16, links);
         for asp in &mut plan.asps {
             asp.1 = 0xffff;
         }
-        let who = rng.below(16) as u32;
-        let mut say = |p: u32, kind: (u8, u8)| {
-            let mut line = b"msg ".to_vec();
-            put_number(p, &mut line);
-            line.extend_from_slice(b" 1032 ");
-            put_bytes(&Message::new(kind.0, kind.1, vec![]).encode(), &mut line);
-            self.queue.push_back(line);
-        };
-        for p in 0..16 {
-            say(p, (3, 1));
+        let full = links > 0 && (self.first || rng.one_in(2));
+        if full {
+            for (i, link) in plan.links.iter_mut().enumerate() {
+                link.1 = i as u32 % 16;
+            }
         }
-        say(who, (4, 1));
-        let then = rng.pick(&[(3, 1), (3, 1), (3, 2), (4, 2)]);
-        say(who, then);
-        say(rng.below(16) as u32, (4, 1));
-        self.queue.push_back(b"state".to_vec());
-        if self.bytes {
-            self.storm_bytes(rng);
-        }
+        let lines = scenes::storm(rng, &plan, full, self.bytes);
+        self.queue.extend(lines);
         plan
     }
 
-    /// Orders of the last three events that are queued as bytes, before each.
-    fn storm_bytes(&mut self, rng: &mut Rng) {
-        let events = self.queue.split_off(self.queue.len() - 4);
-        for event in events.into_iter().take(3) {
-            for place in [0, 1, 2, 128, 256, 257, 258] {
-                // Around what a Notify has of 0, 1 and 8 links.
-                let room = rng.pick(&[0, 7, 8, 15, 16, 23, 24, 51, 52, 2048]);
-                let mut line = format!("bytes {place} {room} ").into_bytes();
-                line.extend_from_slice(&event);
-                self.queue.push_back(line);
+    /// Now and then a line that is no event; whether there is one.
+    fn aside(&self, rng: &mut Rng, gateway: &Gateway, line: &mut Vec<u8>) -> bool {
+        match rng.below(500) {
+            0 => malformed::line(rng, line),
+            1..=4 => line.extend_from_slice(rng.pick(&MALFORMED).as_bytes()),
+            5 => reading::line(rng, line),
+            6..=30 => line.extend_from_slice(b"state"),
+            31..=35 if self.bytes => {
+                line.extend_from_slice(rng.pick(&orders::MALFORMED).as_bytes())
             }
-            self.queue.push_back(event);
+            36..=43 => line.extend(scenes::look(rng, gateway)),
+            44 | 45 => line.extend(scenes::paint(rng)),
+            46..=48 => line.extend(scenes::other_hold(rng)),
+            _ => return false,
         }
-        self.queue.push_back(b"state".to_vec());
+        true
     }
 
     fn any(&mut self, rng: &mut Rng, line: &mut Vec<u8>) {
-        match rng.below(500) {
-            0 => return malformed::line(rng, line),
-            1..=3 => return line.extend_from_slice(rng.pick(&MALFORMED).as_bytes()),
-            4 => return reading::line(rng, line),
-            5..=34 => return line.extend_from_slice(b"state"),
-            35..=39 if self.bytes => {
-                return line.extend_from_slice(rng.pick(&orders::MALFORMED).as_bytes())
-            }
-            _ => {}
-        }
         let gateway = *self.session.gateway();
+        if self.aside(rng, &gateway, line) {
+            return;
+        }
+        if self.session.hold().len() == HOLD_BYTES {
+            self.scene(rng, &gateway);
+        } else if rng.one_in(5) {
+            return line.extend_from_slice(scenes::RIGHT_HOLD);
+        }
+        if let Some(first) = self.queue.pop_front() {
+            return line.extend_from_slice(&first);
+        }
         let event = if self.bytes {
             Made::for_bytes(rng, &gateway)
         } else {
             Made::any(rng, &gateway)
         };
         let list = match rng.below(60) {
-            0 => 1031,
-            1 => rng.pick(&[0, 4, 1028, 1030]),
-            2 | 3 => rng.pick(&[1033, 2048, 2049, u32::MAX]),
-            _ => 1032,
+            0 => 1543,
+            1 => rng.pick(&[0, 4, 1032, 1540, 1542]),
+            2 | 3 => rng.pick(&[1545, 2048, 2049, u32::MAX]),
+            _ => 1544,
         };
         match rng.below(10) {
             0 => line.extend_from_slice(b"reach "),
@@ -191,6 +238,17 @@ impl History {
         }
     }
 
+    /// Now and then several lines that belong together.
+    fn scene(&mut self, rng: &mut Rng, gateway: &Gateway) {
+        match rng.below(100) {
+            0..=3 => self.queue.extend(scenes::pending(rng, gateway)),
+            4..=30 if scenes::many_idle(gateway) => {
+                self.queue.extend(scenes::service(rng, gateway))
+            }
+            _ => {}
+        }
+    }
+
     /// The orders of an event as bytes, and mostly the event after them.
     fn all_bytes(
         &mut self,
@@ -200,10 +258,11 @@ impl History {
         list: u32,
         line: &mut Vec<u8>,
     ) {
-        let count = orders::count(gateway, event.event());
-        for place in orders::places(rng, count) {
+        let hold = self.session.hold();
+        let found = orders::all(gateway, event.event(), hold.len());
+        for place in orders::places(rng, &found) {
             let mut next = Vec::new();
-            orders::put_command(rng, gateway, event.event(), place, &mut next);
+            orders::put_command(rng, (gateway, hold), event.event(), place, &mut next);
             event.put(list, &mut next);
             if rng.one_in(400) {
                 malformed::damage(rng, &mut next);
@@ -237,7 +296,7 @@ fn any_plan(rng: &mut Rng) -> Plan {
 }
 
 /// An event that owns its message.
-enum Made {
+pub enum Made {
     Message(u32, Vec<u8>),
     Lost(u32),
     Recovery(u32),
@@ -248,6 +307,11 @@ enum Made {
 
 impl Made {
     fn any(rng: &mut Rng, gateway: &Gateway) -> Made {
+        if rng.one_in(12) {
+            if let Some(made) = comeback(rng, gateway) {
+                return made;
+            }
+        }
         match rng.below(100) {
             0 | 1 => Made::Lost(index(rng, gateway.asps)),
             2..=7 => Made::Recovery(waiting_server(rng, gateway)),
@@ -278,6 +342,11 @@ impl Made {
             48 => Made::Recovery(gateway.ases as u32),
             49 => Made::LinkUp(gateway.links as u32),
             50 => Made::LinkDown(gateway.links as u32),
+            51 => Made::Message(gateway.asps as u32, message::any(rng)),
+            52 => {
+                let name = Piece::new(TEXT_INTERFACE_ID, rng.bytes(6));
+                Made::Message(p, Message::new(4, 1, vec![name]).encode())
+            }
             _ => Made::any(rng, gateway),
         };
         if let Made::Message(_, message) | Made::LinkMessage(message) = &mut made {
@@ -300,7 +369,7 @@ impl Made {
     }
 
     /// The line of the event.
-    fn put(&self, list: u32, line: &mut Vec<u8>) {
+    pub fn put(&self, list: u32, line: &mut Vec<u8>) {
         let (name, index, message): (&[u8], _, _) = match self {
             Made::Message(asp, message) => (b"msg ", Some(asp), Some(message)),
             Made::Lost(asp) => (b"lost ", Some(asp), None),
@@ -340,6 +409,32 @@ fn sender(rng: &mut Rng, gateway: &Gateway) -> u32 {
         }
     }
     index(rng, gateway.asps)
+}
+
+/// What ends holding, or comes before it: a member of an AS that holds units
+/// comes up, or active, or the recovery time is over.
+fn comeback(rng: &mut Rng, gateway: &Gateway) -> Option<Made> {
+    let holding: Vec<usize> = (0..16).filter(|a| gateway.held[*a] > 0).collect();
+    if holding.is_empty() {
+        return None;
+    }
+    let a = rng.pick(&holding);
+    let members: Vec<usize> = Each(gateway.members(a)).collect();
+    if members.is_empty() || rng.one_in(3) {
+        return Some(Made::Recovery(a as u32));
+    }
+    let p = rng.pick(&members);
+    let mut pieces = Vec::new();
+    if rng.one_in(2) {
+        let units = 0..gateway.held_of(a);
+        let ids = units.flat_map(|k| gateway.unit(a, k).id.to_be_bytes());
+        pieces.push(Piece::new(INTERFACE_ID, ids.collect()));
+    }
+    let message = match gateway.up[p] {
+        0 => Message::new(3, 1, vec![]),
+        _ => Message::new(4, 1, pieces),
+    };
+    Some(Made::Message(p as u32, message.encode()))
 }
 
 /// Mostly an AS that waits, if there is one.
@@ -633,6 +728,11 @@ fn huge(rng: &mut Rng, gateway: &Gateway) -> Vec<u8> {
 fn link_message(rng: &mut Rng, gateway: &Gateway) -> Vec<u8> {
     if rng.one_in(25) {
         return message::any(rng);
+    }
+    if rng.one_in(3) {
+        if let Some(id) = scenes::waiting_link(rng, gateway) {
+            return scenes::data(rng, id);
+        }
     }
     let kind = if rng.one_in(12) {
         rng.range(1, 15) as u8

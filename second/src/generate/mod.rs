@@ -9,6 +9,7 @@ mod orders;
 mod plans;
 mod reading;
 mod rng;
+mod scenes;
 mod writing;
 
 use histories::History;

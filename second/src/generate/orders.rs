@@ -1,7 +1,7 @@
 //! Lines of the kind `bytes`: the orders of an event as bytes.
 
 use super::rng::Rng;
-use crate::events::{Event, LIST_WORDS};
+use crate::events::{Event, DATA, LIST_WORDS};
 use crate::gateway::Gateway;
 use crate::script::put_number;
 use crate::wire::*;
@@ -12,60 +12,77 @@ pub const MALFORMED: [&str; 27] = [
     "bytes ",
     "bytes 0",
     "bytes 0 99 ",
-    "bytes  0 99 lost 0 1032",
-    "bytes 0  99 lost 0 1032",
-    "bytes 0 99  lost 0 1032",
-    "bytes 0 99 lost 0 1032 ",
-    "bytes 0 99 lost 0 1032 0",
+    "bytes  0 99 lost 0 1544",
+    "bytes 0  99 lost 0 1544",
+    "bytes 0 99  lost 0 1544",
+    "bytes 0 99 lost 0 1544 ",
+    "bytes 0 99 lost 0 1544 0",
     "bytes 0 99 lost 0 4294967296",
     "bytes 0 99 lost 4294967296 0",
-    "bytes 0 4294967296 lost 0 1032",
-    "bytes 4294967296 99 lost 0 1032",
-    "bytes -1 99 lost 0 1032",
-    "bytes 0 - lost 0 1032",
-    "bytes x 99 lost 0 1032",
+    "bytes 0 4294967296 lost 0 1544",
+    "bytes 4294967296 99 lost 0 1544",
+    "bytes -1 99 lost 0 1544",
+    "bytes 0 - lost 0 1544",
+    "bytes x 99 lost 0 1544",
     "bytes 0 99 read -",
     "bytes 0 99 plan -",
     "bytes 0 99 write 3 1 8 -",
-    "bytes 0 99 bytes 0 99 lost 0 1032",
-    "bytes 0 99 msg 0 1032",
-    "bytes 0 99 msg 0 1032 0",
-    "bytes 0 99 linkmsg 0 1032 -",
-    "byte 0 99 lost 0 1032",
-    "Bytes 0 99 lost 0 1032",
-    "bytes 00 0099 lost 000 01032",
+    "bytes 0 99 bytes 0 99 lost 0 1544",
+    "bytes 0 99 msg 0 1544",
+    "bytes 0 99 msg 0 1544 0",
+    "bytes 0 99 linkmsg 0 1544 -",
+    "byte 0 99 lost 0 1544",
+    "Bytes 0 99 lost 0 1544",
+    "bytes 00 0099 lost 000 01544",
     "bytes 0 99 lost 0 0",
 ];
 
 /// Of more orders than this only some places are tried.
 const MANY: u32 = 6;
 
-/// The places to try of so many orders: each one, or both ends and some
-/// between; often the first beyond, now and then one far beyond.
-pub fn places(rng: &mut Rng, count: u32) -> Vec<u32> {
+/// The places to try of these orders: each one, or both ends and some between,
+/// with some of the units that go out; often the first beyond, now and then
+/// one far beyond.
+pub fn places(rng: &mut Rng, orders: &[[u32; 4]]) -> Vec<u32> {
+    let count = orders.len() as u32;
     let mut places: Vec<u32> = if count <= MANY {
         (0..count).collect()
     } else {
         let between = rng.range(2, count as u64 - 2) as u32;
-        vec![0, 1, between, count - 1]
+        let mut places = vec![0, 1, between, count - 1];
+        let units = (0..count).filter(|place| orders[*place as usize][1] == DATA);
+        let mut units: Vec<u32> = units.collect();
+        rng.shuffle(&mut units);
+        places.extend(units.iter().take(4));
+        places
     };
     if count == 0 || rng.one_in(3) {
         places.push(count);
     }
     if rng.one_in(15) {
-        places.push(rng.pick(&[count + 1, 257, 258, 259, u32::MAX]));
+        places.push(rng.pick(&[count + 1, 257, 258, 384, 385, 386, u32::MAX]));
     }
     places
 }
 
-pub fn count(gateway: &Gateway, event: Event) -> u32 {
-    gateway.event(event, &mut [0; LIST_WORDS]).count
+/// The orders of an event that is lent a hold of so many bytes; none if it is
+/// refused.
+pub fn all(gateway: &Gateway, event: Event, hold: usize) -> Vec<[u32; 4]> {
+    let mut list = [0; LIST_WORDS];
+    let (_, count) = gateway.orders(event, hold, &mut list);
+    list.as_chunks::<4>().0[..count as usize].to_vec()
 }
 
 /// `bytes` with a place and a buffer around the length of its order.
-pub fn put_command(rng: &mut Rng, gateway: &Gateway, event: Event, place: u32, line: &mut Vec<u8>) {
+pub fn put_command(
+    rng: &mut Rng,
+    (gateway, hold): (&Gateway, &[u8]),
+    event: Event,
+    place: u32,
+    line: &mut Vec<u8>,
+) {
     let mut buffer = [0; MAX_MESSAGE];
-    let length = gateway.order_bytes(event, place, &mut buffer).length;
+    let length = gateway.order_bytes(event, hold, place, &mut buffer).length;
     let room = match rng.below(10) {
         0 | 1 => length.saturating_sub(1),
         2 => rng.below(length as u64 + 1) as u32,
