@@ -2,11 +2,14 @@
 -- Assumes nothing.
 use Prim.Native.Nat.{ℕ, zero, suc, _+_, _<_}
 use mathlib.Core.Path.{_≡_, refl, ap, _∙_, sym}
-use mathlib.Core.Bool.{Bool, true, false, cond}
+use mathlib.Core.Bool.{Bool, true, false, _||_, cond}
 use mathlib.Core.List.{List, [], _∷_}
 use native.Mathlib.Omega.{arith}
-use lib.ListN.{length}
-use lib.Seq.{ext-getD}
+use native.Mathlib.Decide.{ℕ-discrete}
+use lib.Dec.{eqb}
+use lib.ListN.{length, set, length-set}
+use lib.Seq.{ext-getD, getD-set-same, getD-set-other}
+use borrow.Author.Tests.{eq-eqb, ne-eqb}
 use Rattle.laws.specs.Columns.{numberAt}
 use Rattle.servers.specs.Changed.{clearedFrom, cleared}
 
@@ -49,3 +52,21 @@ cleared-none p c h = sym (cleared-is p c c refl (λ i b. rw (h i b)))
 pub cleared-ext : (p p′ : ℕ → Bool) (c : List ℕ) → ((i : ℕ) → i < length c → p i ≡ p′ i) → cleared p c ≡ cleared p′ c
 cleared-ext p p′ c h =
     cleared-is p′ c (cleared p c) (length-cleared p c) (λ i b. cleared-at p c i ∙ ap (λ (t : Bool). cond t 0 (numberAt c i)) (h i b))
+
+-- one after the other
+pub cleared-twice : (p q : ℕ → Bool) (c : List ℕ) → cleared p (cleared q c) ≡ cleared (λ i. p i || q i) c
+cleared-twice p q c =
+    cleared-is (λ i. p i || q i) c (cleared p (cleared q c)) (length-cleared p (cleared q c) ∙ length-cleared q c)
+    (λ i b. cleared-at p (cleared q c) i ∙ ap (cond (p i) 0) (cleared-at q c i) ∙ either (p i) (q i) (numberAt c i))
+  where
+    either : (u v : Bool) (x : ℕ) → cond u 0 (cond v 0 x) ≡ cond (u || v) 0 x
+    either true v x = refl
+    either false v x = refl
+
+-- one place alone
+pub cleared-one : (c : List ℕ) (i : ℕ) → set c i 0 ≡ cleared (λ j. eqb j i) c
+cleared-one c i = cleared-is (λ j. eqb j i) c (set c i 0) (length-set c i 0) (λ j b. go j b (ℕ-discrete j i))
+  where
+    go : (j : ℕ) → j < length c → Dec (j ≡ i) → numberAt (set c i 0) j ≡ cond (eqb j i) 0 (numberAt c j)
+    go j b (yes z) = rw (eq-eqb j i z, z) (getD-set-same c i 0 0 (omega arith))
+    go j b (no z) = rw (ne-eqb j i z) (getD-set-other c i j 0 0 z)
