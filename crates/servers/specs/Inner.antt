@@ -1,3 +1,4 @@
 pub mod Changed
 pub mod Records
 pub mod Run
+pub mod Units

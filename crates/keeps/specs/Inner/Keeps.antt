@@ -24,9 +24,10 @@ use Rattle.server.specs.declared.Change.{Change}
 use Rattle.server.specs.declared.Change.the-variants.{AspUp, AspDown, Deactivate, Activate, Recover}
 use Rattle.server.specs.Record.{row, recordFrom, recordOf, some}
 use Rattle.server.specs.Change.{after}
-use Rattle.servers.specs.Changed.{columnOf, upAfter, withChange, withLink}
+use Rattle.servers.specs.Changed.{Arrival, columnOf, upAfter, withChange, withLink, withUnit}
 use Rattle.servers.specs.Inner.Records.{moves, NamesOwn, names-own, record-change, active-at, waiting-at, flag-at, column-at, ups-at}
 use Rattle.keeps.specs.Inner.Good.{Good, Allowed, after-good}
+use Rattle.keeps.specs.Inner.Units.{UnitOf, Sized, units-changed, units-joined, joined-with}
 
 -- ---- flags
 
@@ -201,6 +202,7 @@ module _ (g : Gateway) (k : Change) (named : List Bool) (h : isSound g ≡ true)
       (all-of (soundAs (upAfter k (g .up)) (g .member) (withChange g k named .active) (g .mode) (withChange g k named .waiting) (g .asps) (g .ases)) 16
       (λ a b. tested (upAfter k (g .up)) (g .member) (withChange g k named .active) (g .mode) (withChange g k named .waiting) (g .asps) (g .ases) a (after-as a b)))
       (parts g h .inLinks)
+      (units-changed g k named (parts g h .inUnits))
 
 -- ---- kind by kind
 
@@ -256,4 +258,12 @@ links-kept iid owner state ases links l v b w h =
     go i (no z) e = rw (getD-set-other state l i v 0 (λ y. omega arith)) e
 
 pub keeps-link : (g : Gateway) (l v : ℕ) → isSound g ≡ true → l < g .links → v < 4 → isSound (withLink g l v) ≡ true
-keeps-link g l v h b w = whole (withLink g l v) (parts g h .counted) (parts g h .inAsps) (parts g h .inAses) (links-kept (g .iid) (g .owner) (g .state) (g .ases) (g .links) l v b w (parts g h .inLinks))
+keeps-link g l v h b w = whole (withLink g l v) (parts g h .counted) (parts g h .inAsps) (parts g h .inAses) (links-kept (g .iid) (g .owner) (g .state) (g .ases) (g .links) l v b w (parts g h .inLinks)) (parts g h .inUnits)
+
+-- ---- a unit more
+
+pub keeps-unit : (g : Gateway) (a : ℕ) (x : Arrival) → isSound g ≡ true → a < 16 → isSet (g .waiting) a ≡ true → numberAt (g .held .count) a < 8 → UnitOf (g .iid) (g .owner) (g .links) a x → Sized (g .held) → isSound (withUnit g a x) ≡ true
+keeps-unit g a x h b w room good s =
+    let z = parts g h in
+    whole (withUnit g a x) (z .counted) (z .inAsps) (z .inAses) (z .inLinks)
+    (units-joined (g .held) (withUnit g a x .held) (g .waiting) (g .iid) (g .owner) (g .links) a x b w room good (joined-with (g .held) a x s b room) (z .inUnits))

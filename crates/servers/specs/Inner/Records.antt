@@ -174,7 +174,8 @@ after-mode (Deactivate p) s = refl
 after-mode (Activate p) s = refl
 after-mode Recover s = refl
 
-on-one : (t : Bool) → eqb (one t) 1 ≡ t
+-- a flag read back
+pub on-one : (t : Bool) → eqb (one t) 1 ≡ t
 on-one true = refl
 on-one false = refl
 
