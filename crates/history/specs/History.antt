@@ -3,14 +3,12 @@
 use mathlib.Core.Path.{_≡_}
 use mathlib.Core.Bool.{Bool, true, false, _&&_, not}
 use mathlib.Core.List.{List, [], _∷_, map}
-use Prim.Native.Nat.{ℕ, _*_, _<_}
+use Prim.Native.Nat.{ℕ, _+_, _*_, _<_}
 use lib.Dec.{eqb, ltb}
-use lib.ListN.{length, take, replicate}
+use lib.ListN.{length, replicate}
 use Rattle.laws.specs.Columns.{numberAt}
-use Rattle.action.specs.Words.{wordsOf}
-use Rattle.gateway.specs.Sound.{pair}
+use Rattle.gateway.specs.Sound.{pair, unitIndex}
 use Rattle.gateway.specs.declared.Gateway.{Gateway}
-use Rattle.rules.specs.declared.Outcome.{Outcome}
 use Rattle.message.specs.Verdict.{verdict}
 use Rattle.message.specs.Meaning.{readingOf}
 use Rattle.action.specs.Types.{aspUp}
@@ -18,42 +16,10 @@ use Rattle.rules.specs.Event.{Event, message}
 use Rattle.rules.specs.Identifiers.{isMember}
 use Rattle.rules.specs.Rules.{refusal, isError, classTypeOf}
 use Rattle.rules.specs.Reach.{reach, fromController}
-use Rattle.rules.specs.Entry.{actions, next, MeetsRules}
+use Rattle.rules.specs.Effect.{holdBytes}
+use Rattle.rules.specs.Calls.{Board, nextBoard, Call, events, boardAfter, Calls, answer, rulesAnswer}
 use Rattle.rules.specs.Samples.{g₁, takes, comesUp}
 use Rattle.history.specs.Trade.{swaps, Trades, outs, last}
-
--- One call of an entry: its event, the lent list of words as it comes and as it is handed back, and what is returned.
-pub record Call : Type 0 where
-  pub event : Event
-  pub lent : List ℕ
-  pub left : List ℕ
-  pub outcome : Outcome
-
-abbrev pub events : List Call → List Event
-events cs = map (λ (d : Call). d .event) cs
-
--- A history of calls (Rule 10.2): each call keeps what the entries promise (`MeetsRules`), and the next one gets the state that it hands back.
-pub data Calls : Gateway → List Call → Gateway → Type 0 where
-  none : {g : Gateway} → Calls g [] g
-  call : {g c : Gateway} {d : Call} {ds : List Call} → MeetsRules g (d .event) (d .lent) (d .left) (d .outcome) → Calls (d .outcome .gateway) ds c → Calls g (d ∷ ds) c
-
--- What a call gives (Rule 10.3): the refusal, or 0, the number of actions, and the actions, four words each.
-pub record Answer : Type 0 where
-  pub refusal : ℕ
-  pub count : ℕ
-  pub words : List ℕ
-
-abbrev pub answer : Call → Answer
-answer d =
-    record {
-      refusal = d .outcome .refusal;
-      count = d .outcome .count;
-      words = take (4 * d .outcome .count) (d .left);
-    }
-
--- What the rules give for an event on a state.
-abbrev pub rulesAnswer : Gateway → Event → Answer
-rulesAnswer g e = record { refusal = refusal g e; count = length (actions g e); words = wordsOf (actions g e) }
 
 -- AS a is reached by the event e on the state g; a link of the plan is reached with its owner (Rule 9.4).
 abbrev pub reaches : Gateway → Event → ℕ → Bool
@@ -63,9 +29,9 @@ abbrev pub reachesLink : Gateway → Event → ℕ → Bool
 reachesLink g e l = ltb l (g .links) && reaches g e (numberAt (g .owner) l)
 
 -- Rule 10.4: two neighbours may trade places if they are not both of one controller (ASP), and no server (AS) is reached by both.
-pub record Independent (g : Gateway) (e f : Event) : Type 0 where
+pub record Independent (b : Board) (e f : Event) : Type 0 where
   pub controllers : (q : ℕ) → fromController (e .kind) q ≡ true → fromController (f .kind) q ≡ true → ⊥
-  pub servers : (a : ℕ) → reaches g e a ≡ true → reaches g f a ≡ true → ⊥
+  pub servers : (a : ℕ) → reaches (b .gateway) e a ≡ true → reaches (b .gateway) f a ≡ true → ⊥
 
 -- What an event leaves as it was, number by number (Rules 9.5, 10.5): the plan; the waiting mark and the activity of an AS out of reach; the state of a
 -- link out of reach.
@@ -87,36 +53,46 @@ pub record Untouched (g : Gateway) (e : Event) (c : Gateway) : Type 0 where
   -- and the members of an AS out of reach stay up, or down, whoever's event it is
   pub ups : (a q : ℕ) → a < 16 → q < 16 → reaches g e a ≡ false → isMember g a q ≡ true → numberAt (c .up) q ≡ numberAt (g .up) q
 
--- at every call of a history
-abbrev pub Outside : Gateway → List Call → Type 0
-Outside g [] = Unit {0}
-Outside g (d ∷ ds) = Untouched g (d .event) (d .outcome .gateway) × Outside (d .outcome .gateway) ds
+-- the units and the part of the hold of an AS out of reach: how many it has, what is kept of each, and every byte
+pub record UnitsStay (b : Board) (e : Event) (c : Board) : Type 0 where
+  pub count : (a : ℕ) → a < 16 → reaches (b .gateway) e a ≡ false → numberAt (c .gateway .held .count) a ≡ numberAt (b .gateway .held .count) a
+  pub tag : (a k : ℕ) → a < 16 → k < 8 → reaches (b .gateway) e a ≡ false → numberAt (c .gateway .held .tag) (unitIndex a k) ≡ numberAt (b .gateway .held .tag) (unitIndex a k)
+  pub length : (a k : ℕ) → a < 16 → k < 8 → reaches (b .gateway) e a ≡ false → numberAt (c .gateway .held .length) (unitIndex a k) ≡ numberAt (b .gateway .held .length) (unitIndex a k)
+  pub marked : (a k : ℕ) → a < 16 → k < 8 → reaches (b .gateway) e a ≡ false → numberAt (c .gateway .held .marked) (unitIndex a k) ≡ numberAt (b .gateway .held .marked) (unitIndex a k)
+  pub id : (a k : ℕ) → a < 16 → k < 8 → reaches (b .gateway) e a ≡ false → numberAt (c .gateway .held .id) (unitIndex a k) ≡ numberAt (b .gateway .held .id) (unitIndex a k)
+  pub correlation : (a k : ℕ) → a < 16 → k < 8 → reaches (b .gateway) e a ≡ false → numberAt (c .gateway .held .correlation) (unitIndex a k) ≡ numberAt (b .gateway .held .correlation) (unitIndex a k)
+  pub bytes : (a j : ℕ) → a < 16 → j < 2184 → reaches (b .gateway) e a ≡ false → numberAt (c .hold) (a * 2184 + j) ≡ numberAt (b .hold) (a * 2184 + j)
 
--- The statement: a history cs from g to c, and the same events after the trades at the places ts, ds from g to c′.
-pub record Demand3 (g : Gateway) (cs ds : List Call) (c c′ : Gateway) (ts : List ℕ) : Type 0 where
+-- at every call of a history
+abbrev pub Outside : Board → List Call → Type 0
+Outside b [] = Unit {0}
+Outside b (d ∷ ds) = Untouched (b .gateway) (d .event) (d .outcome .gateway) × UnitsStay b (d .event) (boardAfter b d) × Outside (boardAfter b d) ds
+
+-- The statement: a history cs from b to c, and the same events after the trades at the places ts, ds from b to c′.
+pub record Demand3 (b : Board) (cs ds : List Call) (c c′ : Board) (ts : List ℕ) : Type 0 where
   -- what the calls hand back is what the rules give, run from the first state on the events alone
-  pub by-rules : map answer cs ≡ outs rulesAnswer next g (events cs)
-  pub state-by-rules : c ≡ last rulesAnswer next g (events cs)
+  pub by-rules : map answer cs ≡ outs rulesAnswer nextBoard b (events cs)
+  pub state-by-rules : c ≡ last rulesAnswer nextBoard b (events cs)
   -- after the trades every event hands back the same refusal or count and the same orders, word for word
   pub same-answers : map answer ds ≡ swaps ts (map answer cs)
-  -- and the last state is the same in every field
+  -- and the last state is the same in every field, the last hold in every byte
   pub same-state : c′ ≡ c
-  pub outside : Outside g cs
+  pub outside : Outside b cs
 
--- For every first state, sound or not, all calls, and any number of allowed trades one after the other.
+-- For every first state, sound or not, every hold, all calls, and any number of allowed trades one after the other.
 abbrev pub Statement : Type 0
-Statement = (g c c′ : Gateway) (cs ds : List Call) (ts : List ℕ) → Calls g cs c → Calls g ds c′
-    → Trades next Independent g (events cs) ts → events ds ≡ swaps ts (events cs) → Demand3 g cs ds c c′ ts
+Statement = (b c c′ : Board) (cs ds : List Call) (ts : List ℕ) → Calls b cs c → Calls b ds c′
+    → Trades nextBoard Independent b (events cs) ts → events ds ≡ swaps ts (events cs) → Demand3 b cs ds c c′ ts
 
 -- Stated beside it: a readable Up that is not refused reaches the ASes of its ASP, and no others (Rule 10.7).
 unfoldable pub isUp : List ℕ → Bool
 isUp s = not (isError s) && (eqb (verdict s) 0 && eqb (classTypeOf (readingOf s)) aspUp)
 
 abbrev pub ReachOfUp : Type 0
-ReachOfUp = (g : Gateway) (p : ℕ) (s : List ℕ) (room a : ℕ) → refusal g (record { kind = message p s; room = room }) ≡ 0 → isUp s ≡ true
-    → reaches g (record { kind = message p s; room = room }) a ≡ (ltb a (g .ases) && isMember g a p)
+ReachOfUp = (g : Gateway) (p : ℕ) (s : List ℕ) (room hold a : ℕ) → refusal g (record { kind = message p s; room = room; hold = hold }) ≡ 0 → isUp s ≡ true
+    → reaches g (record { kind = message p s; room = room; hold = hold }) a ≡ (ltb a (g .ases) && isMember g a p)
 
--- lent lists of the lengths that the events have
+-- lists and holds to lend, of the lengths that the events have
 abbrev pub Rooms : List Event → List (List ℕ) → Type 0
 Rooms [] [] = Unit {0}
 Rooms [] (l ∷ ls) = ⊥
@@ -127,20 +103,24 @@ Rooms (e ∷ h) (l ∷ ls) = (length l ≡ e .room) × Rooms h ls
 abbrev pub blanks : List Event → List (List ℕ)
 blanks h = map (λ (e : Event). replicate (e .room) 0) h
 
--- Such calls exist for every first state, every list of events and all lent lists of their lengths: the statement is about something.
-pub record Made (g : Gateway) (h : List Event) (ls : List (List ℕ)) : Type 0 where
+-- Such calls exist for every first state with a hold of the right length, every list of events and all lent lists of their lengths: the statement is about something.
+pub record Made (b : Board) (h : List Event) (ls : List (List ℕ)) : Type 0 where
   pub list : List Call
-  pub end : Gateway
-  pub are : Calls g list end
+  pub end : Board
+  pub are : Calls b list end
   pub of : events list ≡ h
   pub lend : map (λ (d : Call). d .lent) list ≡ ls
+
+-- the board of a sample: a hold of zeros
+abbrev pub sampleBoard : Gateway → Board
+sampleBoard g = record { gateway = g; hold = replicate holdBytes 0 }
 
 -- Trades exist: everything that the statement asks for is there in a history of plan S, where ASP 0 takes AS 0 over and ASP 2 comes up, and the two
 -- trade places. Each reaches an AS.
 pub record TradesExist : Type 0 where
-  pub calls : Made g₁ (takes ∷ comesUp ∷ []) (replicate 1032 0 ∷ replicate 1032 0 ∷ [])
-  pub traded : Made g₁ (comesUp ∷ takes ∷ []) (replicate 1032 0 ∷ replicate 1032 0 ∷ [])
-  pub trades : Trades next Independent g₁ (takes ∷ comesUp ∷ []) (0 ∷ [])
+  pub calls : Made (sampleBoard g₁) (takes ∷ comesUp ∷ []) (replicate 1544 0 ∷ replicate 1544 0 ∷ [])
+  pub traded : Made (sampleBoard g₁) (comesUp ∷ takes ∷ []) (replicate 1544 0 ∷ replicate 1544 0 ∷ [])
+  pub trades : Trades nextBoard Independent (sampleBoard g₁) (takes ∷ comesUp ∷ []) (0 ∷ [])
   pub events-trade : comesUp ∷ takes ∷ [] ≡ swaps (0 ∷ []) (takes ∷ comesUp ∷ [])
   pub first : reaches g₁ takes 0 ≡ true
   pub second : reaches g₁ comesUp 1 ≡ true

@@ -6,5 +6,6 @@ pub mod Link
 pub mod Rules
 pub mod Reach
 pub mod Entry
+pub mod Calls
 pub mod Samples
 pub mod Inner

@@ -21,13 +21,14 @@ use Rattle.gateway.specs.Sound.{pair, blankFrom, flagIf, differs, upAt, soundAs
 use Rattle.gateway.specs.Inner.Laws.{parts, whole, Server, server, links-parts, flag-set, counts-within, member-within}
 use Rattle.server.specs.declared.AsRecord.{AsRecord}
 use Rattle.server.specs.declared.Change.{Change}
+use Rattle.server.specs.declared.Arrival.{Arrival}
 use Rattle.server.specs.declared.Change.the-variants.{AspUp, AspDown, Deactivate, Activate, Recover}
 use Rattle.server.specs.Record.{row, recordFrom, recordOf, some}
 use Rattle.server.specs.Change.{after}
-use Rattle.servers.specs.Changed.{Arrival, columnOf, upAfter, withChange, withLink, withUnit}
+use Rattle.servers.specs.Changed.{columnOf, upAfter, withChange, withLink, withUnit}
 use Rattle.servers.specs.Inner.Records.{moves, NamesOwn, names-own, record-change, active-at, waiting-at, flag-at, column-at, ups-at}
 use Rattle.keeps.specs.Inner.Good.{Good, Allowed, after-good}
-use Rattle.keeps.specs.Inner.Units.{UnitOf, Sized, units-changed, units-joined, joined-with}
+use Rattle.keeps.specs.Inner.Units.{UnitOf, sizes, units-changed, units-joined, joined-with, sized-with}
 
 -- ---- flags
 
@@ -262,8 +263,9 @@ keeps-link g l v h b w = whole (withLink g l v) (parts g h .counted) (parts g h 
 
 -- ---- a unit more
 
-pub keeps-unit : (g : Gateway) (a : ℕ) (x : Arrival) → isSound g ≡ true → a < 16 → isSet (g .waiting) a ≡ true → numberAt (g .held .count) a < 8 → UnitOf (g .iid) (g .owner) (g .links) a x → Sized (g .held) → isSound (withUnit g a x) ≡ true
-keeps-unit g a x h b w room good s =
+pub keeps-unit : (g : Gateway) (a : ℕ) (x : Arrival) → isSound g ≡ true → a < 16 → isSet (g .waiting) a ≡ true → numberAt (g .held .count) a < 8 → UnitOf (g .iid) (g .owner) (g .links) a x → isSound (withUnit g a x) ≡ true
+keeps-unit g a x h b w room good =
     let z = parts g h in
+    let s = sizes (g .held) (g .waiting) (g .iid) (g .owner) (g .links) (z .inUnits) in
     whole (withUnit g a x) (z .counted) (z .inAsps) (z .inAses) (z .inLinks)
-    (units-joined (g .held) (withUnit g a x .held) (g .waiting) (g .iid) (g .owner) (g .links) a x b w room good (joined-with (g .held) a x s b room) (z .inUnits))
+    (units-joined (g .held) (withUnit g a x .held) (g .waiting) (g .iid) (g .owner) (g .links) a x b w room good (joined-with (g .held) a x s b room) (sized-with (g .held) a x s) (z .inUnits))

@@ -7,7 +7,7 @@ use mathlib.Core.List.{List}
 use native.Mathlib.Omega.{arith}
 use native.Mathlib.Decide.{decLt, ℕ-discrete}
 use lib.Dec.{eqb, leb, ltb}
-use lib.ListN.{length, set}
+use lib.ListN.{length, set, length-set}
 use lib.Seq.{getD-set-same, getD-set-other}
 use borrow.Author.Tests.{eq-eqb, ne-eqb, lt-ltb, le-ltb, leb-true, le-leb}
 use Rattle.laws.specs.Below.{one}
@@ -16,13 +16,15 @@ use Rattle.laws.specs.Columns.{flagAt, isSet, numberAt}
 use Rattle.laws.specs.Inner.Every.{and-left, and-right, and-both}
 use Rattle.gateway.specs.declared.Gateway.{Gateway}
 use Rattle.gateway.specs.declared.Units.{Units}
-use Rattle.gateway.specs.Sound.{unitIndex, isLinkOf, unitAt, blankAt, unitsOk, soundUnits}
+use Rattle.gateway.specs.Sound.{unitIndex, isLinkOf, unitAt, blankAt, unitsOk, sized, allUnits, soundUnits}
+use Rattle.gateway.specs.Inner.Sound.{Sized, sized-yes, sized-is}
 use Rattle.server.specs.declared.Change.{Change}
+use Rattle.server.specs.declared.Arrival.{Arrival}
 use Rattle.server.specs.Record.{recordOf}
 use Rattle.server.specs.Change.{after}
-use Rattle.servers.specs.Changed.{cleared, letsGo, unitsWithout, Arrival, unitsWith, withChange}
+use Rattle.servers.specs.Changed.{cleared, letsGo, unitsWithout, unitsWith, withChange}
 use Rattle.servers.specs.Inner.Records.{waiting-at}
-use Rattle.servers.specs.Inner.Units.{cleared-at}
+use Rattle.servers.specs.Inner.Units.{length-cleared, cleared-at}
 
 -- ---- an AS, in words and as tested
 
@@ -37,8 +39,9 @@ pub record Held (u : Units) (waiting iid owner : List ℕ) (links a : ℕ) : Typ
 
 module _ (u : Units) (waiting iid owner : List ℕ) (links : ℕ) where
   pub held : soundUnits u waiting iid owner links ≡ true → (a : ℕ) → a < 16 → Held u waiting iid owner links a
-  unfolding soundUnits unitsOk
-  held h a b =
+  unfolding soundUnits allUnits unitsOk
+  held g a b =
+      let h = and-right (sized u) (allUnits u waiting iid owner links) g in
       let n = numberAt (u .count) a in
       let w = eqb n 0 || isSet waiting a in
       let e = all-at (unitsOk u waiting iid owner links) 16 h a b in
@@ -49,15 +52,20 @@ module _ (u : Units) (waiting iid owner : List ℕ) (links : ℕ) where
         places = all-at (placeOk u iid owner links n a) 8 (and-right (leb n 8 && w) _ e);
       }
 
-  pub all-held : ((a : ℕ) → a < 16 → Held u waiting iid owner links a) → soundUnits u waiting iid owner links ≡ true
-  unfolding soundUnits unitsOk
-  all-held h =
-      all-of (unitsOk u waiting iid owner links) 16
+  pub sizes : soundUnits u waiting iid owner links ≡ true → Sized u
+  unfolding soundUnits
+  sizes h = sized-is u (and-left (sized u) (allUnits u waiting iid owner links) h)
+
+  pub all-held : Sized u → ((a : ℕ) → a < 16 → Held u waiting iid owner links a) → soundUnits u waiting iid owner links ≡ true
+  unfolding soundUnits allUnits unitsOk
+  all-held z h =
+      and-both (sized u) _ (sized-yes u (z .count-16) (z .tag-128) (z .length-128) (z .marked-128) (z .id-128) (z .correlation-128))
+      (all-of (unitsOk u waiting iid owner links) 16
       (λ a b.
       let n = numberAt (u .count) a in
       and-both (leb n 8 && (eqb n 0 || isSet waiting a)) _
       (and-both (leb n 8) (eqb n 0 || isSet waiting a) (le-leb n 8 (h a b .few)) (h a b .waits))
-      (all-of (placeOk u iid owner links n a) 8 (h a b .places)))
+      (all-of (placeOk u iid owner links n a) 8 (h a b .places))))
 
 -- ---- places that stay
 
@@ -145,7 +153,16 @@ module _ (g : Gateway) (k : Change) (named : List Bool) where
   pub units-changed : soundUnits (g .held) (g .waiting) (g .iid) (g .owner) (g .links) ≡ true → soundUnits (unitsWithout (letsGo k named (recordOf g) (g .held .count)) (g .held)) (withChange g k named .waiting) (g .iid) (g .owner) (g .links) ≡ true
   unfolding go
   units-changed h =
+      let z = sizes (g .held) (g .waiting) (g .iid) (g .owner) (g .links) h in
       all-held (unitsWithout go (g .held)) (withChange g k named .waiting) (g .iid) (g .owner) (g .links)
+      (record {
+        count-16 = length-cleared go (g .held .count) ∙ z .count-16;
+        tag-128 = length-cleared (λ i. go (i / 8)) (g .held .tag) ∙ z .tag-128;
+        length-128 = length-cleared (λ i. go (i / 8)) (g .held .length) ∙ z .length-128;
+        marked-128 = length-cleared (λ i. go (i / 8)) (g .held .marked) ∙ z .marked-128;
+        id-128 = length-cleared (λ i. go (i / 8)) (g .held .id) ∙ z .id-128;
+        correlation-128 = length-cleared (λ i. go (i / 8)) (g .held .correlation) ∙ z .correlation-128;
+      })
       (λ a b. held-after a b (held (g .held) (g .waiting) (g .iid) (g .owner) (g .links) h a b))
 
 -- ---- a unit that comes in
@@ -195,30 +212,21 @@ module _ (u v : Units) (waiting iid owner : List ℕ) (links a : ℕ) (x : Arriv
   held-more c l (yes z) h = rw z (record { few = rw (j .more) (omega arith); waits = rw (j .more, ne-eqb (numberAt (u .count) a + 1) 0 (λ e. omega arith)) w; places = λ k l. rw (j .more) (place-after (rw z at h) k l) })
   held-more c l (no z) h = held-kept h (j .others c l z) (λ k q. j .rest (unitIndex c k) (omega arith) (λ e. z (omega arith))) (h .waits)
 
-  pub units-joined : soundUnits u waiting iid owner links ≡ true → soundUnits v waiting iid owner links ≡ true
-  units-joined h = all-held v waiting iid owner links (λ c l. held-more c l (ℕ-discrete c a) (held u waiting iid owner links h c l))
+  pub units-joined : Sized v → soundUnits u waiting iid owner links ≡ true → soundUnits v waiting iid owner links ≡ true
+  units-joined z h = all-held v waiting iid owner links z (λ c l. held-more c l (ℕ-discrete c a) (held u waiting iid owner links h c l))
 
--- the tables have the lengths of the code's arrays
-pub record Sized (u : Units) : Type 0 where
-  pub counts : length (u .count) ≡ 16
-  pub tags : length (u .tag) ≡ 128
-  pub lengths : length (u .length) ≡ 128
-  pub marks : length (u .marked) ≡ 128
-  pub ids : length (u .id) ≡ 128
-  pub correlations : length (u .correlation) ≡ 128
-
--- then the new unit is there
+-- with columns that have their places the new unit is there
 pub joined-with : (u : Units) (a : ℕ) (x : Arrival) → Sized u → a < 16 → numberAt (u .count) a < 8 → Joined u a x (unitsWith u a x)
 joined-with u a x s b room =
     let i : ℕ = unitIndex a (numberAt (u .count) a) in
     record {
-      more = getD-set-same (u .count) a (numberAt (u .count) a + 1) 0 (omega (arith, s .counts));
+      more = getD-set-same (u .count) a (numberAt (u .count) a + 1) 0 (omega (arith, s .count-16));
       others = λ c l z. getD-set-other (u .count) a c (numberAt (u .count) a + 1) 0 z;
-      tag = getD-set-same (u .tag) i (x .tag) 0 (omega (arith, s .tags));
-      length = getD-set-same (u .length) i (x .length) 0 (omega (arith, s .lengths));
-      marked = getD-set-same (u .marked) i (x .marked) 0 (omega (arith, s .marks));
-      id = getD-set-same (u .id) i (x .id) 0 (omega (arith, s .ids));
-      correlation = getD-set-same (u .correlation) i (x .correlation) 0 (omega (arith, s .correlations));
+      tag = getD-set-same (u .tag) i (x .tag) 0 (omega (arith, s .tag-128));
+      length = getD-set-same (u .length) i (x .length) 0 (omega (arith, s .length-128));
+      marked = getD-set-same (u .marked) i (x .marked) 0 (omega (arith, s .marked-128));
+      id = getD-set-same (u .id) i (x .id) 0 (omega (arith, s .id-128));
+      correlation = getD-set-same (u .correlation) i (x .correlation) 0 (omega (arith, s .correlation-128));
       rest = λ k l z.
           record {
             tag = getD-set-other (u .tag) i k (x .tag) 0 z;
@@ -227,4 +235,16 @@ joined-with u a x s b room =
             id = getD-set-other (u .id) i k (x .id) 0 z;
             correlation = getD-set-other (u .correlation) i k (x .correlation) 0 z;
           };
+    }
+
+pub sized-with : (u : Units) (a : ℕ) (x : Arrival) → Sized u → Sized (unitsWith u a x)
+sized-with u a x s =
+    let i : ℕ = unitIndex a (numberAt (u .count) a) in
+    record {
+      count-16 = length-set (u .count) a (numberAt (u .count) a + 1) ∙ s .count-16;
+      tag-128 = length-set (u .tag) i (x .tag) ∙ s .tag-128;
+      length-128 = length-set (u .length) i (x .length) ∙ s .length-128;
+      marked-128 = length-set (u .marked) i (x .marked) ∙ s .marked-128;
+      id-128 = length-set (u .id) i (x .id) ∙ s .id-128;
+      correlation-128 = length-set (u .correlation) i (x .correlation) ∙ s .correlation-128;
     }
