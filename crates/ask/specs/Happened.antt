@@ -37,13 +37,13 @@ happened k i s =
     (cond (eqb k linkMessageKind) (linkMessage s)
     (lost 65536))))))
 
--- an event of a kind, with the length of its list
-abbrev pub eventOf : EventKind → ℕ → Event
-eventOf k room = record { kind = k; room = room }
+-- an event of a kind, with the lengths of its list and of its hold
+abbrev pub eventOf : EventKind → ℕ → ℕ → Event
+eventOf k room hold = record { kind = k; room = room; hold = hold }
 
--- the same of the lent list
-abbrev pub event : EventKind → List ℕ → Event
-event k ws = eventOf k (length ws)
+-- the same of the lent list and hold
+abbrev pub event : EventKind → List ℕ → List ℕ → Event
+event k ws hold = eventOf k (length ws) (length hold)
 
 -- the message of a class and type that has no parameters: 8 bytes
 abbrev pub plain : ℕ → ℕ → List ℕ

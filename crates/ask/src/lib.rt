@@ -5,7 +5,6 @@ ghost use mathlib.Core.Bool.{true, _||_};
 ghost use Prim.Native.Nat.{_≤_};
 ghost use lib.Dec.{eqb, ltb};
 ghost use Rattle.gateway.specs.Sound.{ascends};
-ghost use Rattle.gateway.specs.Inner.Sound.{isSoundOf};
 ghost use Rattle.rules.specs.Rules.{refusalOf};
 ghost use Rattle.ask.specs.Inner.Ask.{askKnown, askOf, AskAt, Asks};
 
@@ -21,6 +20,11 @@ pub const LINK_UP: u32 = 3;
 pub const LINK_DOWN: u32 = 4;
 
 pub const LINK_MESSAGE: u32 = 5;
+
+// The bytes of a hold (Rule 5.22), and the fewest words of a list (Rule 6.6).
+pub const HOLD_BYTES: usize = 34944;
+
+pub const LEAST_ROOM: usize = 1544;
 
 // What an event asks of the gateway, its message read.
 pub enum Ask {
@@ -39,16 +43,19 @@ pub enum Ask {
 
 // ---- refusals
 
-// Rule 6.3: 105, then 102, then 101; known is that what the event names is in the plan.
-fn refusal(sound: bool, known: bool, room: usize) -> u32
-    ensures { λ r. ⌜ r ≡ refusalOf sound known room ⌝ }
+// Rule 6.3: 105, then 102, then 106, then 101; known is that what the event names is in the plan.
+fn refusal(sound: bool, known: bool, hold: usize, room: usize) -> u32
+    ensures { λ r. ⌜ r ≡ refusalOf sound known hold room ⌝ }
 {
     if sound {
         if known {
-            if room < 1032 {
-                return 101;
+            if hold == HOLD_BYTES {
+                if room < LEAST_ROOM {
+                    return 101;
+                }
+                return 0;
             }
-            return 0;
+            return 106;
         }
         return 102;
     }
@@ -93,41 +100,20 @@ pub struct Found {
     pub index: usize,
 }
 
-// The refusal of an event, or 0. What it names is looked up only where the state is sound.
-pub fn refused<'a>(
+// The refusal of an event, or 0: `sound` says that the state is, `hold` and `room` are the lengths of what is lent. What it names is looked up only where the state is sound.
+pub fn refused(
+    sound: bool,
     asps: u8,
     ases: u8,
     links: u8,
-    spare: u8,
-    aspid: &'a [u32; 16],
-    up: &'a [u8; 16],
-    member: &'a [u8; 256],
-    active: &'a [u8; 256],
-    mode: &'a [u8; 16],
-    waiting: &'a [u8; 16],
-    iid: &'a [u32; 128],
-    owner: &'a [u8; 128],
-    state: &'a [u8; 128],
+    iid: &[u32; 128],
     ask: Ask,
+    hold: usize,
     room: usize,
 ) -> Found
-    ensures { λ r. ⌜ (r .code ≡ refusalOf (isSoundOf asps ases links spare (now (aspid .entry)) (now (up .entry)) (now (member .entry)) (now (active .entry)) (now (mode .entry)) (now (waiting .entry)) (now (iid .entry)) (now (owner .entry)) (now (state .entry))) (askKnown asps ases links (now (iid .entry)) ask) room) × (r .code ≡ 0 → AskAt links (now (iid .entry)) ask (r .index)) ⌝ }
+    requires { ⌜ (sound ≡ true → (links ≤ 128) × (ascends (now iid) links ≡ true)) ⌝ }
+    ensures { λ r. ⌜ (r .code ≡ refusalOf sound (askKnown asps ases links (now (iid .entry)) ask) hold room) × (r .code ≡ 0 → AskAt links (now (iid .entry)) ask (r .index)) ⌝ }
 {
-    let sound = gateway::sound_of(
-        asps,
-        ases,
-        links,
-        spare,
-        aspid,
-        up,
-        member,
-        active,
-        mode,
-        waiting,
-        iid,
-        owner,
-        state,
-    );
     if !sound {
         return Found {
             code: 105,
@@ -141,7 +127,7 @@ pub fn refused<'a>(
         gateway::wide(links),
         iid,
     );
-    let code = refusal(sound, n.known, room);
+    let code = refusal(sound, n.known, hold, room);
     Found {
         code,
         index: n.index,

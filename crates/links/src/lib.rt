@@ -1,10 +1,15 @@
 // What the events of links do: class 6 messages of an ASP, link up, link down, messages of the link side.
+use action::Action;
+use message::DataUnit;
 use message::Reading;
 use rules::Decision;
+use server::Change;
+use server::has_some;
+use server::row_of;
 ghost use mathlib.Core.Path.{_≡_};
 ghost use mathlib.Core.Bool.{true, cond};
 ghost use mathlib.Core.List.{[], _∷_};
-ghost use Prim.Native.Nat.{_<_, _≤_};
+ghost use Prim.Native.Nat.{_+_, _<_, _≤_};
 ghost use lib.Dec.{eqb};
 ghost use Rattle.action.specs.Words.{action, linkSide, toAll};
 ghost use Rattle.gateway.specs.Sound.{ascends};
@@ -12,13 +17,13 @@ ghost use Rattle.laws.specs.Columns.{tabulate};
 ghost use Rattle.lookup.specs.Links.{indexOf};
 ghost use Rattle.lookup.specs.Servers.{receives};
 ghost use Rattle.ranges.specs.Inner.Laws.{Table};
-ghost use Rattle.rules.specs.Link.{establish, release, dataEffect, linkEffect, classSixEffect, linkUpEffect, linkDownEffect, linkMessageEffect};
-ghost use Rattle.rules.specs.Effect.{send, setLink};
+ghost use Rattle.rules.specs.Link.{establish, release, dataEffect, linkEffect, classSixEffect, linkUpEffect, linkDownEffect, holdEffect, linkMessageEffect};
+ghost use Rattle.rules.specs.Effect.{send, setLink, takeIn};
 ghost use Rattle.rules.specs.Rules.{fromLink};
 ghost use Rattle.work.specs.Inner.Decides.{Decides, DecidesOn};
-ghost use Rattle.links.specs.Inner.Recipients.{recipientsAt, SideColumns};
+ghost use Rattle.links.specs.Inner.Recipients.{recipientsAt, pendingAt, SideColumns, SideHeld};
 ghost use Rattle.links.specs.Inner.Six.{dataTree, sixAt, SixColumns};
-ghost use Rattle.links.specs.Inner.Side.{placeOf, Side};
+ghost use Rattle.links.specs.Inner.Side.{placeOf, Side, Fits};
 ghost use Rattle.action.specs.Types.{establishConfirm, releaseConfirm, releaseIndication};
 
 // ---- class 6 of an ASP: p is the ASP, x the identifier, l the link's index, st its state
@@ -167,7 +172,7 @@ fn receivers(active: &[u8; 256], mode: u8, a: usize, x: u32) -> [bool; 16]
     if mode == 2 {
         return lookup::recipients(active, mode, a, x);
     }
-    server::row_of(active, a)
+    row_of(active, a)
 }
 
 // Who they are.
@@ -271,20 +276,76 @@ pub fn place_of(iid: &[u32; 128], links: usize, r: Reading) -> usize
     links
 }
 
-// A message of the link side that is not refused (Rule 7.22), where l is the index of its link.
+// AS a is pending (Rule 5.2).
+fn is_pending<'a>(active: &'a [u8; 256], waiting: &'a [u8; 16], a: usize) -> bool
+    requires { ⌜ a < 16 ⌝ }
+    ensures { λ r. ⌜ r ≡ pendingAt (now (active .entry)) (now (waiting .entry)) a ⌝ }
+{
+    if waiting[a] == 1 {
+        return !has_some(row_of(active, a));
+    }
+    false
+}
+
+// A unit that comes in for AS a: d is its protocol data, r what else was read.
+fn take_in(a: usize, d: DataUnit, r: Reading) -> Decision
+    requires { ⌜ (a < 16) × (d .length ≤ 273) × (d .start ≤ 2048) × (r .correlated ≤ 1) ⌝ }
+    ensures { λ w. ⌜ Decides w (takeIn a (record { tag = d .tag; length = d .length + 4; marked = r .correlated; id = r .id; correlation = r .correlation; start = d .start })) ⌝ }
+{
+    Decision {
+        what: 5,
+        count: 0,
+        first: Action {
+            to: d.tag as u32,
+            classtype: (d.length + 4) as u32,
+            subject: r.id,
+            value: r.correlation,
+        },
+        second: Action {
+            to: d.start as u32,
+            classtype: 0,
+            subject: 0,
+            value: 0,
+        },
+        link: a,
+        state: r.correlated as u8,
+        change: Change::Recover,
+        who: [false; 16],
+    }
+}
+
+// It is held behind those that AS a has, and a ninth turned away (Rule 7.24).
+fn hold_work(msg: &[u8], count: &[u8; 16], a: usize, r: Reading) -> Decision
+    requires { ⌜ (a < 16) × Fits (now msg) r ⌝ }
+    ensures { λ w. ⌜ DecidesOn (λ g. g .held .count ≡ now (count .entry)) (λ g. holdEffect g (now (msg .entry)) r a) w ⌝ }
+{
+    if count[a] < 8 {
+        return take_in(a, message::data_unit(msg), r);
+    }
+    work::nothing()
+}
+
+// A message of the link side that is not refused (Rules 7.22, 7.24), where l is the index of its link.
 pub fn link_message<'a>(
+    msg: &[u8],
     links: usize,
     active: &'a [u8; 256],
     mode: &'a [u8; 16],
+    waiting: &'a [u8; 16],
+    count: &'a [u8; 16],
     iid: &'a [u32; 128],
     owner: &'a [u8; 128],
-    state: &'a [u8; 128],
     l: usize,
     r: Reading,
 ) -> Decision
-    requires { ⌜ Table (now iid) (now owner) links × Side (now iid) links r × (l ≡ indexOf (now iid) links (r .id)) ⌝ }
-    ensures { λ w. ⌜ DecidesOn (SideColumns links (now (active .entry)) (now (mode .entry)) (now (iid .entry)) (now (owner .entry)) (now (state .entry))) (λ g. linkMessageEffect g r) w ⌝ }
+    requires { ⌜ Table (now iid) (now owner) links × Side (now iid) links r × (l ≡ indexOf (now iid) links (r .id)) × (r .msgtype ≡ 1 → Fits (now msg) r) ⌝ }
+    ensures { λ w. ⌜ DecidesOn (SideHeld links (now (active .entry)) (now (mode .entry)) (now (waiting .entry)) (now (count .entry)) (now (iid .entry)) (now (owner .entry))) (λ g. linkMessageEffect g (now (msg .entry)) r) w ⌝ }
 {
+    let a = owner[l] as usize;
+    let held = (r.msgtype == 1) & is_pending(active, waiting, a);
+    if held {
+        return hold_work(msg, count, a, r);
+    }
     let who = recipients_at(links, active, mode, iid, owner, l);
     work::spread(who, r.class * 256 + r.msgtype, iid[l])
 }

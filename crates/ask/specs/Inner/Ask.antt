@@ -25,7 +25,7 @@ use Rattle.rules.specs.Reach.{ownsId, kindReach}
 use Rattle.work.specs.Inner.Decides.{act}
 use Rattle.decide.specs.Inner.Other.{otherEffect, typeIn, message-up, message-down, message-active, message-inactive, message-other}
 use Rattle.lookup.specs.Links.{indexOf}
-use Rattle.links.specs.Inner.Side.{passes, Side, side, in-plan}
+use Rattle.links.specs.Inner.Side.{passes, Side, side, Fits, fits, in-plan}
 use Rattle.ask.specs.Happened.{happened}
 use Rattle.ask.specs.Inner.Reach.{namedReach, otherReach, reach-up, reach-down, reach-active, reach-inactive, reach-other}
 use Rattle.ask.specs.declared.Ask.{Ask}
@@ -41,7 +41,7 @@ askEffect g s (Lost p) = lostEffect g p
 askEffect g s (Recovery a) = changeIn [] Recover (tabulate 16 (λ c. eqb c a))
 askEffect g s (LinkUp l) = linkUpEffect g l
 askEffect g s (LinkDown l) = linkDownEffect g l
-askEffect g s (LinkMessage r) = linkMessageEffect g r
+askEffect g s (LinkMessage r) = linkMessageEffect g s r
 
 -- the ASes that it reaches
 abbrev pub askReach : Gateway → List ℕ → Ask → ℕ → Bool
@@ -67,17 +67,17 @@ askKnown asps ases links iid (LinkUp l) = ltb l links
 askKnown asps ases links iid (LinkDown l) = ltb l links
 askKnown asps ases links iid (LinkMessage r) = passes iid links r
 
--- class and type are bytes
-abbrev pub AskSmall : Ask → Type 0
-AskSmall (Up p r) = _≡_ {A = ℕ} 0 0
-AskSmall (Down p) = _≡_ {A = ℕ} 0 0
-AskSmall (Traffic on p r) = _≡_ {A = ℕ} 0 0
-AskSmall (Other p wrong r) = (r .class < 256) × (r .msgtype < 256)
-AskSmall (Lost p) = _≡_ {A = ℕ} 0 0
-AskSmall (Recovery a) = _≡_ {A = ℕ} 0 0
-AskSmall (LinkUp l) = _≡_ {A = ℕ} 0 0
-AskSmall (LinkDown l) = _≡_ {A = ℕ} 0 0
-AskSmall (LinkMessage r) = _≡_ {A = ℕ} 0 0
+-- class and type are bytes, and what the link side sends is as it was read
+abbrev pub AskSmall : List ℕ → Ask → Type 0
+AskSmall s (Up p r) = _≡_ {A = ℕ} 0 0
+AskSmall s (Down p) = _≡_ {A = ℕ} 0 0
+AskSmall s (Traffic on p r) = _≡_ {A = ℕ} 0 0
+AskSmall s (Other p wrong r) = (r .class < 256) × (r .msgtype < 256)
+AskSmall s (Lost p) = _≡_ {A = ℕ} 0 0
+AskSmall s (Recovery a) = _≡_ {A = ℕ} 0 0
+AskSmall s (LinkUp l) = _≡_ {A = ℕ} 0 0
+AskSmall s (LinkDown l) = _≡_ {A = ℕ} 0 0
+AskSmall s (LinkMessage r) = r ≡ readingOf s
 
 -- a message of ASP p by its class and type t; wrong says that it is an Error
 unfoldable pub askOf : ℕ → ℕ → Bool → Reading → Ask
@@ -87,17 +87,17 @@ askOf p t wrong r =
     (cond (eqb t aspActive || eqb t aspInactive) (Traffic (eqb t aspActive) p r)
     (Other p wrong r)))
 
--- what it names is within the tables, and class and type are bytes
-abbrev pub AskFits : ℕ → List ℕ → Ask → Type 0
-AskFits links iid (Up p r) = p < 16
-AskFits links iid (Down p) = p < 16
-AskFits links iid (Traffic on p r) = p < 16
-AskFits links iid (Other p wrong r) = (p < 16) × (r .class < 256) × (r .msgtype < 256)
-AskFits links iid (Lost p) = p < 16
-AskFits links iid (Recovery a) = _≡_ {A = ℕ} 0 0
-AskFits links iid (LinkUp l) = l < links
-AskFits links iid (LinkDown l) = l < links
-AskFits links iid (LinkMessage r) = Side iid links r
+-- what it names is within the tables, class and type are bytes, and protocol data fits its place
+abbrev pub AskFits : ℕ → List ℕ → List ℕ → Ask → Type 0
+AskFits links iid s (Up p r) = p < 16
+AskFits links iid s (Down p) = p < 16
+AskFits links iid s (Traffic on p r) = p < 16
+AskFits links iid s (Other p wrong r) = (p < 16) × (r .class < 256) × (r .msgtype < 256)
+AskFits links iid s (Lost p) = p < 16
+AskFits links iid s (Recovery a) = _≡_ {A = ℕ} 0 0
+AskFits links iid s (LinkUp l) = l < links
+AskFits links iid s (LinkDown l) = l < links
+AskFits links iid s (LinkMessage r) = Side iid links r × (r .msgtype ≡ 1 → Fits s r)
 
 -- l is the index of the link that a message of the link side names
 abbrev pub AskAt : ℕ → List ℕ → Ask → ℕ → Type 0
@@ -116,7 +116,7 @@ pub record AsksKind (e : EventKind) (s : List ℕ) (ask : Ask) : Type 0 where
   pub effect : (g : Gateway) → askEffect g s ask ≡ effectOf g e
   pub reach : (g : Gateway) (a : ℕ) → askReach g s ask a ≡ kindReach g e a
   pub known : (g : Gateway) → askKnown (g .asps) (g .ases) (g .links) (g .iid) ask ≡ inPlan g e
-  pub small : AskSmall ask
+  pub small : AskSmall s ask
 
 abbrev pub Asks : ℕ → ℕ → List ℕ → Ask → Type 0
 Asks k i s ask = AsksKind (happened k i s) s ask
@@ -124,20 +124,20 @@ Asks k i s ask = AsksKind (happened k i s) s ask
 -- ---- laws
 
 -- what is in the plan is within the tables
-pub ask-fits : (asps ases links : ℕ) (iid : List ℕ) (ask : Ask) → Limits asps ases links → askKnown asps ases links iid ask ≡ true
-    → AskSmall ask → AskFits links iid ask
-ask-fits n m k iid (Up p r) c h q = omega (arith, ltb-true p n h, c .asps)
-ask-fits n m k iid (Down p) c h q = omega (arith, ltb-true p n h, c .asps)
-ask-fits n m k iid (Traffic on p r) c h q = omega (arith, ltb-true p n h, c .asps)
-ask-fits n m k iid (Other p wrong r) c h q = (omega (arith, ltb-true p n h, c .asps), q .0, q .1)
-ask-fits n m k iid (Lost p) c h q = omega (arith, ltb-true p n h, c .asps)
-ask-fits n m k iid (Recovery a) c h q = refl
-ask-fits n m k iid (LinkUp l) c h q = ltb-true l k h
-ask-fits n m k iid (LinkDown l) c h q = ltb-true l k h
-ask-fits n m k iid (LinkMessage r) c h q = side iid k r h
+pub ask-fits : (asps ases links : ℕ) (iid s : List ℕ) (ask : Ask) → Limits asps ases links → askKnown asps ases links iid ask ≡ true
+    → AskSmall s ask → AskFits links iid s ask
+ask-fits n m k iid s (Up p r) c h q = omega (arith, ltb-true p n h, c .asps)
+ask-fits n m k iid s (Down p) c h q = omega (arith, ltb-true p n h, c .asps)
+ask-fits n m k iid s (Traffic on p r) c h q = omega (arith, ltb-true p n h, c .asps)
+ask-fits n m k iid s (Other p wrong r) c h q = (omega (arith, ltb-true p n h, c .asps), q .0, q .1)
+ask-fits n m k iid s (Lost p) c h q = omega (arith, ltb-true p n h, c .asps)
+ask-fits n m k iid s (Recovery a) c h q = refl
+ask-fits n m k iid s (LinkUp l) c h q = ltb-true l k h
+ask-fits n m k iid s (LinkDown l) c h q = ltb-true l k h
+ask-fits n m k iid s (LinkMessage r) c h q = (side iid k r h, fits iid k s r q h)
 
-pub ask-fits-at : (g : Gateway) (ask : Ask) {n : ℕ} → n ≡ g .links → Limits (g .asps) (g .ases) (g .links) → askKnown (g .asps) (g .ases) (g .links) (g .iid) ask ≡ true → AskSmall ask → AskFits n (g .iid) ask
-ask-fits-at g ask e c h q = rw e (ask-fits (g .asps) (g .ases) (g .links) (g .iid) ask c h q)
+pub ask-fits-at : (g : Gateway) (s : List ℕ) (ask : Ask) {n : ℕ} → n ≡ g .links → Limits (g .asps) (g .ases) (g .links) → askKnown (g .asps) (g .ases) (g .links) (g .iid) ask ≡ true → AskSmall s ask → AskFits n (g .iid) s ask
+ask-fits-at g s ask e c h q = rw e (ask-fits (g .asps) (g .ases) (g .links) (g .iid) s ask c h q)
 
 -- ---- what is asked is the event
 

@@ -3,14 +3,16 @@
 use mathlib.Core.Path.{_≡_, refl, sym, _∙_}
 use mathlib.Core.Bool.{Bool, true, false, cond, not, _&&_, _||_, false≢true}
 use mathlib.Core.List.{List}
-use Prim.Native.Nat.{ℕ, zero, suc, _<_}
+use Prim.Native.Nat.{ℕ, zero, suc, _<_, _≤_}
 use native.Mathlib.Omega.{arith}
 use native.Mathlib.Decide.{decLt}
 use lib.Dec.{eqb, leb, ltb}
 use borrow.Author.Tests.{ne-eqb, le-leb, lt-leb, le-ltb, eqb-true}
 use Rattle.laws.specs.Inner.Every.{and-left, and-right}
 use Rattle.message.specs.Verdict.{verdict}
-use Rattle.message.specs.Meaning.{meaning, outcome, readingOf}
+use Rattle.message.specs.Meaning.{meaning, outcome, readingOf, dataAt}
+use Rattle.message.proofs.Accepted.{accepted}
+use Rattle.message.proofs.GoodUnit.{good-unit, correlation-marked}
 use Rattle.message.specs.declared.Reading.{Reading}
 use Rattle.gateway.specs.declared.Gateway.{Gateway}
 use Rattle.lookup.specs.Links.{indexOf, known}
@@ -70,6 +72,26 @@ from-small k h = go (decLt k 256)
         (false≢true
         (rw (ne-eqb k 1 (λ e. omega arith), ne-eqb k 8 (λ e. omega arith), ne-eqb k 9 (λ e. omega arith), le-leb 11 k (omega arith), lt-leb k 14 (omega arith))
         at h))
+
+-- what protocol data has that is held: it fits a place of the hold, and lies within a message
+pub record Fits (s : List ℕ) (r : Reading) : Type 0 where
+  pub short : dataAt s .length ≤ 273
+  pub early : dataAt s .start ≤ 2048
+  pub mark : r .correlated ≤ 1
+
+pub fits : (iid : List ℕ) (links : ℕ) (s : List ℕ) (r : Reading) → r ≡ readingOf s → passes iid links r ≡ true → r .msgtype ≡ 1 → Fits s r
+unfolding passes
+fits iid links s r e h m =
+    let a = eqb (r .class) 6 in
+    let b = fromLink (r .msgtype) && known iid links (r .id) in
+    let x = and-right (eqb (r .code) 0) (a && b) h in
+    let v : verdict s ≡ 0 = sym (code-is s) ∙ (λ j. sym e j .code) ∙ eqb-true (r .code) 0 (and-left (eqb (r .code) 0) (a && b) h) in
+    let u = good-unit s v ((λ j. sym e j .class) ∙ eqb-true (r .class) 6 (and-left a b x)) ((λ j. sym e j .msgtype) ∙ m) in
+    record {
+      short = u .most;
+      early = omega (arith, u .within, accepted s v .small);
+      mark = rw e (correlation-marked s .0);
+    }
 
 -- what a message of the link side that passes has
 pub record Side (iid : List ℕ) (links : ℕ) (r : Reading) : Type 0 where
