@@ -1,9 +1,9 @@
--- The message that an action to an ASP goes out as (Rules 8.8 to 8.14).
+-- The message that an action to an ASP goes out as (Rules 8.8 to 8.14, 8.18).
 -- Assumes nothing.
-use Prim.Native.Nat.{ℕ, _/_, _%_}
+use Prim.Native.Nat.{ℕ, _-_, _/_, _%_}
 use mathlib.Core.Bool.{Bool, cond, _||_}
 use mathlib.Core.List.{List, [], _∷_, _++_}
-use lib.ListN.{length}
+use lib.ListN.{length, take, drop}
 use lib.Dec.{eqb}
 use Rattle.laws.specs.Below.{concatBelow}
 use Rattle.laws.specs.Columns.{numberAt}
@@ -13,9 +13,10 @@ use Rattle.encode.specs.Encode.{encode}
 use Rattle.select.specs.Only.{only}
 use Rattle.gateway.specs.declared.Gateway.{Gateway}
 use Rattle.action.specs.declared.Action.{Action}
-use Rattle.action.specs.Types.{mgmtError, mgmtNotify, beatAck, aspUpAck, aspDownAck, aspActiveAck, aspInactiveAck, dataAck}
+use Rattle.action.specs.Types.{mgmtError, mgmtNotify, beatAck, aspUpAck, aspDownAck, aspActiveAck, aspInactiveAck, userData, dataAck}
 use Rattle.rules.specs.Event.{EventKind, message, lost, recovery, linkUp, linkDown, linkMessage}
 use Rattle.rules.specs.Identifiers.{isIds, ownerAt}
+use Rattle.rules.specs.Effect.{holdAt}
 
 -- a parameter that holds one number
 abbrev pub numberPar : ℕ → ℕ → Par
@@ -49,25 +50,35 @@ beatAckPars ps = only (λ t. eqb t 0x9) ps
 unfoldable pub linkPars : Action → List Par
 linkPars o = numberPar 0x1 (o .subject) ∷ cond (eqb (o .classtype) dataAck) (numberPar 0x13 (o .value) ∷ []) []
 
+-- Rule 8.18: a unit that was held says its interface identifier, its data with the body from the hold h, and its correlation id where it has one; i is its index
+unfoldable pub heldBody : Gateway → List ℕ → ℕ → List ℕ
+heldBody g h i = take (numberAt (g .held .length) i - 4) (drop (holdAt (i / 8) (i % 8)) h)
+
+unfoldable pub unitPars : Gateway → List ℕ → ℕ → Action → List Par
+unitPars g h i o =
+    numberPar 0x1 (o .subject) ∷ par (numberAt (g .held .tag) i) (heldBody g h i)
+    ∷ cond (eqb (numberAt (g .held .marked) i) 1) (numberPar 0x13 (numberAt (g .held .correlation) i) ∷ []) []
+
 -- by class and type: Up Ack and Down Ack have no parameters, and what is left is of class 6
-unfoldable pub replyPars : Gateway → List Par → Action → List Par
-replyPars g ps o =
+unfoldable pub replyPars : Gateway → List ℕ → List Par → ℕ → Action → List Par
+replyPars g h ps i o =
     cond (eqb (o .classtype) mgmtError) (errorPars o)
     (cond (eqb (o .classtype) mgmtNotify) (notifyPars g o)
     (cond (eqb (o .classtype) aspUpAck || eqb (o .classtype) aspDownAck) []
     (cond (eqb (o .classtype) beatAck) (beatAckPars ps)
     (cond (eqb (o .classtype) aspActiveAck || eqb (o .classtype) aspInactiveAck) (trafficAckPars ps)
-    (linkPars o)))))
+    (cond (eqb (o .classtype) userData) (unitPars g h i o)
+    (linkPars o))))))
 
 -- Rule 8.14: what the link side sends is passed on with all that it has. An event without a message has no parameters to repeat.
-abbrev pub sentPars : Gateway → EventKind → Action → List Par
-sentPars g (message p s) o = replyPars g (walk s 8 .pars) o
-sentPars g (lost p) o = replyPars g [] o
-sentPars g (recovery a) o = replyPars g [] o
-sentPars g (linkUp l) o = replyPars g [] o
-sentPars g (linkDown l) o = replyPars g [] o
-sentPars g (linkMessage s) o = walk s 8 .pars
+abbrev pub sentPars : Gateway → List ℕ → EventKind → ℕ → Action → List Par
+sentPars g h (message p s) i o = replyPars g h (walk s 8 .pars) i o
+sentPars g h (lost p) i o = replyPars g h [] i o
+sentPars g h (recovery a) i o = replyPars g h [] i o
+sentPars g h (linkUp l) i o = replyPars g h [] i o
+sentPars g h (linkDown l) i o = replyPars g h [] i o
+sentPars g h (linkMessage s) i o = walk s 8 .pars
 
--- the message (Rule 3.1)
-unfoldable pub sentBytes : Gateway → EventKind → Action → List ℕ
-sentBytes g k o = encode (o .classtype / 256) (o .classtype % 256) (sentPars g k o)
+-- the message (Rule 3.1); i is the index of the unit that it sends, if it sends one
+unfoldable pub sentBytes : Gateway → List ℕ → EventKind → ℕ → Action → List ℕ
+sentBytes g h k i o = encode (o .classtype / 256) (o .classtype % 256) (sentPars g h k i o)

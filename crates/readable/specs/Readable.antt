@@ -13,22 +13,24 @@ use Rattle.gateway.specs.declared.Gateway.{Gateway}
 use Rattle.action.specs.declared.Action.{Action}
 use Rattle.rules.specs.Event.{EventKind}
 use Rattle.rules.specs.Rules.{inPlan}
-use Rattle.outgoing.specs.Message.{sentPars, sentBytes}
-use Rattle.outgoing.specs.Send.{actionsOn, actionAt, isSent, Sends}
+use Rattle.rules.specs.Effect.{holdBytes}
+use Rattle.rules.specs.Sent.{actionsOn, actionAt, isSent, unitFor}
+use Rattle.outgoing.specs.Message.{sentPars}
+use Rattle.outgoing.specs.Send.{messageAt, Sends}
 
 -- the message of an action reads: no verdict but 0, the action's class and type, exactly the parameters that it is said to have; and it is no longer than a message may be
-pub record Reads (g : Gateway) (k : EventKind) (o : Action) (s : List ℕ) : Type 0 where
-  pub back : ReadsBack (o .classtype / 256) (o .classtype % 256) (sentPars g k o) s
+pub record Reads (g : Gateway) (h : List ℕ) (k : EventKind) (i : ℕ) (o : Action) (s : List ℕ) : Type 0 where
+  pub back : ReadsBack (o .classtype / 256) (o .classtype % 256) (sentPars g h k i o) s
   pub small : length s ≤ most
 
--- of every sound state, every event that its plan allows and every place of an action to an ASP
+-- of every sound state with its hold, every event that its plan allows and every place of an action to an ASP
 abbrev pub EveryReads : Type 0
 EveryReads =
-    (g : Gateway) (k : EventKind) (n : ℕ) → isSound g ≡ true → inPlan g k ≡ true → isSent (actionsOn g k) n ≡ true
-    → Reads g k (actionAt (actionsOn g k) n) (sentBytes g k (actionAt (actionsOn g k) n))
+    (g : Gateway) (h : List ℕ) (k : EventKind) (n : ℕ) → isSound g ≡ true → length h ≡ holdBytes → inPlan g k ≡ true → isSent (actionsOn g k) n ≡ true
+    → Reads g h k (unitFor g k n) (actionAt (actionsOn g k) n) (messageAt g h k n)
 
 -- so what a call has put into the buffer reads, unless it was refused
 abbrev pub SentReads : Type 0
 SentReads =
-    (g : Gateway) (k : EventKind) (n : ℕ) (out : List ℕ) (r : Written) (out′ : List ℕ) → Sends g k n out r out′ → r .code ≡ 0
-    → Reads g k (actionAt (actionsOn g k) n) (take (r .length) out′)
+    (g : Gateway) (h : List ℕ) (k : EventKind) (n : ℕ) (out : List ℕ) (r : Written) (out′ : List ℕ) → Sends g h k n out r out′ → r .code ≡ 0
+    → Reads g h k (unitFor g k n) (actionAt (actionsOn g k) n) (take (r .length) out′)

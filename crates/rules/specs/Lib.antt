@@ -7,5 +7,6 @@ pub mod Rules
 pub mod Reach
 pub mod Entry
 pub mod Calls
+pub mod Sent
 pub mod Samples
 pub mod Inner

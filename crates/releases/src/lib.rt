@@ -1,0 +1,1 @@
+// The unit held that each Data to an ASP sends: the theorem every-unit and its proof (proofs/ alone).

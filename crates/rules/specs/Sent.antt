@@ -1,0 +1,67 @@
+-- The actions of an event, place by place, and the unit held that each Data to an ASP sends (Rules 8.15, 8.18).
+-- Assumes nothing.
+use mathlib.Core.Path.{_≡_}
+use mathlib.Core.Bool.{Bool, true, false, _&&_, not}
+use mathlib.Core.List.{List}
+use Prim.Native.Nat.{ℕ, _/_, _%_, _<_}
+use lib.Dec.{eqb, ltb}
+use lib.ListN.{length, getD}
+use Rattle.laws.specs.Below.{concatBelow, countBelow, when}
+use Rattle.laws.specs.Columns.{numberAt}
+use Rattle.gateway.specs.Sound.{isSound}
+use Rattle.gateway.specs.declared.Gateway.{Gateway}
+use Rattle.action.specs.declared.Action.{Action}
+use Rattle.action.specs.Types.{userData}
+use Rattle.action.specs.Words.{action, linkSide}
+use Rattle.rules.specs.Event.{EventKind, message, lost, recovery, linkUp, linkDown, linkMessage}
+use Rattle.rules.specs.Effect.{actionsOf, stateAfter}
+use Rattle.rules.specs.Rules.{effectOf, inPlan}
+
+-- the actions of an event, whatever is lent
+abbrev pub actionsOn : Gateway → EventKind → List Action
+actionsOn g k = actionsOf g (effectOf g k)
+
+-- the action at a place; beyond them, one to the link side
+unfoldable pub actionAt : List Action → ℕ → Action
+actionAt os n = getD os n (action linkSide 0 0 0)
+
+-- the place is that of an action to an ASP
+unfoldable pub isSent : List Action → ℕ → Bool
+isSent os n = ltb n (length os) && not (eqb (actionAt os n .to) linkSide)
+
+-- the indices of the units that are gone from a state g to a state c, AS by AS, the oldest first: an AS lets all of them go, or none
+unfoldable pub gone : Gateway → Gateway → List ℕ
+gone g c = concatBelow (λ i. when (ltb (i % 8) (numberAt (g .held .count) (i / 8)) && eqb (numberAt (c .held .count) (i / 8)) 0) i) 128
+
+-- Data to an ASP
+unfoldable pub isData : Action → Bool
+isData o = eqb (o .classtype) userData && not (eqb (o .to) linkSide)
+
+-- how many of the first n actions are
+unfoldable pub dataBefore : List Action → ℕ → ℕ
+dataBefore os n = countBelow (λ m. isData (actionAt os m)) n
+
+-- the unit that the action at place n sends: units go in the sequence of their actions
+unfoldable pub unitFor : Gateway → EventKind → ℕ → ℕ
+unitFor g k n = getD (gone g (stateAfter g (effectOf g k))) (dataBefore (actionsOn g k) n) 0
+
+-- what the link side sends is passed on, and was not held
+abbrev pub isPassed : EventKind → Bool
+isPassed (message p s) = false
+isPassed (lost p) = false
+isPassed (recovery a) = false
+isPassed (linkUp l) = false
+isPassed (linkDown l) = false
+isPassed (linkMessage s) = true
+
+-- the action at place n sends that unit: it is held, and of the link that the action names
+pub record SendsUnit (g : Gateway) (k : EventKind) (n : ℕ) : Type 0 where
+  pub place : unitFor g k n < 128
+  pub held : unitFor g k n % 8 < numberAt (g .held .count) (unitFor g k n / 8)
+  pub link : numberAt (g .held .id) (unitFor g k n) ≡ actionAt (actionsOn g k) n .subject
+
+-- of every sound state, every event that its plan allows and is not of the link side, and every place of a Data to an ASP
+abbrev pub EveryUnit : Type 0
+EveryUnit =
+    (g : Gateway) (k : EventKind) (n : ℕ) → isSound g ≡ true → inPlan g k ≡ true → isPassed k ≡ false → ltb n (length (actionsOn g k)) ≡ true → isData (actionAt (actionsOn g k) n) ≡ true
+    → SendsUnit g k n
