@@ -72,14 +72,6 @@ module _ (g : Gateway) (g′ : Gateway) where
   unfolding ownersNamed
   owners-plan ps = tabulate-ext false 16 _ _ (λ a b. owns-plan ps a)
 
-  known-plan : (x : ℕ) → isKnown (dyn g g′) x ≡ isKnown g x
-  unfolding isKnown
-  known-plan x = refl
-
-  link-plan : (x : ℕ) → linkOf (dyn g g′) x ≡ linkOf g x
-  unfolding linkOf
-  link-plan x = refl
-
   other-plan : (mode : ℕ) (named : List Bool) → otherMode (dyn g g′) mode named ≡ otherMode g mode named
   unfolding otherMode
   other-plan mode named = refl

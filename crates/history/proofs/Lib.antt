@@ -6,3 +6,4 @@ pub mod Alike
 pub mod Frame
 pub mod Keeps
 pub mod Boards
+pub mod History

@@ -3,7 +3,7 @@
 use mathlib.Core.Path.{_≡_, refl, ap, _∙_}
 use mathlib.Core.Bool.{Bool, true, false, _&&_, cond, not}
 use mathlib.Core.List.{List}
-use Prim.Native.Nat.{ℕ, _+_, _*_, _/_, _<_}
+use Prim.Native.Nat.{ℕ, _+_, _/_, _<_}
 use native.Mathlib.Omega.{arith}
 use native.Mathlib.Decide.{decLt}
 use lib.Dec.{ltb}
@@ -12,7 +12,6 @@ use Rattle.laws.specs.Columns.{flagAt, numberAt}
 use Rattle.gateway.specs.Sound.{unitIndex}
 use Rattle.gateway.specs.declared.Gateway.{Gateway}
 use Rattle.gateway.specs.declared.Units.{Units}
-use Rattle.server.specs.declared.AsRecord.{AsRecord}
 use Rattle.server.specs.declared.Arrival.{Arrival}
 use Rattle.server.specs.declared.Change.{Change}
 use Rattle.server.specs.Change.{after}

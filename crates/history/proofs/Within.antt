@@ -389,14 +389,14 @@ module _ (g : Gateway) (ok : isSound g ≡ true) where
       let o = ownerAt g (linkOf g (readingOf s .id)) in
       let m = eqb (readingOf s .msgtype) 1 in
       let t =
-          taken-in g s o (arrival s (readingOf s)) ok i
-          (record {
-            owner = refl;
-            unit = refl;
-            is-data = eqb-true (readingOf s .msgtype) 1 (and-left m (isPending g o) p);
-            pending = and-right m (isPending g o) p;
-            room = ltb-true (numberAt (g .held .count) o) 8 u;
-          }) in
+      taken-in g s o (arrival s (readingOf s)) ok i
+      (record {
+        owner = refl;
+        unit = refl;
+        is-data = eqb-true (readingOf s .msgtype) 1 (and-left m (isPending g o) p);
+        pending = and-right m (isPending g o) p;
+        room = ltb-true (numberAt (g .held .count) o) 8 u;
+      }) in
       record {
         reached = and-both (ltb o (g .ases)) _ (lt-ltb o (g .ases) (t .as-below)) (and-both (isKnown g (readingOf s .id)) (eqb o o) (t .is-known) (eq-eqb o o refl));
         below = t .as-16;
