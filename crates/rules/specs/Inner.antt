@@ -2,3 +2,4 @@ pub mod Accepted
 pub mod Few
 pub mod Decision
 pub mod Samples
+pub mod TakeIn
