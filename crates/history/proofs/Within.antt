@@ -1,9 +1,10 @@
--- What an accepted event may do lies within its reach: the ASes that its change names, the link that it turns. Kind by kind.
+-- What an accepted event may do lies within its reach: the ASes that its change names, the link that it turns, the AS that takes its unit in. Kind by
+-- kind.
 -- Assumes nothing.
 use mathlib.Core.Path.{_≡_, refl, sym, _∙_}
 use mathlib.Core.Bool.{Bool, true, false, _&&_, _||_, not, cond}
 use mathlib.Core.List.{List, [], _∷_}
-use Prim.Native.Nat.{ℕ, zero, suc, _+_, _<_, _≤_}
+use Prim.Native.Nat.{ℕ, zero, suc, _+_, _<_}
 use native.Mathlib.Omega.{arith}
 use native.Mathlib.Decide.{decLt}
 use lib.Dec.{eqb, ltb}
@@ -17,7 +18,6 @@ use Rattle.wire.specs.Walk.{Par, walk}
 use Rattle.message.specs.Verdict.{verdict}
 use Rattle.message.specs.Meaning.{readingOf}
 use Rattle.message.specs.declared.Reading.{Reading}
-use Rattle.message.proofs.GoodUnit.{correlation-marked}
 use Rattle.gateway.specs.Sound.{pair, isSound}
 use Rattle.gateway.specs.Inner.Laws.{counts-within, owner-within, member-within}
 use Rattle.gateway.specs.declared.Gateway.{Gateway}
@@ -39,7 +39,7 @@ use Rattle.rules.specs.Asp.{asesOf, upEffect, downEffect, lostEffect, otherMode
 use Rattle.rules.specs.Link.{starting, inService, stopping, idle, establish, release, dataEffect, linkEffect, classSixEffect, linkUpEffect, linkDownEffect, isPending, arrival, holdEffect, linkMessageEffect}
 use Rattle.rules.specs.Rules.{isError, classTypeOf, fromAsp, readEffect, messageEffect, effectOf, inPlan}
 use Rattle.rules.specs.Reach.{ownsId, readReach, messageReach, kindReach, fromController}
-use Rattle.rules.specs.Inner.TakeIn.{TakenIn, taken-in}
+use Rattle.rules.specs.Inner.TakeIn.{taken-in}
 use Rattle.history.specs.Inner.Local.{false-of}
 use Rattle.history.proofs.Bits.{clash, or-left, or-right, or-case, by-cond}
 
@@ -363,24 +363,6 @@ module _ (g : Gateway) (ok : isSound g ≡ true) where
 
   -- ---- a unit of the link side
 
-  -- the marks of a unit, as the state tests them
-  marked : (m n : ℕ) → m ≤ 1 → (m ≡ 0 → n ≡ 0) → (eqb m 1 || (eqb m 0 && eqb n 0)) ≡ true
-  marked zero n b h = eq-eqb n 0 (h refl)
-  marked (suc zero) n b h = refl
-  marked (suc (suc m)) n b h = let z : ⊥ = omega arith in absurd z
-
-  unit-of : (s : List ℕ) (a : ℕ) (x : Arrival) → TakenIn g s a x → UnitOf (g .iid) (g .owner) (g .links) a x
-  unfolding arrival
-  unit-of s a x t =
-      let c = correlation-marked s in
-      record {
-        tagged = rw (t .takes .unit) (t .good .tagged);
-        least = rw (t .takes .unit) (omega (arith, t .good .least));
-        most = rw (t .takes .unit) (omega (arith, t .good .most));
-        known = t .of-link;
-        marks = rw (t .takes .unit) (marked (readingOf s .correlated) (readingOf s .correlation) (c .0) (c .1));
-      }
-
   into : (s : List ℕ) → inPlan g (linkMessage s) ≡ true → (eqb (readingOf s .msgtype) 1 && isPending g (ownerAt g (linkOf g (readingOf s .id)))) ≡ true
       → ltb (numberAt (g .held .count) (ownerAt g (linkOf g (readingOf s .id)))) 8 ≡ true
       → Into g (Reaches g (linkMessage s)) (ownerAt g (linkOf g (readingOf s .id))) (arrival s (readingOf s))
@@ -402,7 +384,7 @@ module _ (g : Gateway) (ok : isSound g ≡ true) where
         below = t .as-16;
         waits = t .waits;
         room = t .takes .room;
-        good = unit-of s o (arrival s (readingOf s)) t;
+        good = record { tagged = t .tagged; least = t .least; most = t .longest; known = t .of-link; marks = t .marks };
       }
 
   -- ---- every kind

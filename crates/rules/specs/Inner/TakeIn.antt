@@ -1,8 +1,8 @@
 -- Where an event takes a unit in (Rule 7.24): it is Data of the link side, for an AS of the plan that waits and has room.
 -- Assumes nothing.
-use Prim.Native.Nat.{ℕ, _<_, _≤_, _-_}
+use Prim.Native.Nat.{ℕ, zero, suc, _<_, _≤_, _-_}
 use mathlib.Core.Path.{_≡_, refl, subst}
-use mathlib.Core.Bool.{Bool, true, false, _&&_, cond}
+use mathlib.Core.Bool.{Bool, true, false, _||_, _&&_, cond}
 use mathlib.Core.List.{List}
 use native.Mathlib.Omega.{arith}
 use lib.Dec.{eqb, ltb}
@@ -15,7 +15,7 @@ use Rattle.message.specs.Verdict.{verdict}
 use Rattle.message.specs.Meaning.{readingOf}
 use Rattle.message.specs.declared.Reading.{Reading}
 use Rattle.message.specs.Inner.GoodUnit.{GoodUnit}
-use Rattle.message.proofs.GoodUnit.{good-unit}
+use Rattle.message.proofs.GoodUnit.{good-unit, correlation-marked}
 use Rattle.gateway.specs.Sound.{isSound, isLinkOf}
 use Rattle.gateway.specs.Inner.Laws.{counts-within, owner-within}
 use Rattle.gateway.specs.declared.Gateway.{Gateway}
@@ -162,6 +162,17 @@ pub record TakenIn (g : Gateway) (s : List ℕ) (a : ℕ) (x : Arrival) : Type 0
   pub of-link : isLinkOf (g .iid) (g .owner) (g .links) a (x .id) ≡ true
   pub good : GoodUnit s
   pub most : x .length - 4 ≤ 273
+  -- the unit, as a sound state asks for it (Rule 5.21)
+  pub tagged : (eqb (x .tag) 0x300 || eqb (x .tag) 0x301) ≡ true
+  pub least : 5 ≤ x .length
+  pub longest : x .length ≤ 277
+  pub marks : (eqb (x .marked) 1 || (eqb (x .marked) 0 && eqb (x .correlation) 0)) ≡ true
+
+-- a mark is 0 or 1, and without one there is no correlation id
+marked : (m n : ℕ) → m ≤ 1 → (m ≡ 0 → n ≡ 0) → (eqb m 1 || (eqb m 0 && eqb n 0)) ≡ true
+marked zero n b h = eq-eqb n 0 (h refl)
+marked (suc zero) n b h = refl
+marked (suc (suc m)) n b h = let z : ⊥ = omega arith in absurd z
 
 pub taken-in : (g : Gateway) (s : List ℕ) (a : ℕ) (x : Arrival) → isSound g ≡ true → inPlan g (linkMessage s) ≡ true → Takes g s a x → TakenIn g s a x
 unfolding isKnown linkOf known arrival isLinkOf
@@ -175,6 +186,7 @@ taken-in g s a x ok i t =
     let b : l < g .links = ltb-true l (g .links) y in
     let o : a < g .ases = rw (t .owner) (owner-within g ok l b) in
     let u = good-unit s v c (t .is-data) in
+    let k = correlation-marked s in
     record {
       takes = t;
       reads = v;
@@ -190,6 +202,10 @@ taken-in g s a x ok i t =
           (and-both _ _ (eq-eqb (numberAt (g .iid) l) (r .id) (index-is (g .iid) (g .links) (r .id) b)) (eq-eqb (numberAt (g .owner) l) (numberAt (g .owner) l) refl)));
       good = u;
       most = rw (t .unit) (omega (arith, u .most));
+      tagged = rw (t .unit) (u .tagged);
+      least = rw (t .unit) (omega (arith, u .least));
+      longest = rw (t .unit) (omega (arith, u .most));
+      marks = rw (t .unit) (marked (r .correlated) (r .correlation) (k .0) (k .1));
     }
 
 -- an accepted event that takes a unit in
