@@ -1,6 +1,6 @@
 -- What the parts of a `Decision` are, by `what`.
 -- Assumes nothing.
-use Prim.Native.Nat.{ℕ, _+_, _*_, _<_, _≤_}
+use Prim.Native.Nat.{ℕ, _+_, _-_, _*_, _<_, _≤_}
 use mathlib.Core.Path.{_≡_, refl, ap, _∙_, sym}
 use mathlib.Core.Bool.{Bool, true, false, cond, not, _&&_, _||_, false≢true}
 use mathlib.Core.List.{List, [], _∷_, _++_}
@@ -11,6 +11,7 @@ use borrow.Author.Tests.{ne-eqb, eqb-true, eqb-false}
 use Rattle.laws.specs.Below.{when}
 use Rattle.action.specs.declared.Action.{Action}
 use Rattle.action.specs.Inner.Words.{Written, toAll-short, written-none, written-append, written-length}
+use Rattle.gateway.specs.Sound.{unitIndex}
 use Rattle.gateway.specs.declared.Gateway.{Gateway}
 use Rattle.gateway.specs.declared.Units.{Units}
 use Rattle.server.specs.Record.{recordFrom, recordOf}
@@ -18,10 +19,11 @@ use Rattle.servers.specs.Changed.{withChange, unitsWithout, unitsWith, letsGo, 
 use Rattle.servers.specs.Inner.Changed.{allActions-short}
 use Rattle.servers.specs.Inner.Run.{Ran, ran-actions}
 use Rattle.rules.specs.declared.Decision.{Decision}
-use Rattle.rules.specs.Effect.{Effect, send, setLink, changeIn, takeIn, actionsOf, stateAfter, holdAfter}
+use Rattle.rules.specs.Effect.{Effect, send, setLink, changeIn, takeIn, actionsOf, stateAfter, holdAt, holdAfter}
 use Rattle.rules.specs.Inner.Decision.{firstActions, spread, arrivalIn, effectIn}
 use Rattle.work.specs.Inner.Decides.{aspOf, fits-asp}
 use Rattle.events.specs.Inner.Perform.{Performed}
+use Rattle.events.specs.declared.Put.{Put}
 
 -- the actions that are written before a change in ASes
 unfoldable pub firstOf : Decision → List Action
@@ -47,6 +49,20 @@ pub record Enacted (g : Gateway) (d : Effect) (ws up active waiting ws′ : List
 pub record Changed (w : Decision) (up member mode count id active waiting ws : List ℕ) (n : ℕ) (up′ active′ waiting′ ws′ : List ℕ) (r : ℕ) : Type 0 where
   pub ran : Ran (w .change) (w .who) (recordFrom up member active waiting mode) count id active waiting ws n active′ waiting′ ws′ r
   pub marked : up′ ≡ upAfter (w .change) up
+
+-- where a unit that comes in goes, which is the k-th of its AS
+unfoldable pub putIn : Decision → ℕ → Put
+putIn w k =
+    record {
+      at = unitIndex (w .link) k;
+      tag = w .first .to;
+      length = w .first .classtype;
+      marked = w .state;
+      start = w .second .to;
+      bytes = w .first .classtype - 4;
+      place = holdAt (w .link) k;
+      count = k + 1;
+    }
 
 -- ---- laws
 
@@ -168,9 +184,9 @@ module _ (g : Gateway) (w : Decision) {ws ws′ : List ℕ} {n : ℕ} where
         held-is = h;
       })
 
-  pub enacted-take : {held : Units} → 4 < w .what → held ≡ unitsWith (g .held) (w .link) (arrivalIn w) → Enacted g (effectIn w) ws (g .up) (g .active) (g .waiting) ws held 0
-  enacted-take l h =
-      rw (effect-take w l) (record { wrote = written-none ws 0; few = omega arith; up-is = refl; active-is = refl; waiting-is = refl; held-is = h })
+pub enacted-take : (g : Gateway) (w : Decision) {ws : List ℕ} {held : Units} → 4 < w .what → held ≡ unitsWith (g .held) (w .link) (arrivalIn w) → Enacted g (effectIn w) ws (g .up) (g .active) (g .waiting) ws held 0
+enacted-take g w {ws} l h =
+    rw (effect-take w l) (record { wrote = written-none ws 0; few = omega arith; up-is = refl; active-is = refl; waiting-is = refl; held-is = h })
 
 -- the links' states, by `what`
 pub settled : (w : Decision) (state : List ℕ) → (eqb (w .what) 1 || eqb (w .what) 4) ≡ true → set state (w .link) (w .state) ≡ linkAfter (effectIn w) state

@@ -102,7 +102,7 @@ pub runs-yes : (g : Gateway) (k : EventKind) (size : ℕ) {ws ws′ part part′
     → part′ ≡ cond (eqb (length part) size) (holdAfter g (messageOf k) d part) part
     → Runs g (eventOf k (length ws) size) ws ws′ part part′ r
 unfolding nextHold
-runs-yes g k size {d = d} {no = no} e h q p b =
+runs-yes g k size {ws} {ws′} {part} {part′} {d} {no} {r} e h q p b =
     record {
       meets = handed g k size (does-yes g (inPlan g k) size (effectOf g k) e h (rw q at p));
       bytes = rw (← e, eq-eqb no 0 h, ← q) b;
@@ -110,4 +110,6 @@ runs-yes g k size {d = d} {no = no} e h q p b =
 
 -- so the entry that is lent the hold whole meets the rules
 pub runs-meets : {g : Gateway} {e : Event} {lent left part part′ : List ℕ} {r : Outcome} → Runs g e lent left part part′ r → length part ≡ e .hold → MeetsRules g e lent left part part′ r
-runs-meets {g} {e} {part = part} h z = rw (← h .bytes ∙ rw (eq-eqb (length part) (e .hold) z)) (h .meets part z)
+runs-meets {g} {e} {lent} {left} {part} {part′} {r} h z =
+    let b : part′ ≡ nextHold g e part = h .bytes ∙ rw (eq-eqb (length part) (e .hold) z) in
+    rw b (h .meets part z)
