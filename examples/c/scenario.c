@@ -1,5 +1,6 @@
 /* A small host: it loads a plan, lets two ASPs take turns, a link come up, units go both ways, an association break, units wait until the other ASP takes over,
- * and the recovery time run out. What a host sends, which units wait, and which timers it starts, is printed. (rust/m2ua/examples/scenario.rs is the same in Rust; tools/hosts compares what both print.)
+ * and the recovery time run out. What a host sends, which units wait, and which timers it starts, is printed. (rust/m2ua/examples/scenario.rs is the same in
+ * Rust; tools/hosts compares what both print.)
  * Usage: scenario PLAN, with examples/plans/sample.txt compiled; or scenario words. */
 #include <stdlib.h>
 #include <string.h>
