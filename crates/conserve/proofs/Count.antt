@@ -18,6 +18,20 @@ use Rattle.action.specs.Words.{wordsOf, linkSide, action}
 use Rattle.rules.specs.Reach.{ownsId}
 use Rattle.conserve.specs.Conserve.{isDataOf, least, sumBelow}
 
+-- ---- tests
+
+pub and-yes : (t : Bool) → (t && true) ≡ t
+and-yes true = refl
+and-yes false = refl
+
+pub and-no : (t : Bool) → (t && false) ≡ false
+and-no true = refl
+and-no false = refl
+
+pub zero-either : (t : Bool) → _≡_ {A = ℕ} 0 (cond t 0 0)
+zero-either true = refl
+zero-either false = refl
+
 -- ---- sums
 
 pub sum-ext : (f f′ : ℕ → ℕ) (n : ℕ) → ((i : ℕ) → i < n → f i ≡ f′ i) → sumBelow f n ≡ sumBelow f′ n
@@ -86,11 +100,7 @@ module _ (g : Gateway) (a : ℕ) where
 
   -- any other action
   pub no-data : (q k s v : ℕ) → eqb k userData ≡ false → isData g a (action q k s v) ≡ false
-  no-data q k s v e = rw e (go (not (eqb q linkSide)))
-    where
-      go : (t : Bool) → (t && false) ≡ false
-      go true = refl
-      go false = refl
+  no-data q k s v e = rw e (and-no (not (eqb q linkSide)))
 
   -- ---- as words
 

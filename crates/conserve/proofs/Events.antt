@@ -14,6 +14,7 @@ use Rattle.laws.specs.Inner.Every.{and-left, and-right, and-both, same-truth}
 use Rattle.laws.specs.Columns.{flagAt, numberAt, isSet, tabulate}
 use Rattle.laws.specs.Inner.Columns.{getD-tabulate}
 use Rattle.wire.specs.Walk.{Par}
+use Rattle.message.specs.Meaning.{readingOf}
 use Rattle.message.specs.declared.Reading.{Reading}
 use Rattle.gateway.specs.Sound.{isSound}
 use Rattle.gateway.specs.Inner.Laws.{parts, counts-within, owner-within}
@@ -27,14 +28,18 @@ use Rattle.server.specs.Inner.Change.{fits}
 use Rattle.server.specs.declared.Arrival.{Arrival}
 use Rattle.servers.specs.Changed.{withUnit}
 use Rattle.keeps.specs.Inner.Units.{joined-with, sizes}
-use Rattle.keeps.proofs.Next.{by-cond}
+use Rattle.keeps.proofs.Next.{by-cond, known-in, known-below, next-sound}
 use Rattle.rules.specs.Event.{EventKind, message, lost, recovery, linkUp, linkDown, linkMessage, Event}
+use Rattle.rules.specs.Identifiers.{isKnown, linkOf, ownerAt}
+use Rattle.rules.specs.Reach.{ownsId}
 use Rattle.rules.specs.Effect.{Effect, send, setLink, changeIn, takeIn, actionsOf, stateAfter}
 use Rattle.rules.specs.Asp.{upEffect, downEffect, lostEffect, activeEffect, inactiveEffect, trafficEffect}
-use Rattle.rules.specs.Link.{establish, release, dataEffect, linkEffect, classSixEffect, toRecipients, linkUpEffect, linkDownEffect, isPending, holdEffect, linkMessageEffect}
+use Rattle.rules.specs.Link.{establish, release, dataEffect, linkEffect, classSixEffect, toRecipients, linkUpEffect, linkDownEffect, isPending, arrival, holdEffect, linkMessageEffect}
 use Rattle.rules.specs.Rules.{readEffect, messageEffect, effectOf, inPlan, refusal}
+use Rattle.rules.specs.Entry.{actions, next}
+use Rattle.rules.specs.Inner.Accepted.{accepted}
 use Rattle.conserve.specs.Conserve.{isArrival, isRecovery, isOfLinkSide, holds}
-use Rattle.conserve.proofs.Count.{sum-none, dataIn, data-concat, no-data}
+use Rattle.conserve.proofs.Count.{sum-none, dataIn, data-concat, no-data, and-yes, and-no, zero-either}
 use Rattle.conserve.proofs.Step.{Step, still, joins, changed}
 
 module _ (g : Gateway) (a : ℕ) where
@@ -145,3 +150,63 @@ module _ (g : Gateway) (a : ℕ) where
     full : (o : ℕ) → ltb (holds g o) 8 ≡ false → Dec (o ≡ a) → isPending g o ≡ true → Step g a (eqb o a) false 0 g
     full o c (yes z) w = rw (eq-eqb o a z) (joins g ok a b (rw z at w) (let e : ltb (holds g a) 8 ≡ false = rw z at c in rw e (omega arith)))
     full o c (no z) w = rw (ne-eqb o a z) (still g ok a b refl refl)
+
+    linked : (s : List ℕ) → inPlan g (linkMessage s) ≡ true → Step g a (isArrival g (linkMessage s) a) false 0 (stateAfter g (linkMessageEffect g s (readingOf s)))
+    unfolding linkMessageEffect holdEffect ownsId
+    linked s i =
+        rw (k, own (eqb o a) refl)
+        (by-cond (eqb (readingOf s .msgtype) 1 && isPending g o) (λ (d : Effect). Step g a ((eqb (readingOf s .msgtype) 1 && isPending g o) && eqb o a) false 0 (stateAfter g d))
+        (λ t.
+        let w = and-right (eqb (readingOf s .msgtype) 1) _ t in
+        rw t
+        (by-cond (ltb (holds g o) 8) (λ (d : Effect). Step g a (eqb o a) false 0 (stateAfter g d))
+        (λ c. taken o (arrival s (readingOf s)) (omega (arith, counts-within g ok .ases, owner-within g ok (linkOf g (readingOf s .id)) (known-below g ok (readingOf s .id) k))) c (ℕ-discrete o a) w)
+        (λ c. full o c (ℕ-discrete o a) w)))
+        (λ t. rw t (still g ok a b refl refl)))
+      where
+        k : isKnown g (readingOf s .id) ≡ true
+        k = known-in g s i
+
+        o : ℕ
+        o = ownerAt g (linkOf g (readingOf s .id))
+
+        own : (t : Bool) → eqb o a ≡ t → (eqb (readingOf s .msgtype) 1 && (t && isPending g a)) ≡ ((eqb (readingOf s .msgtype) 1 && isPending g o) && t)
+        own true e = rw (eqb-true o a e, and-yes)
+        own false e = rw (and-no (eqb (readingOf s .msgtype) 1), and-no (eqb (readingOf s .msgtype) 1 && isPending g o))
+
+    -- ---- every event
+
+    over : (c : ℕ) → eqb c a ≡ flagAt (tabulate 16 (λ d. eqb d c)) a
+    over c = same-truth (eqb c a) (eqb a c) (λ e. eq-eqb a c (sym (eqb-true c a e))) (λ e. eq-eqb c a (sym (eqb-true a c e))) ∙ sym (getD-tabulate 16 (λ d. eqb d c) a false b)
+
+    of-up : (l : ℕ) → Fair (linkUpEffect g l)
+    unfolding linkUpEffect toRecipients
+    of-up l = search fairs depth 8
+
+    not-data : (t : Bool) → eqb (cond t 1541 1542) userData ≡ false
+    not-data true = refl
+    not-data false = refl
+
+    of-down : (l : ℕ) → Fair (linkDownEffect g l)
+    unfolding linkDownEffect toRecipients
+    of-down l = search (fairs, not-data) depth 8
+
+    of-kind : (k : EventKind) → inPlan g k ≡ true → isSound (stateAfter g (effectOf g k)) ≡ true
+        → Step g a (isArrival g k a) (isRecovery k a) (cond (isOfLinkSide k) 0 (dataIn g a (actionsOf g (effectOf g k)))) (stateAfter g (effectOf g k))
+    unfolding Fair lostEffect
+    of-kind (message p s) i = of-asp p (lt-ltb p 16 (omega (arith, counts-within g ok .asps, ltb-true p (g .asps) i))) s
+    of-kind (lost p) i = down-change p [] _ none
+    of-kind (recovery c) i = rw (over c) (λ s. changed g ok a b Recover (tabulate 16 (λ d. eqb d c)) refl [] none s)
+    of-kind (linkUp l) i = of-up l
+    of-kind (linkDown l) i = of-down l
+    of-kind (linkMessage s) i = λ _. linked s i
+
+    pub event-step : (e : Event)
+        → Step g a (eqb (refusal g e) 0 && isArrival g (e .kind) a) (eqb (refusal g e) 0 && isRecovery (e .kind) a) (cond (isOfLinkSide (e .kind)) 0 (dataIn g a (actions g e))) (next g e)
+    unfolding actions next
+    event-step e = go (eqb (refusal g e) 0) refl (next-sound g ok e)
+      where
+        go : (t : Bool) → eqb (refusal g e) 0 ≡ t → isSound (cond t (stateAfter g (effectOf g (e .kind))) g) ≡ true
+            → Step g a (t && isArrival g (e .kind) a) (t && isRecovery (e .kind) a) (cond (isOfLinkSide (e .kind)) 0 (dataIn g a (cond t (actionsOf g (effectOf g (e .kind))) []))) (cond t (stateAfter g (effectOf g (e .kind))) g)
+        go true h s = of-kind (e .kind) (accepted (isSound g) (inPlan g (e .kind)) (e .hold) (e .room) (eqb-true (refusal g e) 0 h) .known-yes) s
+        go false h s = rw (none, ← zero-either (isOfLinkSide (e .kind))) (still g ok a b refl refl)

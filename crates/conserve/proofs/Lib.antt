@@ -1,3 +1,4 @@
 pub mod Count
 pub mod Step
 pub mod Events
+pub mod Conserve

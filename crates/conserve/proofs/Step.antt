@@ -42,7 +42,7 @@ use Rattle.rules.specs.Effect.{Effect, send, setLink, changeIn, takeIn, actions
 use Rattle.rules.specs.Link.{isPending}
 use Rattle.rules.specs.Reach.{ownsId}
 use Rattle.conserve.specs.Conserve.{least, holds, sumBelow}
-use Rattle.conserve.proofs.Count.{sum-ext, sum-none, sum-single, sum-upto, least-is, dataIn, data-append, data-concat, no-data}
+use Rattle.conserve.proofs.Count.{sum-ext, sum-none, sum-single, sum-upto, least-is, dataIn, data-append, data-concat, no-data, and-yes, and-no, zero-either}
 
 -- From g to h: `came` says whether a unit came in for AS a, `over` whether its recovery time is over, `sent` how many went out. Units stay while it is pending.
 pub record Step (g : Gateway) (a : ℕ) (came over : Bool) (sent : ℕ) (h : Gateway) : Type 0 where
@@ -121,10 +121,6 @@ module _ (g : Gateway) (ok : isSound g ≡ true) (a : ℕ) (b : a < 16) where
   release Recover f = omega arith
 
 -- ---- Data among the actions of a change
-
-zero-either : (t : Bool) → _≡_ {A = ℕ} 0 (cond t 0 0)
-zero-either true = refl
-zero-either false = refl
 
 -- a unit of AS c has the identifier of a link of it
 unit-link : (u : Units) (iid owner : List ℕ) (links c i : ℕ) → unitAt u iid owner links c i ≡ true → isLinkOf iid owner links c (numberAt (u .id) i) ≡ true
@@ -205,10 +201,8 @@ module _ (g : Gateway) (ok : isSound g ≡ true) (a c : ℕ) (b : c < 16) where
 -- ---- the steps
 
 and-then : (u t : Bool) → (u && t) ≡ cond t u false
-and-then true true = refl
-and-then true false = refl
-and-then false true = refl
-and-then false false = refl
+and-then u true = and-yes u
+and-then u false = and-no u
 
 more : (t : Bool) (n : ℕ) → cond t n 0 ≡ cond t (n + 0) 0
 more true n = omega arith
@@ -223,10 +217,6 @@ left-of n w = go (decLt 0 n) w
     go (yes l) false = rw (lt-ltb 0 n l)
     go (no l) true = rw (le-ltb 0 n (omega arith))
     go (no l) false = rw (le-ltb 0 n (omega arith)) (omega arith)
-
-unnamed : (n : ℕ) (u : Bool) → cond (u && false) 0 n ≡ n
-unnamed n true = refl
-unnamed n false = refl
 
 module _ (g : Gateway) (ok : isSound g ≡ true) (a : ℕ) (b : a < 16) where
   change-data : (k : Change) (named : List Bool) → fits k ≡ true → dataIn g a (allActions g k named) ≡ cond (flagAt named a) (out k (holds g a)) 0
@@ -265,7 +255,7 @@ module _ (g : Gateway) (ok : isSound g ≡ true) (a : ℕ) (b : a < 16) where
       where
         go : (t : Bool) → cond (ltb 0 (holds g a) && (t && not (after k (recordOf g a) .waiting))) 0 (holds g a) ≡ cond (cond t (after k (recordOf g a) .waiting) (isSet (g .waiting) a)) (holds g a) 0
         go true = left-of (holds g a) (after k (recordOf g a) .waiting)
-        go false = unnamed (holds g a) (ltb 0 (holds g a)) ∙ kept .0
+        go false = rw (and-no (ltb 0 (holds g a))) (kept .0)
 
     gone : (t : Bool) → cond t (out k (holds g a)) 0 + cond (cond t (isOver k) false) (holds g a) 0 ≡ cond (cond t (after k (recordOf g a) .waiting) (isSet (g .waiting) a)) 0 (holds g a)
     gone true = release g ok a b k f

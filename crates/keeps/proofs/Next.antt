@@ -54,6 +54,10 @@ pending-waits g a h = go (some (recordOf g a .acts)) (isSet (g .waiting) a) (som
     go false false true e = clash false refl e
     go false false false e = clash false refl e
 
+-- a message of the link side that is not refused names a known link
+pub known-in : (g : Gateway) (s : List ℕ) → inPlan g (linkMessage s) ≡ true → isKnown g (readingOf s .id) ≡ true
+known-in g s i = and-right (fromLink (readingOf s .msgtype)) _ (and-right (eqb (readingOf s .class) 6) _ (and-right (eqb (verdict s) 0) _ i))
+
 module _ (g : Gateway) (ok : isSound g ≡ true) where
   unfoldable Keeps : Effect → Type 0
   Keeps d = isSound (stateAfter g d) ≡ true
@@ -77,7 +81,7 @@ module _ (g : Gateway) (ok : isSound g ≡ true) where
   unfolding Keeps
   recovered os named = keeps-recover g ok named
 
-  known-below : (x : ℕ) → isKnown g x ≡ true → linkOf g x < g .links
+  pub known-below : (x : ℕ) → isKnown g x ≡ true → linkOf g x < g .links
   unfolding isKnown linkOf known
   known-below x h = ltb-true (indexOf (g .iid) (g .links) x) (g .links) h
 
@@ -178,27 +182,23 @@ module _ (g : Gateway) (ok : isSound g ≡ true) where
   unit s i t =
       let r = readingOf s in
       let v = and-left (eqb (verdict s) 0) _ i in
-      let j = and-right (eqb (verdict s) 0) (eqb (r .class) 6 && (fromLink (r .msgtype) && isKnown g (r .id))) i in
-      let k = and-right (eqb (r .class) 6) (fromLink (r .msgtype) && isKnown g (r .id)) j in
-      let u = good-unit s (eqb-true (verdict s) 0 v) (eqb-true (r .class) 6 (and-left (eqb (r .class) 6) _ j)) (eqb-true (r .msgtype) 1 t) in
+      let j = and-left (eqb (r .class) 6) _ (and-right (eqb (verdict s) 0) _ i) in
+      let u = good-unit s (eqb-true (verdict s) 0 v) (eqb-true (r .class) 6 j) (eqb-true (r .msgtype) 1 t) in
       let m = correlation-marked s in
       record {
         tagged = u .tagged;
         least = omega arith;
         most = omega arith;
-        known = owned (r .id) (and-right (fromLink (r .msgtype)) (isKnown g (r .id)) k);
+        known = owned (r .id) (known-in g s i);
         marks = marks (r .correlated) (r .correlation) (m .0) (m .1);
       }
-
-  known-in : (s : List ℕ) → inPlan g (linkMessage s) ≡ true → isKnown g (readingOf s .id) ≡ true
-  known-in s i = and-right (fromLink (readingOf s .msgtype)) _ (and-right (eqb (readingOf s .class) 6) _ (and-right (eqb (verdict s) 0) _ i))
 
   taken : (s : List ℕ) → inPlan g (linkMessage s) ≡ true → eqb (readingOf s .msgtype) 1 ≡ true → isSet (g .waiting) (ownerAt g (linkOf g (readingOf s .id))) ≡ true
       → numberAt (g .held .count) (ownerAt g (linkOf g (readingOf s .id))) < 8 → Keeps (takeIn (ownerAt g (linkOf g (readingOf s .id))) (arrival s (readingOf s)))
   unfolding Keeps
   taken s i t w c =
       let o = ownerAt g (linkOf g (readingOf s .id)) in
-      keeps-unit g o (arrival s (readingOf s)) ok (omega (arith, counts-within g ok .ases, owner-within g ok (linkOf g (readingOf s .id)) (known-below (readingOf s .id) (known-in s i)))) w c (unit s i t)
+      keeps-unit g o (arrival s (readingOf s)) ok (omega (arith, counts-within g ok .ases, owner-within g ok (linkOf g (readingOf s .id)) (known-below (readingOf s .id) (known-in g s i)))) w c (unit s i t)
 
   linked : (s : List ℕ) → inPlan g (linkMessage s) ≡ true → Keeps (linkMessageEffect g s (readingOf s))
   unfolding linkMessageEffect holdEffect
