@@ -1,12 +1,12 @@
 -- No unit is lost or doubled, proved.
 -- Assumes nothing.
-use mathlib.Core.Path.{_≡_, refl, sym, ap, _∙_}
+use mathlib.Core.Path.{_≡_, refl, sym, _∙_}
 use mathlib.Core.Bool.{Bool, true, false, cond, _&&_, false≢true}
-use mathlib.Core.List.{List, [], _∷_}
+use mathlib.Core.List.{List}
 use Prim.Native.Nat.{ℕ, zero, suc, _+_, _<_}
 use native.Mathlib.Omega.{arith}
 use native.Mathlib.Decide.{decLt}
-use lib.Dec.{eqb, leb, ltb}
+use lib.Dec.{leb, ltb}
 use lib.ListN.{getD-replicate}
 use borrow.Author.Tests.{lt-ltb, le-ltb, lt-leb, le-leb}
 use Rattle.laws.specs.Below.{one}
@@ -15,12 +15,13 @@ use Rattle.gateway.specs.declared.Gateway.{Gateway}
 use Rattle.config.specs.Plan.{layoutOk, fresh, refused, accepted, built, loadOf}
 use Rattle.config.specs.Inner.Fresh.{rowsOf, freshOf, loaded-sound}
 use Rattle.rules.specs.Link.{isPending}
-use Rattle.rules.specs.Entry.{actions, next, MeetsRules}
-use Rattle.rules.specs.Calls.{Board, Call, Calls, none, call, boardAfter}
+use Rattle.rules.specs.Entry.{actions, MeetsRules}
+use Rattle.rules.specs.Calls.{Board, Call, Calls, none, call}
 use Rattle.keeps.proofs.Next.{next-sound}
-use Rattle.conserve.specs.Conserve.{isRecovery, done, cameIn, sentOut, least, since, Tally, tally, holds, sumBelow, Balanced, Balance, Conservation, FreshBalance}
-use Rattle.conserve.proofs.Count.{sum-ext, sum-add, least-is, data-words}
-use Rattle.conserve.proofs.Step.{Step, few}
+use Rattle.conserve.specs.Conserve.{isRecovery, done, cameIn, sentOut, least, since, tally, holds, sumBelow, Balanced, Balance, Conservation, FreshBalance}
+use Rattle.conserve.proofs.Count.{least-is, data-words}
+use Rattle.conserve.proofs.Step.{Step}
+use Rattle.conserve.proofs.Held.{few}
 use Rattle.conserve.proofs.Events.{event-step}
 
 -- ---- one call
@@ -34,6 +35,7 @@ eighth n c e = go (decLt n 8)
     go (no l) = let z : c ≡ 8 = e ∙ rw (le-ltb n 8 (omega arith)) in rw (z, le-ltb (n + 1) 8 (omega arith), le-leb 8 n (omega arith)) (omega arith, omega arith)
 
 module _ {g h : Gateway} {a : ℕ} {came over : Bool} {sent : ℕ} (n : ℕ) (e : holds g a ≡ least n 8) (s : Step g a came over sent h) where
+  -- by how much each number grows
   balanced : one came + holds g a ≡ sent + cond over (least n 8) 0 + one (came && leb 8 n) + holds h a
   balanced = rw (← e) (go (isPending h a) came (s .waits) (s .go) (s .stay))
     where
@@ -44,6 +46,7 @@ module _ {g h : Gateway} {a : ℕ} {came over : Bool} {sent : ℕ} (n : ℕ) (e 
       go false true w p q = absurd (false≢true (w refl))
       go false false w p q = omega arith
 
+  -- what is held is what came since, up to 8
   held-since : holds h a ≡ least (cond (isPending h a) (n + one came) 0) 8
   held-since = go (isPending h a) came (s .stay)
     where

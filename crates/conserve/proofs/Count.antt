@@ -1,6 +1,6 @@
 -- Sums over the numbers below a count, and how many of a list of actions are Data to an ASP about a link of AS a.
 -- Assumes nothing.
-use mathlib.Core.Path.{_≡_, refl, sym, ap, _∙_}
+use mathlib.Core.Path.{_≡_, refl, ap, _∙_}
 use mathlib.Core.Bool.{Bool, true, false, cond, not, _&&_}
 use mathlib.Core.List.{List, [], _∷_, _++_}
 use Prim.Native.Nat.{ℕ, zero, suc, _+_, _*_, _<_, _≤_}
@@ -10,13 +10,11 @@ use lib.Dec.{eqb, ltb}
 use lib.ListN.{length}
 use borrow.Author.Tests.{eq-eqb, ne-eqb, lt-ltb, le-ltb}
 use Rattle.laws.specs.Below.{one, countBelow, concatBelow}
-use Rattle.laws.specs.Columns.{numberAt}
 use Rattle.gateway.specs.declared.Gateway.{Gateway}
 use Rattle.action.specs.declared.Action.{Action}
 use Rattle.action.specs.Types.{userData}
-use Rattle.action.specs.Words.{wordsOf, linkSide, action}
-use Rattle.rules.specs.Reach.{ownsId}
-use Rattle.conserve.specs.Conserve.{isDataOf, least, sumBelow}
+use Rattle.action.specs.Words.{wordsOf, linkSide}
+use Rattle.conserve.specs.Conserve.{isData, isDataAt, least, sumBelow}
 
 -- ---- tests
 
@@ -73,19 +71,11 @@ least-is k n b = go (decLt k n)
     go (yes l) = rw (lt-ltb k n l)
     go (no l) = rw (le-ltb k n (omega arith)) (omega arith)
 
-pub sum-add : (f f′ : ℕ → ℕ) (n : ℕ) → sumBelow (λ i. f i + f′ i) n ≡ sumBelow f n + sumBelow f′ n
-unfolding sumBelow
-sum-add f f′ zero = refl
-sum-add f f′ (suc n) = omega (arith, sum-add f f′ n)
-
 -- ---- Data among actions
-
-abbrev pub isData : Gateway → ℕ → Action → Bool
-isData g a o = not (eqb (o .to) linkSide) && (eqb (o .classtype) userData && ownsId g (o .subject) a)
 
 unfoldable pub dataIn : Gateway → ℕ → List Action → ℕ
 dataIn g a [] = 0
-dataIn g a (o ∷ os) = one (isData g a o) + dataIn g a os
+dataIn g a (o ∷ os) = one (isData g a (o .to) (o .classtype) (o .subject)) + dataIn g a os
 
 module _ (g : Gateway) (a : ℕ) where
   pub data-append : (os ps : List Action) → dataIn g a (os ++ ps) ≡ dataIn g a os + dataIn g a ps
@@ -99,8 +89,8 @@ module _ (g : Gateway) (a : ℕ) where
   data-concat f (suc n) = data-append (concatBelow f n) (f n) ∙ rw (data-concat f n)
 
   -- any other action
-  pub no-data : (q k s v : ℕ) → eqb k userData ≡ false → isData g a (action q k s v) ≡ false
-  no-data q k s v e = rw e (and-no (not (eqb q linkSide)))
+  pub no-data : (q k s : ℕ) → eqb k userData ≡ false → isData g a q k s ≡ false
+  no-data q k s e = rw e (and-no (not (eqb q linkSide)))
 
   -- ---- as words
 
@@ -110,18 +100,18 @@ module _ (g : Gateway) (a : ℕ) where
   front f (suc n) = omega (arith, front f n)
 
   -- behind the four words of an action
-  behind : (x y z v : ℕ) (ws : List ℕ) (i : ℕ) → isDataOf g a (x ∷ y ∷ z ∷ v ∷ ws) (suc i) ≡ isDataOf g a ws i
-  unfolding isDataOf
+  behind : (x y z v : ℕ) (ws : List ℕ) (i : ℕ) → isDataAt g a (x ∷ y ∷ z ∷ v ∷ ws) (suc i) ≡ isDataAt g a ws i
+  unfolding isDataAt
   behind x y z v ws i =
       let e₀ : suc i * 4 ≡ suc (suc (suc (suc (i * 4)))) = omega arith in
       let e₁ : suc i * 4 + 1 ≡ suc (suc (suc (suc (i * 4 + 1)))) = omega arith in
       let e₂ : suc i * 4 + 2 ≡ suc (suc (suc (suc (i * 4 + 2)))) = omega arith in
       rw (e₁, e₂, e₀)
 
-  pub data-words : (os : List Action) (ws : List ℕ) → countBelow (isDataOf g a (wordsOf os ++ ws)) (length os) ≡ dataIn g a os
-  unfolding wordsOf dataIn isDataOf countBelow
+  pub data-words : (os : List Action) (ws : List ℕ) → countBelow (isDataAt g a (wordsOf os ++ ws)) (length os) ≡ dataIn g a os
+  unfolding wordsOf dataIn isDataAt countBelow
   data-words [] ws = refl
   data-words (o ∷ os) ws =
-      front (isDataOf g a (wordsOf (o ∷ os) ++ ws)) (length os)
-      ∙ ap (λ (f : ℕ → Bool). one (isData g a o) + countBelow f (length os)) (λ j i. behind (o .to) (o .classtype) (o .subject) (o .value) (wordsOf os ++ ws) i j)
-      ∙ ap (λ (x : ℕ). one (isData g a o) + x) (data-words os ws)
+      front (isDataAt g a (wordsOf (o ∷ os) ++ ws)) (length os)
+      ∙ ap (λ (f : ℕ → Bool). one (isData g a (o .to) (o .classtype) (o .subject)) + countBelow f (length os)) (λ j i. behind (o .to) (o .classtype) (o .subject) (o .value) (wordsOf os ++ ws) i j)
+      ∙ ap (λ (x : ℕ). one (isData g a (o .to) (o .classtype) (o .subject)) + x) (data-words os ws)

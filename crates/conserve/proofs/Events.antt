@@ -1,17 +1,16 @@
 -- Every event is a step (proofs/Step.antt).
 -- Assumes nothing.
-use mathlib.Core.Path.{_≡_, refl, sym, ap, _∙_}
-use mathlib.Core.Bool.{Bool, true, false, cond, not, _&&_, _||_}
-use mathlib.Core.List.{List, [], _∷_, _++_}
-use Prim.Native.Nat.{ℕ, _+_, _*_, _<_, _≤_}
+use mathlib.Core.Path.{_≡_, refl, sym, _∙_}
+use mathlib.Core.Bool.{Bool, true, false, cond, _&&_}
+use mathlib.Core.List.{List, [], _∷_}
+use Prim.Native.Nat.{ℕ, _+_, _<_}
 use native.Mathlib.Omega.{arith}
 use native.Mathlib.Decide.{ℕ-discrete}
 use lib.Seq.{getD-set-other}
-use lib.Dec.{eqb, leb, ltb}
-use borrow.Author.Tests.{eq-eqb, ne-eqb, eqb-true, lt-ltb, le-ltb, ltb-true}
-use Rattle.laws.specs.Below.{one, when}
-use Rattle.laws.specs.Inner.Every.{and-left, and-right, and-both, same-truth}
-use Rattle.laws.specs.Columns.{flagAt, numberAt, isSet, tabulate}
+use lib.Dec.{eqb, ltb}
+use borrow.Author.Tests.{eq-eqb, ne-eqb, eqb-true, lt-ltb, ltb-true}
+use Rattle.laws.specs.Inner.Every.{and-right, same-truth}
+use Rattle.laws.specs.Columns.{flagAt, tabulate}
 use Rattle.laws.specs.Inner.Columns.{getD-tabulate}
 use Rattle.wire.specs.Walk.{Par}
 use Rattle.message.specs.Meaning.{readingOf}
@@ -21,18 +20,18 @@ use Rattle.gateway.specs.Inner.Laws.{parts, counts-within, owner-within}
 use Rattle.gateway.specs.Inner.Sound.{Sized}
 use Rattle.gateway.specs.declared.Gateway.{Gateway}
 use Rattle.action.specs.declared.Action.{Action}
-use Rattle.action.specs.Types.{userData}
-use Rattle.action.specs.Words.{action, toEach, toAll}
+use Rattle.action.specs.Types.{userData, releaseConfirm, releaseIndication}
+use Rattle.action.specs.Words.{linkSide, action, toEach, toAll}
+use Rattle.server.specs.declared.Arrival.{Arrival}
 use Rattle.server.specs.declared.Change.the-variants.{AspUp, AspDown, Deactivate, Activate, Recover}
 use Rattle.server.specs.Inner.Change.{fits}
-use Rattle.server.specs.declared.Arrival.{Arrival}
 use Rattle.servers.specs.Changed.{withUnit}
 use Rattle.keeps.specs.Inner.Units.{joined-with, sizes}
 use Rattle.keeps.proofs.Next.{by-cond, known-in, known-below, next-sound}
 use Rattle.rules.specs.Event.{EventKind, message, lost, recovery, linkUp, linkDown, linkMessage, Event}
 use Rattle.rules.specs.Identifiers.{isKnown, linkOf, ownerAt}
 use Rattle.rules.specs.Reach.{ownsId}
-use Rattle.rules.specs.Effect.{Effect, send, setLink, changeIn, takeIn, actionsOf, stateAfter}
+use Rattle.rules.specs.Effect.{Effect, send, setLink, changeIn, actionsOf, stateAfter}
 use Rattle.rules.specs.Asp.{upEffect, downEffect, lostEffect, activeEffect, inactiveEffect, trafficEffect}
 use Rattle.rules.specs.Link.{establish, release, dataEffect, linkEffect, classSixEffect, toRecipients, linkUpEffect, linkDownEffect, isPending, arrival, holdEffect, linkMessageEffect}
 use Rattle.rules.specs.Rules.{readEffect, messageEffect, effectOf, inPlan, refusal}
@@ -51,9 +50,9 @@ module _ (g : Gateway) (a : ℕ) where
 
   other : (q k s v : ℕ) (os : List Action) → eqb k userData ≡ false → dataIn g a os ≡ 0 → dataIn g a (action q k s v ∷ os) ≡ 0
   unfolding dataIn
-  other q k s v os e n = rw (no-data g a q k s v e) (omega arith)
+  other q k s v os e n = rw (no-data g a q k s e) (omega arith)
 
-  to-link : (k s v : ℕ) (os : List Action) → dataIn g a os ≡ 0 → dataIn g a (action 255 k s v ∷ os) ≡ 0
+  to-link : (k s v : ℕ) (os : List Action) → dataIn g a os ≡ 0 → dataIn g a (action linkSide k s v ∷ os) ≡ 0
   unfolding dataIn
   to-link k s v os n = omega arith
 
@@ -151,6 +150,7 @@ module _ (g : Gateway) (a : ℕ) where
     full o c (yes z) w = rw (eq-eqb o a z) (joins g ok a b (rw z at w) (let e : ltb (holds g a) 8 ≡ false = rw z at c in rw e (omega arith)))
     full o c (no z) w = rw (ne-eqb o a z) (still g ok a b refl refl)
 
+    -- Data for an AS that is pending joins its units, or is the ninth; all else leaves them
     linked : (s : List ℕ) → inPlan g (linkMessage s) ≡ true → Step g a (isArrival g (linkMessage s) a) false 0 (stateAfter g (linkMessageEffect g s (readingOf s)))
     unfolding linkMessageEffect holdEffect ownsId
     linked s i =
@@ -176,6 +176,7 @@ module _ (g : Gateway) (a : ℕ) where
 
     -- ---- every event
 
+    -- who is named as a recovery time is over
     over : (c : ℕ) → eqb c a ≡ flagAt (tabulate 16 (λ d. eqb d c)) a
     over c = same-truth (eqb c a) (eqb a c) (λ e. eq-eqb a c (sym (eqb-true c a e))) (λ e. eq-eqb c a (sym (eqb-true a c e))) ∙ sym (getD-tabulate 16 (λ d. eqb d c) a false b)
 
@@ -183,7 +184,7 @@ module _ (g : Gateway) (a : ℕ) where
     unfolding linkUpEffect toRecipients
     of-up l = search fairs depth 8
 
-    not-data : (t : Bool) → eqb (cond t 1541 1542) userData ≡ false
+    not-data : (t : Bool) → eqb (cond t releaseConfirm releaseIndication) userData ≡ false
     not-data true = refl
     not-data false = refl
 

@@ -54,14 +54,17 @@ done d = eqb (d .outcome .refusal) 0
 unfoldable pub cameIn : Gateway → Call → ℕ → Bool
 cameIn g d a = done d && isArrival g (d .event .kind) a
 
--- action i of those in the words is Data to an ASP about a link of AS a
-unfoldable pub isDataOf : Gateway → ℕ → List ℕ → ℕ → Bool
-isDataOf g a ws i =
-    not (eqb (numberAt ws (i * 4)) linkSide) && (eqb (numberAt ws (i * 4 + 1)) userData && ownsId g (numberAt ws (i * 4 + 2)) a)
+-- an action that is Data to an ASP about a link of AS a
+abbrev pub isData : Gateway → ℕ → ℕ → ℕ → ℕ → Bool
+isData g a to classtype subject = not (eqb to linkSide) && (eqb classtype userData && ownsId g subject a)
 
--- how many of them there are; what the link side sends goes on at once, and was not held
+-- action i of those in the words is
+unfoldable pub isDataAt : Gateway → ℕ → List ℕ → ℕ → Bool
+isDataAt g a ws i = isData g a (numberAt ws (i * 4)) (numberAt ws (i * 4 + 1)) (numberAt ws (i * 4 + 2))
+
+-- how many are; what the link side sends goes on at once, and was not held
 unfoldable pub sentOut : Gateway → Call → ℕ → ℕ
-sentOut g d a = cond (isOfLinkSide (d .event .kind)) 0 (countBelow (isDataOf g a (d .left)) (d .outcome .count))
+sentOut g d a = cond (isOfLinkSide (d .event .kind)) 0 (countBelow (isDataAt g a (d .left)) (d .outcome .count))
 
 -- ---- a history, for AS a
 

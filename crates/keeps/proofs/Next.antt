@@ -1,9 +1,9 @@
 -- Every event leaves a sound state sound.
 -- Assumes nothing.
-use mathlib.Core.Path.{_≡_, refl, sym, ap, _∙_}
+use mathlib.Core.Path.{_≡_, refl, sym, _∙_}
 use mathlib.Core.Bool.{Bool, true, false, cond, not, _&&_, _||_}
 use mathlib.Core.List.{List, []}
-use Prim.Native.Nat.{ℕ, _+_, _<_, _≤_}
+use Prim.Native.Nat.{ℕ, _<_, _≤_}
 use native.Mathlib.Omega.{arith}
 use lib.Dec.{eqb, ltb}
 use borrow.Author.Tests.{eqb-true, eqb-false, eq-eqb, ltb-true, not-false}
@@ -13,12 +13,11 @@ use Rattle.laws.specs.Columns.{flagAt, numberAt, isSet, tabulate}
 use Rattle.laws.specs.Inner.Columns.{getD-tabulate}
 use Rattle.wire.specs.Walk.{Par, walk}
 use Rattle.message.specs.Verdict.{verdict}
-use Rattle.message.specs.Meaning.{readingOf, dataTag, dataAt}
+use Rattle.message.specs.Meaning.{readingOf}
 use Rattle.message.specs.declared.Reading.{Reading}
-use Rattle.message.specs.Inner.GoodUnit.{GoodUnit}
 use Rattle.message.proofs.GoodUnit.{good-unit, correlation-marked}
 use Rattle.action.specs.declared.Action.{Action}
-use Rattle.gateway.specs.Sound.{pair, isLinkOf, isSound}
+use Rattle.gateway.specs.Sound.{isLinkOf, isSound}
 use Rattle.gateway.specs.Inner.Laws.{counts-within, owner-within}
 use Rattle.gateway.specs.declared.Gateway.{Gateway}
 use Rattle.lookup.specs.Links.{indexOf, known}
@@ -30,7 +29,7 @@ use Rattle.rules.specs.Event.{EventKind, message, lost, recovery, linkUp, linkD
 use Rattle.rules.specs.Identifiers.{firstRefused, ownsNamed, ownersNamed, isKnown, linkOf, ownerAt, isMember, isActive}
 use Rattle.rules.specs.Effect.{Effect, send, setLink, changeIn, takeIn, stateAfter}
 use Rattle.rules.specs.Asp.{asesOf, upEffect, downEffect, lostEffect, activeEffect, inactiveEffect, trafficEffect}
-use Rattle.rules.specs.Link.{starting, inService, stopping, idle, establish, release, dataEffect, linkEffect, classSixEffect, linkUpEffect, linkDownEffect, isPending, arrival, holdEffect, linkMessageEffect}
+use Rattle.rules.specs.Link.{starting, inService, idle, establish, release, dataEffect, linkEffect, classSixEffect, linkUpEffect, linkDownEffect, isPending, arrival, holdEffect, linkMessageEffect}
 use Rattle.rules.specs.Rules.{readEffect, messageEffect, effectOf, fromLink, inPlan, refusal}
 use Rattle.rules.specs.Entry.{next}
 use Rattle.rules.specs.Inner.Accepted.{accepted}
