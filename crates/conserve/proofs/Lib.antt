@@ -4,3 +4,4 @@ pub mod Sends
 pub mod Step
 pub mod Events
 pub mod Conserve
+pub mod Samples
