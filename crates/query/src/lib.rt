@@ -93,7 +93,7 @@ fn find(s: &[u8], from: usize, t: u16) -> ParamAt
 pub extern "C" fn m2ua_as_state(g: Gateway, a: usize) -> Answer
     ensures { λ r. ⌜ r ≡ asStateAt g a ⌝ }
 {
-    if !g.is_sound() {
+    if !held::is_sound(g) {
         return Answer {
             code: NOT_SOUND,
             value: 0,
@@ -117,7 +117,7 @@ pub extern "C" fn m2ua_as_state(g: Gateway, a: usize) -> Answer
 pub extern "C" fn m2ua_link_place(g: Gateway, id: u32) -> Answer
     ensures { λ r. ⌜ r ≡ linkPlace g id ⌝ }
 {
-    if !g.is_sound() {
+    if !held::is_sound(g) {
         return Answer {
             code: NOT_SOUND,
             value: 0,
