@@ -4,11 +4,15 @@
  * It needs C11 or C++11, and a 64-bit x86 machine, for which the library is compiled.
  *
  * The library is a set of functions over values. It has no state of its own, allocates nothing, opens nothing and never waits; it ends on every input.
- * - Threads: any number of threads may call any function at any time.
+ * - Threads: any number of threads may call any function at any time; one hold is lent to one event at a time.
  * - Stack: a call takes less than M2UA_STACK bytes, its arguments and result included.
  * - Pointers: a pointer and the count behind it lend so many elements for the time of the call. It is aligned for its type and not null, also where the count
  *   is 0: then lend any byte of your own. (That a null with a count of 0 is not touched was tried, and is not proved.) What is written to (`words`, `out`,
- *   `lens` of m2ua_orders) overlaps nothing else that is lent. What is lent for reading is not changed by anybody during the call, and is never written.
+ *   `lens` of m2ua_orders, `hold` of m2ua_event) overlaps nothing else that is lent. What is lent for reading is not changed by anybody during the call,
+ *   and is never written.
+ * - The hold: the bytes of the units that wait with a pending AS (Rule 5.22). The host owns it: M2UA_HOLD_BYTES for each gateway, zero or not at the start, kept
+ *   between calls beside the state. The state says which units there are, the hold has their bytes, so the two are copied, stored and thrown away together.
+ *   The same one is lent to every event, and to m2ua_order and m2ua_orders before the event's new state takes the place of the old one. Nobody else writes it.
  * - Every value of every other argument is allowed, and answered. A refusal leaves the lent memory and the state as they were.
  * These duties are all that a host has; no call needs another call before it.
  *
@@ -20,8 +24,8 @@
 #include <stdint.h>
 
 /* Raised by each change of a struct, a limit or an entry that hosts must be compiled anew for; the number of the shared library's name (CHANGELOG.md). */
-#define M2UA_ABI 1
-#define M2UA_VERSION "0.1.0"
+#define M2UA_ABI 2
+#define M2UA_VERSION "0.2.0"
 
 #ifdef __cplusplus
 #define M2UA_STATIC_ASSERT(holds, what) static_assert(holds, what)
@@ -45,9 +49,13 @@ enum {
     M2UA_MAX_DATA = 273,     /* bytes of its protocol data */
     M2UA_MAX_PLAN = 1240,    /* bytes of a plan file */
     M2UA_ORDER_WORDS = 4,    /* words of an order */
-    M2UA_MAX_ORDERS = 258,   /* orders of an event */
-    M2UA_LIST_WORDS = 1032,  /* words that an event must be lent */
-    M2UA_STACK = 16384       /* bytes of stack that a call takes at most (tools/stack) */
+    M2UA_MAX_ORDERS = 386,   /* orders of an event */
+    M2UA_LIST_WORDS = 1544,  /* words that an event must be lent */
+    M2UA_HELD_MOST = 8,      /* units that an AS holds */
+    M2UA_UNITS = 128,        /* places for units: as * 8 + unit, the oldest 0 */
+    M2UA_HOLD_PLACE = 273,   /* bytes of a place in the hold */
+    M2UA_HOLD_BYTES = 34944, /* bytes of the hold */
+    M2UA_STACK = 32768       /* bytes of stack that a call takes at most (tools/stack) */
 };
 
 /* Where messages come from: SCTP port and payload protocol identifier of M2UA. */
@@ -64,6 +72,7 @@ enum {
     M2UA_REFUSED_BUFFER = 103, /* the lent buffer is too short for the message */
     M2UA_REFUSED_ORDER = 104,  /* the event has no such order, or it goes to the link side */
     M2UA_REFUSED_STATE = 105,  /* the state is not sound (Rule 5.4) */
+    M2UA_REFUSED_HOLD = 106,   /* the lent hold has another length than M2UA_HOLD_BYTES */
     M2UA_REFUSED_LAYOUT = 201, /* plan file: a count, an offset or the length is wrong (Rule 4.4) */
     M2UA_REFUSED_ROW = 202     /* plan file: a row is wrong (Rule 4.5) */
 };
@@ -258,6 +267,22 @@ m2ua_written m2ua_write(uint8_t class_, uint8_t msgtype, const uint16_t *tags, s
 
 /* ---- The state ---- */
 
+/* The units held for ASes that wait (Rule 5.21). Unit k of an AS, the oldest 0, is at index as * M2UA_HELD_MOST + k of each column; its bytes are in the hold, from
+ * m2ua_hold_at(as, k) on. */
+typedef struct {
+    uint8_t count[M2UA_MAX_ASES];           /* how many units an AS holds */
+    uint16_t tag[M2UA_UNITS];               /* M2UA_TAG_DATA_1 or M2UA_TAG_DATA_2 */
+    uint16_t length[M2UA_UNITS];            /* the length field of its data: 4 more than the unit has bytes */
+    uint16_t marked[M2UA_UNITS];            /* 1: it came with a correlation id */
+    uint32_t id[M2UA_UNITS];                /* the interface identifier of the link that it came from */
+    uint32_t correlation[M2UA_UNITS];       /* the correlation id, or 0 */
+} m2ua_units;
+
+/* Where the bytes of unit k of an AS begin in the hold (Rule 5.22). */
+static inline size_t m2ua_hold_at(size_t as, size_t k) {
+    return (as * M2UA_HELD_MOST + k) * M2UA_HOLD_PLACE;
+}
+
 /* The gateway's state, by value (Rule 5.1): the host keeps it between events. Any bytes are a state; an event refuses those that are not sound. Places
  * beyond the counts hold 0. Hosts read it; only events and m2ua_load make new ones. */
 typedef struct {
@@ -274,6 +299,7 @@ typedef struct {
     uint32_t iid[M2UA_MAX_LINKS];           /* interface identifiers, ascending */
     uint8_t owner[M2UA_MAX_LINKS];          /* the AS that owns the link */
     uint8_t state[M2UA_MAX_LINKS];          /* M2UA_LINK_.. */
+    m2ua_units held;                        /* units held */
 } m2ua_gateway;
 
 /* What loading a plan gives: 0 and a fresh state; or 201 or 202 and a state of zeros, on which every event is refused. */
@@ -283,7 +309,7 @@ typedef struct {
 } m2ua_loaded;
 
 /* Loads a plan file of `len` bytes, which may be any bytes (section 4 of the rules; m2ua-plan(1) makes such files from text).
- * Answers: 0 and the fresh state: all ASPs down, nobody active, no AS waiting, all links idle; or M2UA_REFUSED_LAYOUT or M2UA_REFUSED_ROW and zeros. */
+ * Answers: 0 and the fresh state: all ASPs down, nobody active, no AS waiting, all links idle, no unit held; or M2UA_REFUSED_LAYOUT or M2UA_REFUSED_ROW and zeros. */
 m2ua_loaded m2ua_load(const uint8_t *file, size_t len);
 
 /* 1 where the state is sound (Rule 5.4), else 0. What m2ua_load accepted and what events hand back is sound: ask this of a state that comes from elsewhere,
@@ -331,55 +357,69 @@ enum {
     M2UA_LINK_MESSAGE = 5 /* a message of the link side (6.1, 6.8, 6.9, 6.11 to 6.14), which names its link itself: any */
 };
 
-/* An event on a state. `msg` is read in kinds 0 and 5. The orders are written to `words`, of which there are `count`, four words each (Rule 8.1): the
- * addressee (the number of an ASP, or M2UA_LINK_SIDE); M2UA_ORDER_..; subject; value. In class 6 the subject is an interface identifier, in a Notify the
- * number of an AS, in an Error of code 2 the refused identifier, else 0; the value is said beside M2UA_ORDER_.., of an Error it is the code, else 0.
+/* The function behind all events. `size` is the length of the gateway's hold. Where `hold_bytes` is that too, it is m2ua_event (below). Where it is not, the answer is the
+ * same and no byte of `hold` is written: so a host can see what an event would do, and lend no hold. */
+m2ua_outcome m2ua_run(m2ua_gateway g, uint32_t kind, size_t index, const uint8_t *msg, size_t len, uint8_t *hold, size_t hold_bytes, size_t size, uint32_t *words,
+                      size_t count);
+
+/* An event on a state. `msg` is read in kinds 0 and 5. `hold` is the gateway's hold: Data of the link side for an AS that is pending is put there and gives no
+ * order (Rule 7.24); it goes out as an order as soon as an ASP is active in the AS (Rule 7.25). The orders are written to `words`, of which there are `count`,
+ * four words each (Rule 8.1): the addressee (the number of an ASP, or M2UA_LINK_SIDE); M2UA_ORDER_..; subject; value. In class 6 the subject is an interface
+ * identifier, in a Notify the number of an AS, in an Error of code 2 the refused identifier, else 0; the value is said beside M2UA_ORDER_.., of an Error it is
+ * the code, else 0.
  * Answers: `refusal` 0, the number of orders, at most M2UA_MAX_ORDERS, and the next state, the words behind the orders unchanged; or, in this order:
  * M2UA_REFUSED_STATE, M2UA_REFUSED_PLACE (a kind above 5; `index` beyond the plan; a message of the link side that does not read, is of another type or has
- * an unknown identifier), M2UA_REFUSED_LIST (`count` below M2UA_LIST_WORDS). Refused: count 0, the state given, no word changed.
+ * an unknown identifier), M2UA_REFUSED_HOLD (`hold_bytes` is not M2UA_HOLD_BYTES), M2UA_REFUSED_LIST (`count` below M2UA_LIST_WORDS). Refused: count 0, the
+ * state given, no word and no byte of the hold changed.
  * A message of an ASP that does not read is no refusal: it is answered by an Error order (Rule 6.8). */
-m2ua_outcome m2ua_event(m2ua_gateway g, uint32_t kind, size_t index, const uint8_t *msg, size_t len, uint32_t *words, size_t count);
+static inline m2ua_outcome m2ua_event(m2ua_gateway g, uint32_t kind, size_t index, const uint8_t *msg, size_t len, uint8_t *hold, size_t hold_bytes, uint32_t *words,
+                                      size_t count) {
+    return m2ua_run(g, kind, index, msg, len, hold, hold_bytes, hold_bytes, words, count);
+}
 
 /* The six kinds by name: m2ua_event with the kind filled in. */
-static inline m2ua_outcome m2ua_message(m2ua_gateway g, size_t asp, const uint8_t *msg, size_t len, uint32_t *words, size_t count) {
-    return m2ua_event(g, M2UA_MESSAGE, asp, msg, len, words, count);
+static inline m2ua_outcome m2ua_message(m2ua_gateway g, size_t asp, const uint8_t *msg, size_t len, uint8_t *hold, size_t hold_bytes, uint32_t *words, size_t count) {
+    return m2ua_event(g, M2UA_MESSAGE, asp, msg, len, hold, hold_bytes, words, count);
 }
 
 /* An event without a message lends none of a byte's bytes: a pointer that is lent is never null. */
-static inline m2ua_outcome m2ua_without_message(m2ua_gateway g, uint32_t kind, size_t index, uint32_t *words, size_t count) {
+static inline m2ua_outcome m2ua_without_message(m2ua_gateway g, uint32_t kind, size_t index, uint8_t *hold, size_t hold_bytes, uint32_t *words, size_t count) {
     const uint8_t none = 0;
-    return m2ua_event(g, kind, index, &none, 0, words, count);
+    return m2ua_event(g, kind, index, &none, 0, hold, hold_bytes, words, count);
 }
 
-static inline m2ua_outcome m2ua_lost(m2ua_gateway g, size_t asp, uint32_t *words, size_t count) {
-    return m2ua_without_message(g, M2UA_LOST, asp, words, count);
+static inline m2ua_outcome m2ua_lost(m2ua_gateway g, size_t asp, uint8_t *hold, size_t hold_bytes, uint32_t *words, size_t count) {
+    return m2ua_without_message(g, M2UA_LOST, asp, hold, hold_bytes, words, count);
 }
 
-static inline m2ua_outcome m2ua_recovery(m2ua_gateway g, size_t as, uint32_t *words, size_t count) {
-    return m2ua_without_message(g, M2UA_RECOVERY, as, words, count);
+static inline m2ua_outcome m2ua_recovery(m2ua_gateway g, size_t as, uint8_t *hold, size_t hold_bytes, uint32_t *words, size_t count) {
+    return m2ua_without_message(g, M2UA_RECOVERY, as, hold, hold_bytes, words, count);
 }
 
-static inline m2ua_outcome m2ua_link_up(m2ua_gateway g, size_t link, uint32_t *words, size_t count) {
-    return m2ua_without_message(g, M2UA_LINK_UP, link, words, count);
+static inline m2ua_outcome m2ua_link_up(m2ua_gateway g, size_t link, uint8_t *hold, size_t hold_bytes, uint32_t *words, size_t count) {
+    return m2ua_without_message(g, M2UA_LINK_UP, link, hold, hold_bytes, words, count);
 }
 
-static inline m2ua_outcome m2ua_link_down(m2ua_gateway g, size_t link, uint32_t *words, size_t count) {
-    return m2ua_without_message(g, M2UA_LINK_DOWN, link, words, count);
+static inline m2ua_outcome m2ua_link_down(m2ua_gateway g, size_t link, uint8_t *hold, size_t hold_bytes, uint32_t *words, size_t count) {
+    return m2ua_without_message(g, M2UA_LINK_DOWN, link, hold, hold_bytes, words, count);
 }
 
-static inline m2ua_outcome m2ua_link_message(m2ua_gateway g, const uint8_t *msg, size_t len, uint32_t *words, size_t count) {
-    return m2ua_event(g, M2UA_LINK_MESSAGE, 0, msg, len, words, count);
+static inline m2ua_outcome m2ua_link_message(m2ua_gateway g, const uint8_t *msg, size_t len, uint8_t *hold, size_t hold_bytes, uint32_t *words, size_t count) {
+    return m2ua_event(g, M2UA_LINK_MESSAGE, 0, msg, len, hold, hold_bytes, words, count);
 }
 
 /* ---- Orders as bytes ---- */
 
 /* An event's orders are first had as words: m2ua_event hands back how many there are and who gets each. The bytes to send come from the state BEFORE that
- * event, with the same kind, index and message. No list of words is lent, so nothing is refused with M2UA_REFUSED_LIST. */
+ * event, with the same kind, index and message, and the same hold: a unit that goes out has its bytes there (Rule 8.18), and no event that sends one has written
+ * to the hold. No list of words is lent, so nothing is refused with M2UA_REFUSED_LIST. */
 
 /* Writes the order at a place, from 0, as the message that goes to its ASP (Rule 8.15). M2UA_MAX_MESSAGE bytes of `out` are always enough.
- * Answers: `code` 0 and the message's length, the bytes behind it unchanged; or, in this order: M2UA_REFUSED_STATE; M2UA_REFUSED_PLACE, as the event itself;
- * M2UA_REFUSED_ORDER, where the event has no order at the place or sends it to the link side; M2UA_REFUSED_BUFFER. Refused: length 0, `out` unchanged. */
-m2ua_written m2ua_order(m2ua_gateway g, uint32_t kind, size_t index, const uint8_t *msg, size_t len, size_t place, uint8_t *out, size_t out_bytes);
+ * Answers: `code` 0 and the message's length, the bytes behind it unchanged; or, in this order: M2UA_REFUSED_STATE; M2UA_REFUSED_PLACE and M2UA_REFUSED_HOLD,
+ * as the event itself; M2UA_REFUSED_ORDER, where the event has no order at the place or sends it to the link side; M2UA_REFUSED_BUFFER. Refused: length 0,
+ * `out` unchanged. */
+m2ua_written m2ua_order(m2ua_gateway g, uint32_t kind, size_t index, const uint8_t *msg, size_t len, const uint8_t *hold, size_t hold_bytes, size_t place,
+                        uint8_t *out, size_t out_bytes);
 
 /* What writing several did: 0, how many orders and how many bytes; or the number of the refusal and zeros. */
 typedef struct {
@@ -390,74 +430,81 @@ typedef struct {
 
 /* Writes the messages of as many orders, from a place on, as go into `out` and have a place in `lens`, one behind the other (Rule 8.16): lens[j] is the length
  * of the j-th, 0 for an order to the link side, which goes in wherever there is a place in `lens`. Each message is the one that m2ua_order writes.
- * Answers: `code` 0, the number of orders and of bytes, what lies behind them in `lens` and `out` unchanged; or, in this order: M2UA_REFUSED_STATE and
- * M2UA_REFUSED_PLACE as above; M2UA_REFUSED_ORDER, a place beyond the orders; M2UA_REFUSED_BUFFER, not one goes in. Refused: zeros, nothing changed.
+ * Answers: `code` 0, the number of orders and of bytes, what lies behind them in `lens` and `out` unchanged; or, in this order: M2UA_REFUSED_STATE,
+ * M2UA_REFUSED_PLACE and M2UA_REFUSED_HOLD as above; M2UA_REFUSED_ORDER, a place beyond the orders; M2UA_REFUSED_BUFFER, not one goes in. Refused: zeros, nothing changed.
  * With M2UA_MAX_MESSAGE bytes and one length or more at least one goes in, so that this sends all:
  *     for (place = 0; place < count; place += b.count) b = m2ua_orders(.., place, ..);
- * Each call runs the event again: lend room for all, M2UA_MAX_ORDERS lengths and 16,384 bytes (docs/HOST.md has the times). */
-m2ua_batch m2ua_orders(m2ua_gateway g, uint32_t kind, size_t index, const uint8_t *msg, size_t len, size_t place, uint32_t *lens, size_t len_count, uint8_t *out,
-                       size_t out_bytes);
+ * Each call runs the event again: lend room for all, M2UA_MAX_ORDERS lengths and 65,536 bytes (docs/HOST.md has the times). */
+m2ua_batch m2ua_orders(m2ua_gateway g, uint32_t kind, size_t index, const uint8_t *msg, size_t len, const uint8_t *hold, size_t hold_bytes, size_t place,
+                       uint32_t *lens, size_t len_count, uint8_t *out, size_t out_bytes);
 
 /* Both by the name of the event. */
-static inline m2ua_written m2ua_message_order(m2ua_gateway g, size_t asp, const uint8_t *msg, size_t len, size_t place, uint8_t *out, size_t out_bytes) {
-    return m2ua_order(g, M2UA_MESSAGE, asp, msg, len, place, out, out_bytes);
+static inline m2ua_written m2ua_message_order(m2ua_gateway g, size_t asp, const uint8_t *msg, size_t len, const uint8_t *hold, size_t hold_bytes, size_t place,
+                                              uint8_t *out, size_t out_bytes) {
+    return m2ua_order(g, M2UA_MESSAGE, asp, msg, len, hold, hold_bytes, place, out, out_bytes);
 }
 
-static inline m2ua_written m2ua_without_message_order(m2ua_gateway g, uint32_t kind, size_t index, size_t place, uint8_t *out, size_t out_bytes) {
+static inline m2ua_written m2ua_without_message_order(m2ua_gateway g, uint32_t kind, size_t index, const uint8_t *hold, size_t hold_bytes, size_t place, uint8_t *out,
+                                                      size_t out_bytes) {
     const uint8_t none = 0;
-    return m2ua_order(g, kind, index, &none, 0, place, out, out_bytes);
+    return m2ua_order(g, kind, index, &none, 0, hold, hold_bytes, place, out, out_bytes);
 }
 
-static inline m2ua_written m2ua_lost_order(m2ua_gateway g, size_t asp, size_t place, uint8_t *out, size_t out_bytes) {
-    return m2ua_without_message_order(g, M2UA_LOST, asp, place, out, out_bytes);
+static inline m2ua_written m2ua_lost_order(m2ua_gateway g, size_t asp, const uint8_t *hold, size_t hold_bytes, size_t place, uint8_t *out, size_t out_bytes) {
+    return m2ua_without_message_order(g, M2UA_LOST, asp, hold, hold_bytes, place, out, out_bytes);
 }
 
-static inline m2ua_written m2ua_recovery_order(m2ua_gateway g, size_t as, size_t place, uint8_t *out, size_t out_bytes) {
-    return m2ua_without_message_order(g, M2UA_RECOVERY, as, place, out, out_bytes);
+static inline m2ua_written m2ua_recovery_order(m2ua_gateway g, size_t as, const uint8_t *hold, size_t hold_bytes, size_t place, uint8_t *out, size_t out_bytes) {
+    return m2ua_without_message_order(g, M2UA_RECOVERY, as, hold, hold_bytes, place, out, out_bytes);
 }
 
-static inline m2ua_written m2ua_link_up_order(m2ua_gateway g, size_t link, size_t place, uint8_t *out, size_t out_bytes) {
-    return m2ua_without_message_order(g, M2UA_LINK_UP, link, place, out, out_bytes);
+static inline m2ua_written m2ua_link_up_order(m2ua_gateway g, size_t link, const uint8_t *hold, size_t hold_bytes, size_t place, uint8_t *out, size_t out_bytes) {
+    return m2ua_without_message_order(g, M2UA_LINK_UP, link, hold, hold_bytes, place, out, out_bytes);
 }
 
-static inline m2ua_written m2ua_link_down_order(m2ua_gateway g, size_t link, size_t place, uint8_t *out, size_t out_bytes) {
-    return m2ua_without_message_order(g, M2UA_LINK_DOWN, link, place, out, out_bytes);
+static inline m2ua_written m2ua_link_down_order(m2ua_gateway g, size_t link, const uint8_t *hold, size_t hold_bytes, size_t place, uint8_t *out, size_t out_bytes) {
+    return m2ua_without_message_order(g, M2UA_LINK_DOWN, link, hold, hold_bytes, place, out, out_bytes);
 }
 
-static inline m2ua_written m2ua_link_message_order(m2ua_gateway g, const uint8_t *msg, size_t len, size_t place, uint8_t *out, size_t out_bytes) {
-    return m2ua_order(g, M2UA_LINK_MESSAGE, 0, msg, len, place, out, out_bytes);
+static inline m2ua_written m2ua_link_message_order(m2ua_gateway g, const uint8_t *msg, size_t len, const uint8_t *hold, size_t hold_bytes, size_t place, uint8_t *out,
+                                                   size_t out_bytes) {
+    return m2ua_order(g, M2UA_LINK_MESSAGE, 0, msg, len, hold, hold_bytes, place, out, out_bytes);
 }
 
-static inline m2ua_batch m2ua_message_orders(m2ua_gateway g, size_t asp, const uint8_t *msg, size_t len, size_t place, uint32_t *lens, size_t len_count, uint8_t *out,
-                                             size_t out_bytes) {
-    return m2ua_orders(g, M2UA_MESSAGE, asp, msg, len, place, lens, len_count, out, out_bytes);
+static inline m2ua_batch m2ua_message_orders(m2ua_gateway g, size_t asp, const uint8_t *msg, size_t len, const uint8_t *hold, size_t hold_bytes, size_t place,
+                                             uint32_t *lens, size_t len_count, uint8_t *out, size_t out_bytes) {
+    return m2ua_orders(g, M2UA_MESSAGE, asp, msg, len, hold, hold_bytes, place, lens, len_count, out, out_bytes);
 }
 
-static inline m2ua_batch m2ua_without_message_orders(m2ua_gateway g, uint32_t kind, size_t index, size_t place, uint32_t *lens, size_t len_count, uint8_t *out,
-                                                     size_t out_bytes) {
+static inline m2ua_batch m2ua_without_message_orders(m2ua_gateway g, uint32_t kind, size_t index, const uint8_t *hold, size_t hold_bytes, size_t place, uint32_t *lens,
+                                                     size_t len_count, uint8_t *out, size_t out_bytes) {
     const uint8_t none = 0;
-    return m2ua_orders(g, kind, index, &none, 0, place, lens, len_count, out, out_bytes);
+    return m2ua_orders(g, kind, index, &none, 0, hold, hold_bytes, place, lens, len_count, out, out_bytes);
 }
 
-static inline m2ua_batch m2ua_lost_orders(m2ua_gateway g, size_t asp, size_t place, uint32_t *lens, size_t len_count, uint8_t *out, size_t out_bytes) {
-    return m2ua_without_message_orders(g, M2UA_LOST, asp, place, lens, len_count, out, out_bytes);
+static inline m2ua_batch m2ua_lost_orders(m2ua_gateway g, size_t asp, const uint8_t *hold, size_t hold_bytes, size_t place, uint32_t *lens, size_t len_count,
+                                          uint8_t *out, size_t out_bytes) {
+    return m2ua_without_message_orders(g, M2UA_LOST, asp, hold, hold_bytes, place, lens, len_count, out, out_bytes);
 }
 
-static inline m2ua_batch m2ua_recovery_orders(m2ua_gateway g, size_t as, size_t place, uint32_t *lens, size_t len_count, uint8_t *out, size_t out_bytes) {
-    return m2ua_without_message_orders(g, M2UA_RECOVERY, as, place, lens, len_count, out, out_bytes);
+static inline m2ua_batch m2ua_recovery_orders(m2ua_gateway g, size_t as, const uint8_t *hold, size_t hold_bytes, size_t place, uint32_t *lens, size_t len_count,
+                                              uint8_t *out, size_t out_bytes) {
+    return m2ua_without_message_orders(g, M2UA_RECOVERY, as, hold, hold_bytes, place, lens, len_count, out, out_bytes);
 }
 
-static inline m2ua_batch m2ua_link_up_orders(m2ua_gateway g, size_t link, size_t place, uint32_t *lens, size_t len_count, uint8_t *out, size_t out_bytes) {
-    return m2ua_without_message_orders(g, M2UA_LINK_UP, link, place, lens, len_count, out, out_bytes);
+static inline m2ua_batch m2ua_link_up_orders(m2ua_gateway g, size_t link, const uint8_t *hold, size_t hold_bytes, size_t place, uint32_t *lens, size_t len_count,
+                                             uint8_t *out, size_t out_bytes) {
+    return m2ua_without_message_orders(g, M2UA_LINK_UP, link, hold, hold_bytes, place, lens, len_count, out, out_bytes);
 }
 
-static inline m2ua_batch m2ua_link_down_orders(m2ua_gateway g, size_t link, size_t place, uint32_t *lens, size_t len_count, uint8_t *out, size_t out_bytes) {
-    return m2ua_without_message_orders(g, M2UA_LINK_DOWN, link, place, lens, len_count, out, out_bytes);
+static inline m2ua_batch m2ua_link_down_orders(m2ua_gateway g, size_t link, const uint8_t *hold, size_t hold_bytes, size_t place, uint32_t *lens, size_t len_count,
+                                               uint8_t *out, size_t out_bytes) {
+    return m2ua_without_message_orders(g, M2UA_LINK_DOWN, link, hold, hold_bytes, place, lens, len_count, out, out_bytes);
 }
 
-static inline m2ua_batch m2ua_link_message_orders(m2ua_gateway g, const uint8_t *msg, size_t len, size_t place, uint32_t *lens, size_t len_count, uint8_t *out,
-                                                  size_t out_bytes) {
-    return m2ua_orders(g, M2UA_LINK_MESSAGE, 0, msg, len, place, lens, len_count, out, out_bytes);
+static inline m2ua_batch m2ua_link_message_orders(m2ua_gateway g, const uint8_t *msg, size_t len, const uint8_t *hold, size_t hold_bytes, size_t place, uint32_t *lens,
+                                                  size_t len_count, uint8_t *out, size_t out_bytes) {
+    return m2ua_orders(g, M2UA_LINK_MESSAGE, 0, msg, len, hold, hold_bytes, place, lens, len_count, out, out_bytes);
 }
 
 /* ---- Layout ---- */
@@ -473,7 +520,7 @@ M2UA_STATIC_ASSERT(offsetof(m2ua_batch, length) == 16, "m2ua_batch.length");
 M2UA_STATIC_ASSERT(sizeof(m2ua_data_at) == 16, "m2ua_data_at");
 M2UA_STATIC_ASSERT(offsetof(m2ua_data_at, start) == 0, "m2ua_data_at.start");
 M2UA_STATIC_ASSERT(offsetof(m2ua_data_at, length) == 8, "m2ua_data_at.length");
-M2UA_STATIC_ASSERT(sizeof(m2ua_gateway) == 1396, "m2ua_gateway");
+M2UA_STATIC_ASSERT(sizeof(m2ua_gateway) == 3204, "m2ua_gateway");
 M2UA_STATIC_ASSERT(offsetof(m2ua_gateway, asps) == 0, "m2ua_gateway.asps");
 M2UA_STATIC_ASSERT(offsetof(m2ua_gateway, ases) == 1, "m2ua_gateway.ases");
 M2UA_STATIC_ASSERT(offsetof(m2ua_gateway, links) == 2, "m2ua_gateway.links");
@@ -487,10 +534,11 @@ M2UA_STATIC_ASSERT(offsetof(m2ua_gateway, waiting) == 612, "m2ua_gateway.waiting
 M2UA_STATIC_ASSERT(offsetof(m2ua_gateway, iid) == 628, "m2ua_gateway.iid");
 M2UA_STATIC_ASSERT(offsetof(m2ua_gateway, owner) == 1140, "m2ua_gateway.owner");
 M2UA_STATIC_ASSERT(offsetof(m2ua_gateway, state) == 1268, "m2ua_gateway.state");
-M2UA_STATIC_ASSERT(sizeof(m2ua_loaded) == 1400, "m2ua_loaded");
+M2UA_STATIC_ASSERT(offsetof(m2ua_gateway, held) == 1396, "m2ua_gateway.held");
+M2UA_STATIC_ASSERT(sizeof(m2ua_loaded) == 3208, "m2ua_loaded");
 M2UA_STATIC_ASSERT(offsetof(m2ua_loaded, code) == 0, "m2ua_loaded.code");
 M2UA_STATIC_ASSERT(offsetof(m2ua_loaded, gateway) == 4, "m2ua_loaded.gateway");
-M2UA_STATIC_ASSERT(sizeof(m2ua_outcome) == 1416, "m2ua_outcome");
+M2UA_STATIC_ASSERT(sizeof(m2ua_outcome) == 3224, "m2ua_outcome");
 M2UA_STATIC_ASSERT(offsetof(m2ua_outcome, refusal) == 0, "m2ua_outcome.refusal");
 M2UA_STATIC_ASSERT(offsetof(m2ua_outcome, count) == 8, "m2ua_outcome.count");
 M2UA_STATIC_ASSERT(offsetof(m2ua_outcome, gateway) == 16, "m2ua_outcome.gateway");
@@ -511,6 +559,13 @@ M2UA_STATIC_ASSERT(offsetof(m2ua_reading, correlated) == 32, "m2ua_reading.corre
 M2UA_STATIC_ASSERT(offsetof(m2ua_reading, correlation) == 36, "m2ua_reading.correlation");
 M2UA_STATIC_ASSERT(offsetof(m2ua_reading, state) == 40, "m2ua_reading.state");
 M2UA_STATIC_ASSERT(offsetof(m2ua_reading, retrieval) == 44, "m2ua_reading.retrieval");
+M2UA_STATIC_ASSERT(sizeof(m2ua_units) == 1808, "m2ua_units");
+M2UA_STATIC_ASSERT(offsetof(m2ua_units, count) == 0, "m2ua_units.count");
+M2UA_STATIC_ASSERT(offsetof(m2ua_units, tag) == 16, "m2ua_units.tag");
+M2UA_STATIC_ASSERT(offsetof(m2ua_units, length) == 272, "m2ua_units.length");
+M2UA_STATIC_ASSERT(offsetof(m2ua_units, marked) == 528, "m2ua_units.marked");
+M2UA_STATIC_ASSERT(offsetof(m2ua_units, id) == 784, "m2ua_units.id");
+M2UA_STATIC_ASSERT(offsetof(m2ua_units, correlation) == 1296, "m2ua_units.correlation");
 M2UA_STATIC_ASSERT(sizeof(m2ua_timers) == 32, "m2ua_timers");
 M2UA_STATIC_ASSERT(offsetof(m2ua_timers, began) == 0, "m2ua_timers.began");
 M2UA_STATIC_ASSERT(offsetof(m2ua_timers, ended) == 16, "m2ua_timers.ended");

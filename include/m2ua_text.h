@@ -47,6 +47,7 @@ static inline const char *m2ua_code_text(uint32_t code) {
     case M2UA_REFUSED_BUFFER: return "the lent buffer is too short";
     case M2UA_REFUSED_ORDER: return "the event has no such order, or it goes to the link side";
     case M2UA_REFUSED_STATE: return "the state is not sound";
+    case M2UA_REFUSED_HOLD: return "the lent hold has another length";
     case M2UA_REFUSED_LAYOUT: return "plan file: a count, an offset or the length is wrong";
     case M2UA_REFUSED_ROW: return "plan file: a row is wrong";
     case M2UA_ERROR_INVALID_VERSION: return "invalid version";

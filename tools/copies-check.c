@@ -9,7 +9,8 @@ extern char __start_host_text[], __stop_host_text[];
 
 static unsigned copies;
 static int failures;
-static uint32_t words[1032];
+static uint32_t words[M2UA_LIST_WORDS];
+static uint8_t hold[M2UA_HOLD_BYTES];
 
 static void count(size_t bytes, void *from) {
     const char *at = from;
@@ -30,10 +31,10 @@ void *__wrap_memmove(void *to, const void *from, size_t bytes) {
 }
 
 /* An event of the state g, which it changes: two copies at most, accepted or refused. */
-HOST static void event(const char *what, m2ua_gateway *g, uint32_t kind, const uint8_t *msg, size_t len, uint32_t refusal, size_t room) {
+HOST static void event(const char *what, m2ua_gateway *g, uint32_t kind, const uint8_t *msg, size_t len, uint32_t refusal, size_t bytes, size_t room) {
     const uint8_t none = 0;
     copies = 0;
-    m2ua_outcome r = m2ua_event(*g, kind, 0, msg ? msg : &none, len, words, room);
+    m2ua_outcome r = m2ua_event(*g, kind, 0, msg ? msg : &none, len, hold, bytes, words, room);
     unsigned made = copies;
     if (r.refusal != refusal || made > 2 || made == 0) {
         printf("copies-check: %s: refusal %u, %u copies of the state (expected: refusal %u, 1 or 2 copies)\n", what, r.refusal, made, refusal);
@@ -69,18 +70,23 @@ HOST int main(int argc, char **argv) {
         {"Release", M2UA_MESSAGE, {1, 0, 6, 4, 0, 0, 0, 16, 0, 1, 0, 8, 0, 0, 0, 100}, 16},
         {"link down", M2UA_LINK_DOWN, {0}, 0},
         {"Inactive", M2UA_MESSAGE, {1, 0, 4, 2, 0, 0, 0, 8}, 8},
+        {"Data held", M2UA_LINK_MESSAGE, {1, 0, 6, 1, 0, 0, 0, 28, 0, 1, 0, 8, 0, 0, 0, 100, 3, 0, 0, 9, 1, 2, 3, 4, 5, 0, 0, 0}, 28},
+        {"Active that sends it out", M2UA_MESSAGE, {1, 0, 4, 1, 0, 0, 0, 8}, 8},
+        {"Inactive again", M2UA_MESSAGE, {1, 0, 4, 2, 0, 0, 0, 8}, 8},
+        {"Data held again", M2UA_LINK_MESSAGE, {1, 0, 6, 1, 0, 0, 0, 28, 0, 1, 0, 8, 0, 0, 0, 100, 3, 0, 0, 9, 1, 2, 3, 4, 5, 0, 0, 0}, 28},
         {"recovery over", M2UA_RECOVERY, {0}, 0},
         {"Down", M2UA_MESSAGE, {1, 0, 3, 2, 0, 0, 0, 8}, 8},
         {"lost", M2UA_LOST, {0}, 0},
     };
     m2ua_gateway g = m2ua_load(file, sizeof file).gateway;
     for (size_t k = 0; k < sizeof events / sizeof *events; k++) {
-        event(events[k].what, &g, events[k].kind, events[k].len ? events[k].msg : NULL, events[k].len, 0, 1032);
+        event(events[k].what, &g, events[k].kind, events[k].len ? events[k].msg : NULL, events[k].len, 0, sizeof hold, M2UA_LIST_WORDS);
     }
-    event("a list of 1,031 words", &g, M2UA_LOST, NULL, 0, 101, 1031);
-    event("a kind that there is not", &g, 6, NULL, 0, 102, 1032);
+    event("a list of 1,543 words", &g, M2UA_LOST, NULL, 0, 101, sizeof hold, M2UA_LIST_WORDS - 1);
+    event("a hold of 34,943 bytes", &g, M2UA_LOST, NULL, 0, 106, sizeof hold - 1, M2UA_LIST_WORDS);
+    event("a kind that there is not", &g, 6, NULL, 0, 102, sizeof hold, M2UA_LIST_WORDS);
     g.asps = 0;
-    event("an unsound state", &g, M2UA_LOST, NULL, 0, 105, 1032);
+    event("an unsound state", &g, M2UA_LOST, NULL, 0, 105, sizeof hold, M2UA_LIST_WORDS);
     printf("copies of the state: %s\n", failures ? "FAILED" : "at most two in every event, accepted or refused");
     return failures != 0;
 }

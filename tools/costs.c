@@ -1,10 +1,12 @@
-/* What the most expensive messages cost a host: events on a full plan (16 ASPs in 16 ASes, 128 links), best of many calls, with the orders that they give. */
+/* What the most expensive messages cost a host: events on a full plan (16 ASPs in 16 ASes, 128 links), best of many calls, with the orders that they give. Where
+ * units are held, all ASes hold 8 of the longest. */
 #include <stdio.h>
 #include <string.h>
 #include <time.h>
 #include "m2ua.h"
 
 static uint32_t words[M2UA_LIST_WORDS];
+static uint8_t hold[M2UA_HOLD_BYTES];
 
 static double now(void) {
     struct timespec t;
@@ -34,11 +36,11 @@ static m2ua_gateway full_plan(uint8_t mode) {
 
 static m2ua_gateway all_up(m2ua_gateway g) {
     const uint8_t up[8] = {1, 0, 3, 1, 0, 0, 0, 8};
-    for (size_t p = 0; p < 16; p++) g = m2ua_message(g, p, up, 8, words, M2UA_LIST_WORDS).gateway;
+    for (size_t p = 0; p < 16; p++) g = m2ua_message(g, p, up, 8, hold, sizeof hold, words, M2UA_LIST_WORDS).gateway;
     return g;
 }
 
-static uint8_t out[16384];
+static uint8_t out[65536];
 
 /* All messages of an event, in batches of so many orders and bytes: the time, best of 400, and the bytes. */
 static double written(m2ua_gateway g, uint32_t kind, const uint8_t *msg, size_t len, size_t count, size_t orders, size_t room, size_t *bytes) {
@@ -48,7 +50,7 @@ static double written(m2ua_gateway g, uint32_t kind, const uint8_t *msg, size_t 
         double start = now();
         *bytes = 0;
         for (size_t place = 0; place < count;) {
-            m2ua_batch b = m2ua_orders(g, kind, 0, msg, len, place, lens, orders, out, room);
+            m2ua_batch b = m2ua_orders(g, kind, 0, msg, len, hold, sizeof hold, place, lens, orders, out, room);
             place += b.count;
             *bytes += b.length;
         }
@@ -60,10 +62,10 @@ static double written(m2ua_gateway g, uint32_t kind, const uint8_t *msg, size_t 
 
 static void cost(const char *what, m2ua_gateway g, uint32_t kind, const uint8_t *msg, size_t len) {
     double best = 1e18;
-    m2ua_outcome r = m2ua_event(g, kind, 0, msg, len, words, M2UA_LIST_WORDS);
+    m2ua_outcome r = m2ua_event(g, kind, 0, msg, len, hold, sizeof hold, words, M2UA_LIST_WORDS);
     for (int i = 0; i < 4000; i++) {
         double start = now();
-        r = m2ua_event(g, kind, 0, msg, len, words, M2UA_LIST_WORDS);
+        r = m2ua_event(g, kind, 0, msg, len, hold, sizeof hold, words, M2UA_LIST_WORDS);
         double took = now() - start;
         if (took < best) best = took;
     }
@@ -89,11 +91,25 @@ static uint32_t wide(size_t i) { return i % 2 ? 0xffffffff : 0; }
 static uint32_t ones(size_t i) { return (uint32_t)(i / 2 * 37 % 128); }
 static uint32_t halves(size_t i) { return i % 2 ? 127 : (uint32_t)(i / 2 % 64); }
 
+/* ASP 0 was active in all ASes and is inactive; each AS gets 8 units of 273 bytes with a correlation id. */
+static m2ua_gateway pending(m2ua_gateway on) {
+    static uint8_t data[304] = {1, 0, 6, 1, 0, 0, 1, 0x30, 0, 1, 0, 8, 0, 0, 0, 0, 0, 0x13, 0, 8, 0, 0, 0, 5, 3, 0, 1, 0x15};
+    const uint8_t inactive[8] = {1, 0, 4, 2, 0, 0, 0, 8};
+    m2ua_gateway g = m2ua_message(on, 0, inactive, 8, hold, sizeof hold, words, M2UA_LIST_WORDS).gateway;
+    for (uint32_t i = 0; i < 128; i++) {
+        put32(data + 12, i);
+        if (i == 0) cost("Data held, the first", g, M2UA_LINK_MESSAGE, data, sizeof data);
+        g = m2ua_link_message(g, data, sizeof data, hold, sizeof hold, words, M2UA_LIST_WORDS).gateway;
+    }
+    cost("Data turned away, 128 units held", g, M2UA_LINK_MESSAGE, data, sizeof data);
+    return g;
+}
+
 int main(void) {
     static uint8_t msg[M2UA_MAX_MESSAGE];
     const uint8_t up[8] = {1, 0, 3, 1, 0, 0, 0, 8}, bare[8] = {1, 0, 4, 1, 0, 0, 0, 8};
     m2ua_gateway g = all_up(full_plan(M2UA_MODE_BROADCAST));
-    m2ua_gateway on = m2ua_message(g, 0, bare, 8, words, M2UA_LIST_WORDS).gateway;
+    m2ua_gateway on = m2ua_message(g, 0, bare, 8, hold, sizeof hold, words, M2UA_LIST_WORDS).gateway;
     printf("%-60s %7s %4s %6s %8s %8s\n", "microseconds", "event", "orders", "bytes", "as bytes", "by 8");
     cost("Beat", g, M2UA_MESSAGE, (const uint8_t[]){1, 0, 3, 3, 0, 0, 0, 8}, 8);
     cost("Active without identifiers, 16 ASes", g, M2UA_MESSAGE, bare, 8);
@@ -109,5 +125,10 @@ int main(void) {
     memcpy(msg, (const uint8_t[]){1, 0, 4, 1, 0, 0, 8, 0}, 8);
     for (; n + 8 <= sizeof msg; n += 8) put32(msg + n, 0x00010008), put32(msg + n + 4, mixed(n));
     cost("Active of 255 parameters of one identifier each, mixed", g, M2UA_MESSAGE, msg, n);
+    g = pending(on);
+    cost("Beat, 128 units held", g, M2UA_MESSAGE, (const uint8_t[]){1, 0, 3, 3, 0, 0, 0, 8}, 8);
+    cost("Active without identifiers that sends 128 units", g, M2UA_MESSAGE, bare, 8);
+    cost("the same with 509 identifiers, mixed", g, M2UA_MESSAGE, msg, active(msg, 1, 509, mixed));
+    cost("the same with 254 ranges over all 128 links", g, M2UA_MESSAGE, msg, active(msg, 8, 508, whole));
     return 0;
 }

@@ -12,7 +12,7 @@ static m2ua_gateway state;
 static const uint8_t *msg;
 static size_t len, place;
 static uint32_t kind, words[M2UA_LIST_WORDS];
-static uint8_t out[65536];
+static uint8_t out[65536], hold[M2UA_HOLD_BYTES];
 static m2ua_reading reading;
 static m2ua_written written;
 static m2ua_loaded loaded;
@@ -27,9 +27,9 @@ static void nothing(void) {}
 static void do_read(void) { reading = m2ua_read(msg, len); }
 static void do_load(void) { loaded = m2ua_load(msg, len); }
 static void do_sound(void) { sound = m2ua_is_sound(state); }
-static void do_event(void) { outcome = m2ua_event(state, kind, place, msg, len, words, M2UA_LIST_WORDS); }
-static void do_order(void) { written = m2ua_order(state, kind, place, msg, len, 1, out, sizeof out); }
-static void do_orders(void) { batch = m2ua_orders(state, kind, place, msg, len, 0, lens, M2UA_MAX_ORDERS, out, sizeof out); }
+static void do_event(void) { outcome = m2ua_event(state, kind, place, msg, len, hold, sizeof hold, words, M2UA_LIST_WORDS); }
+static void do_order(void) { written = m2ua_order(state, kind, place, msg, len, hold, sizeof hold, 1, out, sizeof out); }
+static void do_orders(void) { batch = m2ua_orders(state, kind, place, msg, len, hold, sizeof hold, 0, lens, M2UA_MAX_ORDERS, out, sizeof out); }
 static void do_waits(void) { timers = m2ua_waits(state, loaded.gateway); }
 static void do_place(void) { answer = m2ua_link_place(state, 127); }
 static void do_state(void) { answer = m2ua_as_state(state, 15); }
@@ -61,7 +61,7 @@ static void measure(const char *what, void (*f)(void)) {
     if (d > M2UA_STACK) worst = 1;
 }
 
-/* 16 ASPs, members of 16 ASes in broadcast, with 8 links each: an Up of an ASP that is active everywhere has the most orders. */
+/* 16 ASPs, members of 16 ASes in broadcast, with 8 links each: an Active where every AS holds 8 units has the most orders. */
 static size_t full_plan(uint8_t *file) {
     const uint8_t head[24] = {0, 0, 0, 24, 0, 0, 0, 16, 0, 0, 0, 152, 0, 0, 0, 16, 0, 0, 0, 216, 0, 0, 0, 128};
     memset(file, 0, M2UA_MAX_PLAN);
@@ -76,6 +76,23 @@ static size_t full_plan(uint8_t *file) {
         file[216 + 8 * i + 7] = (uint8_t)(i / 8);
     }
     return M2UA_MAX_PLAN;
+}
+
+/* ASP 0 becomes inactive everywhere, so that all ASes are pending; each gets the longest unit on each of its links. */
+static void pend(void) {
+    static const uint8_t inactive[8] = {1, 0, 4, 2, 0, 0, 0, 8};
+    static uint8_t data[304] = {1, 0, 6, 1, 0, 0, 1, 0x30, 0, 1, 0, 8, 0, 0, 0, 0, 0, 0x13, 0, 8, 0, 0, 0, 5, 3, 0, 1, 0x15};
+    place = 0, msg = inactive, len = sizeof inactive;
+    do_event();
+    state = outcome.gateway;
+    kind = M2UA_LINK_MESSAGE, msg = data, len = sizeof data;
+    for (int i = 0; i < 128; i++) {
+        data[15] = (uint8_t)i;
+        if (i == 0) measure("m2ua_event, Data held", do_event);
+        else do_event();
+        state = outcome.gateway;
+    }
+    kind = M2UA_MESSAGE;
 }
 
 int main(void) {
@@ -97,10 +114,14 @@ int main(void) {
     state = outcome.gateway;
     msg = up, len = sizeof up;
     measure("m2ua_event, Up, 258 orders", do_event);
-    if (outcome.count != M2UA_MAX_ORDERS) return printf("an Up has %zu orders\n", outcome.count), 1;
-    measure("m2ua_order, the same", do_order);
+    if (outcome.count != 258) return printf("an Up has %zu orders\n", outcome.count), 1;
+    pend();
+    place = 0, msg = active, len = sizeof active;
+    measure("m2ua_event, 128 units out", do_event);
+    if (outcome.count != 385) return printf("an Active with 128 units has %zu orders\n", outcome.count), 1;
+    measure("m2ua_order, one of them", do_order);
     measure("m2ua_orders, all of them", do_orders);
-    if (batch.code || batch.count != M2UA_MAX_ORDERS) return printf("a batch has %zu orders\n", batch.count), 1;
+    if (batch.code || batch.count != 385) return printf("a batch has %zu orders\n", batch.count), 1;
     printf("%-28s %5zu bytes to send\n", "(all its messages)", batch.length);
     measure("m2ua_waits", do_waits);
     measure("m2ua_link_place", do_place);

@@ -158,36 +158,36 @@ impl Call {
             .collect()
     }
 
-    /// The call of the proved library. (Its entries are to be lent the hold once they take it.)
-    pub fn proved(&self, state: Gateway, _hold: &mut [u8], list: &mut [u32]) -> Outcome {
+    /// The call of the proved library.
+    pub fn proved(&self, state: Gateway, hold: &mut [u8], list: &mut [u32]) -> Outcome {
         let index = self.index as usize;
         match self.what {
-            What::Message => proved::message(state, index, &self.message, list),
-            What::Lost => proved::lost(state, index, list),
-            What::Recovery => proved::recovery(state, index, list),
-            What::LinkUp => proved::link_up(state, index, list),
-            What::LinkDown => proved::link_down(state, index, list),
-            What::LinkMessage => proved::link_message(state, &self.message, list),
+            What::Message => proved::message(state, index, &self.message, hold, list),
+            What::Lost => proved::lost(state, index, hold, list),
+            What::Recovery => proved::recovery(state, index, hold, list),
+            What::LinkUp => proved::link_up(state, index, hold, list),
+            What::LinkDown => proved::link_down(state, index, hold, list),
+            What::LinkMessage => proved::link_message(state, &self.message, hold, list),
         }
     }
 
     /// One of its actions as bytes, by the proved library.
-    pub fn order(&self, state: &Gateway, _hold: &[u8], place: usize, out: &mut [u8]) -> Written {
+    pub fn order(&self, state: &Gateway, hold: &[u8], place: usize, out: &mut [u8]) -> Written {
         let (kind, index) = (self.what as u32, self.index as usize);
-        proved::order(state, kind, index, &self.message, place, out)
+        proved::order(state, kind, index, &self.message, hold, place, out)
     }
 
     /// As many of them as go in.
     pub fn orders(
         &self,
         state: &Gateway,
-        _hold: &[u8],
+        hold: &[u8],
         place: usize,
         lens: &mut [u32],
         out: &mut [u8],
     ) -> Batch {
         let (kind, index) = (self.what as u32, self.index as usize);
-        proved::orders(state, kind, index, &self.message, place, lens, out)
+        proved::orders(state, kind, index, &self.message, hold, place, lens, out)
     }
 
     /// The call of the second program.

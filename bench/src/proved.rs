@@ -44,12 +44,15 @@ extern "C" {
         out_bytes: usize,
     ) -> Written;
     fn m2ua_load(file: *const u8, len: usize) -> Loaded;
-    fn m2ua_event(
+    fn m2ua_run(
         g: Gateway,
         kind: u32,
         index: usize,
         msg: *const u8,
         len: usize,
+        hold: *mut u8,
+        hold_bytes: usize,
+        size: usize,
         words: *mut u32,
         count: usize,
     ) -> Outcome;
@@ -60,6 +63,8 @@ extern "C" {
         index: usize,
         msg: *const u8,
         len: usize,
+        hold: *const u8,
+        hold_bytes: usize,
         place: usize,
         out: *mut u8,
         out_bytes: usize,
@@ -70,6 +75,8 @@ extern "C" {
         index: usize,
         msg: *const u8,
         len: usize,
+        hold: *const u8,
+        hold_bytes: usize,
         place: usize,
         lens: *mut u32,
         len_count: usize,
@@ -120,16 +127,19 @@ pub fn write(
 
 /// An event by the number of its kind (include/m2ua.h). A macro: a function of ours would copy the state once more.
 macro_rules! event {
-    ($g:expr, $kind:expr, $index:expr, $msg:expr, $words:expr) => {{
-        let (msg, words): (&[u8], &mut [u32]) = ($msg, $words);
+    ($g:expr, $kind:expr, $index:expr, $msg:expr, $hold:expr, $words:expr) => {{
+        let (msg, hold, words): (&[u8], &mut [u8], &mut [u32]) = ($msg, $hold, $words);
         // SAFETY: each pointer and length are those of one slice, any bytes are a state, and the entry has no `requires`.
         unsafe {
-            m2ua_event(
+            m2ua_run(
                 $g,
                 $kind,
                 $index,
                 msg.as_ptr(),
                 msg.len(),
+                hold.as_mut_ptr(),
+                hold.len(),
+                hold.len(),
                 words.as_mut_ptr(),
                 words.len(),
             )
@@ -137,28 +147,28 @@ macro_rules! event {
     }};
 }
 
-pub fn message(g: Gateway, p: usize, msg: &[u8], words: &mut [u32]) -> Outcome {
-    event!(g, 0, p, msg, words)
+pub fn message(g: Gateway, p: usize, msg: &[u8], hold: &mut [u8], words: &mut [u32]) -> Outcome {
+    event!(g, 0, p, msg, hold, words)
 }
 
-pub fn lost(g: Gateway, p: usize, words: &mut [u32]) -> Outcome {
-    event!(g, 1, p, &[], words)
+pub fn lost(g: Gateway, p: usize, hold: &mut [u8], words: &mut [u32]) -> Outcome {
+    event!(g, 1, p, &[], hold, words)
 }
 
-pub fn recovery(g: Gateway, a: usize, words: &mut [u32]) -> Outcome {
-    event!(g, 2, a, &[], words)
+pub fn recovery(g: Gateway, a: usize, hold: &mut [u8], words: &mut [u32]) -> Outcome {
+    event!(g, 2, a, &[], hold, words)
 }
 
-pub fn link_up(g: Gateway, l: usize, words: &mut [u32]) -> Outcome {
-    event!(g, 3, l, &[], words)
+pub fn link_up(g: Gateway, l: usize, hold: &mut [u8], words: &mut [u32]) -> Outcome {
+    event!(g, 3, l, &[], hold, words)
 }
 
-pub fn link_down(g: Gateway, l: usize, words: &mut [u32]) -> Outcome {
-    event!(g, 4, l, &[], words)
+pub fn link_down(g: Gateway, l: usize, hold: &mut [u8], words: &mut [u32]) -> Outcome {
+    event!(g, 4, l, &[], hold, words)
 }
 
-pub fn link_message(g: Gateway, msg: &[u8], words: &mut [u32]) -> Outcome {
-    event!(g, 5, 0, msg, words)
+pub fn link_message(g: Gateway, msg: &[u8], hold: &mut [u8], words: &mut [u32]) -> Outcome {
+    event!(g, 5, 0, msg, hold, words)
 }
 
 /// The action at a place of an event as bytes. The state is copied once, as the call takes it by value.
@@ -168,6 +178,7 @@ pub fn order(
     kind: u32,
     index: usize,
     msg: &[u8],
+    hold: &[u8],
     place: usize,
     out: &mut [u8],
 ) -> Written {
@@ -179,6 +190,8 @@ pub fn order(
             index,
             msg.as_ptr(),
             msg.len(),
+            hold.as_ptr(),
+            hold.len(),
             place,
             out.as_mut_ptr(),
             out.len(),
@@ -187,12 +200,14 @@ pub fn order(
 }
 
 /// As many of them as go in, from a place on.
+#[allow(clippy::too_many_arguments)]
 #[inline(always)]
 pub fn orders(
     g: &Gateway,
     kind: u32,
     index: usize,
     msg: &[u8],
+    hold: &[u8],
     place: usize,
     lens: &mut [u32],
     out: &mut [u8],
@@ -205,6 +220,8 @@ pub fn orders(
             index,
             msg.as_ptr(),
             msg.len(),
+            hold.as_ptr(),
+            hold.len(),
             place,
             lens.as_mut_ptr(),
             lens.len(),

@@ -1,5 +1,5 @@
 /* Every entry of the library called once or more: messages read and written, plan S loaded, a short history of its events
- * (docs/RULES.md, 11.1 to 11.4, with a link established, in service and lost), and what the ASPs are sent. */
+ * (docs/RULES.md, 11.1 to 11.4, with a link established, in service and lost), what the ASPs are sent, and units that wait with a pending AS. */
 #include <stdio.h>
 #include <string.h>
 #include "m2ua.h"
@@ -53,7 +53,8 @@ static m2ua_loaded plan_s(size_t len) {
     return m2ua_load(file, len);
 }
 
-static uint32_t words[1032];
+static uint32_t words[M2UA_LIST_WORDS];
+static uint8_t hold[M2UA_HOLD_BYTES];
 
 /* An event was accepted with these orders, four words each. */
 static m2ua_gateway orders(const char *what, m2ua_outcome r, size_t count, const uint32_t *expected) {
@@ -67,23 +68,24 @@ static void events(m2ua_gateway g) {
     const uint8_t up[8] = {1, 0, 3, 1, 0, 0, 0, 8};
     const uint8_t establish[16] = {1, 0, 6, 2, 0, 0, 0, 16, 0, 1, 0, 8, 0, 0, 0, 100};
     const uint8_t indication[24] = {1, 0, 6, 9, 0, 0, 0, 24, 0, 1, 0, 8, 0, 0, 0, 100, 3, 3, 0, 8, 0, 0, 0, 1};
-    expect("refusal with 1,031 words", m2ua_message(g, 0, up, sizeof up, words, 1031).refusal, 101);
-    g = orders("Up of ASP 0", m2ua_message(g, 0, up, sizeof up, words, 1032), 2, (uint32_t[]){0, 772, 0, 0, 0, 1, 0, 65538});
+    expect("refusal with 1,543 words", m2ua_message(g, 0, up, sizeof up, hold, sizeof hold, words, M2UA_LIST_WORDS - 1).refusal, 101);
+    expect("refusal with a hold of 34,943 bytes", m2ua_message(g, 0, up, sizeof up, hold, sizeof hold - 1, words, M2UA_LIST_WORDS - 1).refusal, 106);
+    g = orders("Up of ASP 0", m2ua_message(g, 0, up, sizeof up, hold, sizeof hold, words, M2UA_LIST_WORDS), 2, (uint32_t[]){0, 772, 0, 0, 0, 1, 0, 65538});
     expect("ASP 0 is up", g.up[0], 1);
-    g = orders("M of ASP 0", m2ua_message(g, 0, m, sizeof m, words, 1032), 2, (uint32_t[]){0, 1027, 0, 0, 0, 1, 0, 65539});
-    g = orders("Up of ASP 1", m2ua_message(g, 1, up, sizeof up, words, 1032), 1, (uint32_t[]){1, 772, 0, 0});
-    g = orders("Establish", m2ua_message(g, 0, establish, sizeof establish, words, 1032), 1, (uint32_t[]){255, 1538, 100, 0});
-    g = orders("link up", m2ua_link_up(g, 0, words, 1032), 1, (uint32_t[]){0, 1539, 100, 0});
+    g = orders("M of ASP 0", m2ua_message(g, 0, m, sizeof m, hold, sizeof hold, words, M2UA_LIST_WORDS), 2, (uint32_t[]){0, 1027, 0, 0, 0, 1, 0, 65539});
+    g = orders("Up of ASP 1", m2ua_message(g, 1, up, sizeof up, hold, sizeof hold, words, M2UA_LIST_WORDS), 1, (uint32_t[]){1, 772, 0, 0});
+    g = orders("Establish", m2ua_message(g, 0, establish, sizeof establish, hold, sizeof hold, words, M2UA_LIST_WORDS), 1, (uint32_t[]){255, 1538, 100, 0});
+    g = orders("link up", m2ua_link_up(g, 0, hold, sizeof hold, words, M2UA_LIST_WORDS), 1, (uint32_t[]){0, 1539, 100, 0});
     expect("the link is in service", g.state[0], 2);
-    g = orders("State Indication", m2ua_link_message(g, indication, sizeof indication, words, 1032), 1, (uint32_t[]){0, 1545, 100, 0});
-    g = orders("link down", m2ua_link_down(g, 0, words, 1032), 1, (uint32_t[]){0, 1542, 100, 0});
+    g = orders("State Indication", m2ua_link_message(g, indication, sizeof indication, hold, sizeof hold, words, M2UA_LIST_WORDS), 1, (uint32_t[]){0, 1545, 100, 0});
+    g = orders("link down", m2ua_link_down(g, 0, hold, sizeof hold, words, M2UA_LIST_WORDS), 1, (uint32_t[]){0, 1542, 100, 0});
     expect("the link is idle", g.state[0], 0);
-    g = orders("association of ASP 0 lost", m2ua_lost(g, 0, words, 1032), 1, (uint32_t[]){1, 1, 0, 65540});
+    g = orders("association of ASP 0 lost", m2ua_lost(g, 0, hold, sizeof hold, words, M2UA_LIST_WORDS), 1, (uint32_t[]){1, 1, 0, 65540});
     expect("AS 0 waits", g.waiting[0], 1);
-    g = orders("recovery of AS 0 over", m2ua_recovery(g, 0, words, 1032), 1, (uint32_t[]){1, 1, 0, 65538});
+    g = orders("recovery of AS 0 over", m2ua_recovery(g, 0, hold, sizeof hold, words, M2UA_LIST_WORDS), 1, (uint32_t[]){1, 1, 0, 65538});
     expect("AS 0 waits no longer", g.waiting[0], 0);
-    expect("a kind that there is not", m2ua_event(g, 6, 0, up, sizeof up, words, 1032).refusal, 102);
-    expect("a link beyond the plan", m2ua_link_up(g, 17, words, 1032).refusal, 102);
+    expect("a kind that there is not", m2ua_event(g, 6, 0, up, sizeof up, hold, sizeof hold, words, M2UA_LIST_WORDS).refusal, 102);
+    expect("a link beyond the plan", m2ua_link_up(g, 17, hold, sizeof hold, words, M2UA_LIST_WORDS).refusal, 102);
 }
 
 /* ---- Actions as bytes */
@@ -102,10 +104,10 @@ static void sent(const char *what, m2ua_written w, m2ua_batch b, size_t len, con
 
 /* What a host does with an event: run it, then write and send what it gives, as much at once as goes into the buffer. Here each message is printed. */
 static m2ua_gateway send_all(m2ua_gateway g, size_t asp, const uint8_t *msg, size_t len) {
-    m2ua_outcome r = m2ua_message(g, asp, msg, len, words, 1032);
+    m2ua_outcome r = m2ua_message(g, asp, msg, len, hold, sizeof hold, words, M2UA_LIST_WORDS);
     m2ua_batch b;
     for (size_t place = 0; place < r.count; place += b.count) {
-        b = m2ua_message_orders(g, asp, msg, len, place, lens, 4, out, sizeof out);
+        b = m2ua_message_orders(g, asp, msg, len, hold, sizeof hold, place, lens, 4, out, sizeof out);
         expect("code of a batch", b.code, 0);
         if (b.code) break;
         const uint8_t *message = out;
@@ -121,17 +123,17 @@ static m2ua_gateway send_all(m2ua_gateway g, size_t asp, const uint8_t *msg, siz
 
 static void refusals(m2ua_gateway g, const uint8_t *up) {
     memset(out, 0xaa, 16);
-    expect("an action beyond the last", m2ua_message_order(g, 0, up, 8, 2, out, 16).code, 104);
-    expect("an Up Ack in 7 bytes", m2ua_message_order(g, 0, up, 8, 0, out, 7).code, 103);
-    expect("an action of an ASP beyond the plan", m2ua_message_order(g, 3, up, 8, 0, out, 16).code, 102);
-    expect("a batch with no length", m2ua_message_orders(g, 0, up, 8, 0, lens, 0, out, 16).code, 103);
-    m2ua_batch b = m2ua_message_orders(g, 0, up, 8, 2, lens, 4, out, 16);
+    expect("an action beyond the last", m2ua_message_order(g, 0, up, 8, hold, sizeof hold, 2, out, 16).code, 104);
+    expect("an Up Ack in 7 bytes", m2ua_message_order(g, 0, up, 8, hold, sizeof hold, 0, out, 7).code, 103);
+    expect("an action of an ASP beyond the plan", m2ua_message_order(g, 3, up, 8, hold, sizeof hold, 0, out, 16).code, 102);
+    expect("a batch with no length", m2ua_message_orders(g, 0, up, 8, hold, sizeof hold, 0, lens, 0, out, 16).code, 103);
+    m2ua_batch b = m2ua_message_orders(g, 0, up, 8, hold, sizeof hold, 2, lens, 4, out, 16);
     expect("a batch beyond the last", b.code == 104 && b.count == 0 && b.length == 0, 1);
     g.up[0] = 2;
-    expect("an action where the state is not sound", m2ua_message_order(g, 0, up, 8, 0, out, 16).code, 105);
+    expect("an action where the state is not sound", m2ua_message_order(g, 0, up, 8, hold, sizeof hold, 0, out, 16).code, 105);
     for (size_t i = 0; i < 16; i++) expect("a byte of a refused call", out[i], 0xaa);
     g.up[0] = 0;
-    expect("an Up Ack", (uint32_t)m2ua_message_order(g, 0, up, 8, 0, out, 16).length, 8);
+    expect("an Up Ack", (uint32_t)m2ua_message_order(g, 0, up, 8, hold, sizeof hold, 0, out, 16).length, 8);
     expect("the byte behind it", out[8], 0xaa);
 }
 
@@ -155,22 +157,67 @@ static void bytes(m2ua_gateway g) {
     const uint8_t passed[24] = {1, 0, 6, 1, 0, 0, 0, 24, 0, 1, 0, 8, 0, 0, 0, 100, 3, 0, 0, 5, 0x55, 0, 0, 0};
     uint8_t *second = out + 1024;
     refusals(g, up);
-    g = m2ua_message(g, 0, up, 8, words, 1032).gateway;
-    g = m2ua_message(g, 0, m, sizeof m, words, 1032).gateway;
-    g = m2ua_message(g, 1, up, 8, words, 1032).gateway;
-    sent("Notify to ASP 0, taken over", m2ua_message_order(g, 1, active, 8, 1, out, 1024), m2ua_message_orders(g, 1, active, 8, 1, lens, 4, second, 1024), 84, notify(2, 2));
+    g = m2ua_message(g, 0, up, 8, hold, sizeof hold, words, M2UA_LIST_WORDS).gateway;
+    g = m2ua_message(g, 0, m, sizeof m, hold, sizeof hold, words, M2UA_LIST_WORDS).gateway;
+    g = m2ua_message(g, 1, up, 8, hold, sizeof hold, words, M2UA_LIST_WORDS).gateway;
+    sent("Notify to ASP 0, taken over", m2ua_message_order(g, 1, active, 8, hold, sizeof hold, 1, out, 1024), m2ua_message_orders(g, 1, active, 8, hold, sizeof hold, 1, lens, 4, second, 1024), 84, notify(2, 2));
     g = send_all(g, 1, active, 8);
-    expect("an action to the link side", m2ua_message_order(g, 1, establish, 16, 0, out, 1024).code, 104);
-    m2ua_batch b = m2ua_message_orders(g, 1, establish, 16, 0, lens, 4, second, 0);
+    expect("an action to the link side", m2ua_message_order(g, 1, establish, 16, hold, sizeof hold, 0, out, 1024).code, 104);
+    m2ua_batch b = m2ua_message_orders(g, 1, establish, 16, hold, sizeof hold, 0, lens, 4, second, 0);
     expect("a batch of it", b.code == 0 && b.count == 1 && b.length == 0 && lens[0] == 0, 1);
-    g = m2ua_message(g, 1, establish, 16, words, 1032).gateway;
-    sent("Establish Confirm", m2ua_link_up_order(g, 0, 0, out, 1024), m2ua_link_up_orders(g, 0, 0, lens, 4, second, 1024), 16, confirm);
-    g = m2ua_link_up(g, 0, words, 1032).gateway;
-    sent("Data passed on", m2ua_link_message_order(g, data, 24, 0, out, 1024), m2ua_link_message_orders(g, data, 24, 0, lens, 4, second, 1024), 24, passed);
-    sent("Release Indication", m2ua_link_down_order(g, 0, 0, out, 1024), m2ua_link_down_orders(g, 0, 0, lens, 4, second, 1024), 16, released);
-    sent("Notify, pending", m2ua_lost_order(g, 1, 0, out, 1024), m2ua_lost_orders(g, 1, 0, lens, 4, second, 1024), 84, notify(1, 4));
-    g = m2ua_lost(g, 1, words, 1032).gateway;
-    sent("Notify, inactive", m2ua_recovery_order(g, 0, 0, out, 1024), m2ua_recovery_orders(g, 0, 0, lens, 4, second, 1024), 84, notify(1, 2));
+    g = m2ua_message(g, 1, establish, 16, hold, sizeof hold, words, M2UA_LIST_WORDS).gateway;
+    sent("Establish Confirm", m2ua_link_up_order(g, 0, hold, sizeof hold, 0, out, 1024), m2ua_link_up_orders(g, 0, hold, sizeof hold, 0, lens, 4, second, 1024), 16, confirm);
+    g = m2ua_link_up(g, 0, hold, sizeof hold, words, M2UA_LIST_WORDS).gateway;
+    sent("Data passed on", m2ua_link_message_order(g, data, 24, hold, sizeof hold, 0, out, 1024), m2ua_link_message_orders(g, data, 24, hold, sizeof hold, 0, lens, 4, second, 1024), 24, passed);
+    sent("Release Indication", m2ua_link_down_order(g, 0, hold, sizeof hold, 0, out, 1024), m2ua_link_down_orders(g, 0, hold, sizeof hold, 0, lens, 4, second, 1024), 16, released);
+    sent("Notify, pending", m2ua_lost_order(g, 1, hold, sizeof hold, 0, out, 1024), m2ua_lost_orders(g, 1, hold, sizeof hold, 0, lens, 4, second, 1024), 84, notify(1, 4));
+    g = m2ua_lost(g, 1, hold, sizeof hold, words, M2UA_LIST_WORDS).gateway;
+    sent("Notify, inactive", m2ua_recovery_order(g, 0, hold, sizeof hold, 0, out, 1024), m2ua_recovery_orders(g, 0, hold, sizeof hold, 0, lens, 4, second, 1024), 84, notify(1, 2));
+}
+
+/* ---- Units held */
+
+static const uint8_t longer[M2UA_HOLD_BYTES + 1];
+
+/* Data of a link with one byte, and a correlation id in front of it. */
+static const uint8_t *unit(uint8_t id, uint8_t byte) {
+    static uint8_t d[32] = {1, 0, 6, 1, 0, 0, 0, 32, 0, 1, 0, 8, 0, 0, 0, 0, 0, 0x13, 0, 8, 0, 0, 0, 9, 3, 0, 0, 5};
+    d[15] = id;
+    d[28] = byte;
+    return d;
+}
+
+/* ASP 0 is active and goes inactive: AS 0 is pending. Nine units come, of which the ninth is turned away; the others go out as ASP 0 is active again. */
+static void held(m2ua_gateway g) {
+    const uint8_t up[8] = {1, 0, 3, 1, 0, 0, 0, 8}, active[8] = {1, 0, 4, 1, 0, 0, 0, 8}, inactive[8] = {1, 0, 4, 2, 0, 0, 0, 8};
+    /* row order: the correlation id behind the data */
+    uint8_t passed[32] = {1, 0, 6, 1, 0, 0, 0, 32, 0, 1, 0, 8, 0, 0, 0, 0, 3, 0, 0, 5, 0, 0, 0, 0, 0, 0x13, 0, 8, 0, 0, 0, 9};
+    memset(hold, 0xee, sizeof hold);
+    g = m2ua_message(g, 0, up, 8, hold, sizeof hold, words, M2UA_LIST_WORDS).gateway;
+    g = m2ua_message(g, 0, active, 8, hold, sizeof hold, words, M2UA_LIST_WORDS).gateway;
+    g = m2ua_message(g, 0, inactive, 8, hold, sizeof hold, words, M2UA_LIST_WORDS).gateway;
+    for (uint8_t k = 0; k < 9; k++) g = orders("a unit for AS 0", m2ua_link_message(g, unit(100 + k, k), 32, hold, sizeof hold, words, M2UA_LIST_WORDS), 0, words);
+    expect("units held", g.held.count[0], M2UA_HELD_MOST);
+    for (unsigned k = 0; k < 8; k++) {
+        expect("the link of a unit", g.held.id[k], 100 + k);
+        expect("its tag, length and mark", g.held.tag[k] == 0x300 && g.held.length[k] == 5 && g.held.marked[k] == 1 && g.held.correlation[k] == 9, 1);
+        expect("its byte", hold[m2ua_hold_at(0, k)], k);
+        expect("the byte behind it", hold[m2ua_hold_at(0, k) + 1], 0xee);
+    }
+    expect("the hold of AS 1", hold[m2ua_hold_at(1, 0)], 0xee);
+    expect("an action of a short hold", m2ua_message_order(g, 0, active, 8, hold, sizeof hold - 1, 0, out, 1024).code, 106);
+    expect("a batch of a long one", m2ua_orders(g, M2UA_MESSAGE, 0, active, 8, longer, sizeof longer, 0, lens, 4, out, 1024).code, 106);
+    for (uint8_t k = 0; k < 8; k++) {
+        passed[15] = 100 + k;
+        passed[20] = k;
+        sent("a unit from the hold", m2ua_message_order(g, 0, active, 8, hold, sizeof hold, 1 + k, out, 1024),
+             m2ua_message_orders(g, 0, active, 8, hold, sizeof hold, 1 + k, lens, 1, out + 1024, 1024), 32, passed);
+    }
+    g = m2ua_message(g, 0, active, 8, hold, sizeof hold, words, M2UA_LIST_WORDS).gateway;
+    expect("the second order", words[5] == M2UA_ORDER_DATA && words[6] == 100, 1);
+    expect("the last order", words[37] == M2UA_ORDER_NOTIFY && words[39] == M2UA_STATUS_AS_ACTIVE, 1);
+    expect("units held by an active AS", g.held.count[0], 0);
+    expect("its byte stays", hold[m2ua_hold_at(0, 7)], 7);
 }
 
 int main(void) {
@@ -182,6 +229,7 @@ int main(void) {
     expect("its state is consistent", m2ua_is_sound(plan.gateway), 1);
     events(plan.gateway);
     bytes(plan.gateway);
+    held(plan.gateway);
     plan.gateway.up[0] = 2;
     expect("a flag of 2 is not", m2ua_is_sound(plan.gateway), 0);
     printf("C example: %s\n", failures ? "FAILED" : "ok");

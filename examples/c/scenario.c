@@ -1,13 +1,15 @@
-/* A small host: it loads a plan, lets two ASPs take turns, a link come up, units go both ways, an association break and the recovery time run out. What a host
- * sends, and which timers it starts, is printed. (rust/m2ua/examples/scenario.rs is the same in Rust; tools/hosts compares what both print.)
+/* A small host: it loads a plan, lets two ASPs take turns, a link come up, units go both ways, an association break, units wait until the other ASP takes over,
+ * and the recovery time run out. What a host sends, which units wait, and which timers it starts, is printed. (rust/m2ua/examples/scenario.rs is the same in
+ * Rust; tools/hosts compares what both print.)
  * Usage: scenario PLAN, with examples/plans/sample.txt compiled; or scenario words. */
 #include <stdlib.h>
 #include <string.h>
 #include "m2ua.h"
 #include "m2ua_text.h"
 
-/* What a host keeps: the state. */
+/* What a host keeps: the state, and the hold that goes with it. */
 static m2ua_gateway gateway;
+static uint8_t hold[M2UA_HOLD_BYTES];
 
 static void fail(const char *what, uint32_t code) {
     fprintf(stderr, "%s: %u (%s)\n", what, code, m2ua_code_text(code));
@@ -55,7 +57,20 @@ static void send_to_link(uint32_t id, const uint8_t *msg, size_t len) {
     printf("\n");
 }
 
-/* What has changed: the states of ASes, and the timers that start and stop. */
+/* The units that an AS holds since an event, with their bytes in the hold; or how many it holds no longer. */
+static void units(const m2ua_units *before, const m2ua_units *after, unsigned a) {
+    unsigned was = before->count[a], is = after->count[a];
+    for (unsigned k = was; k < is; k++) {
+        size_t i = a * M2UA_HELD_MOST + k, start = m2ua_hold_at(a, k);
+        printf("  AS %u holds a unit (0x%x) of link %u: ", a, after->tag[i], after->id[i]);
+        for (size_t j = start; j + 4 < start + after->length[i]; j++) printf("%02x", hold[j]);
+        if (after->marked[i]) printf(", correlation id %u", after->correlation[i]);
+        printf("\n");
+    }
+    if (is < was) printf("  units that AS %u no longer holds: %u\n", a, was - is);
+}
+
+/* What has changed: the states of ASes, the timers that start and stop, the units held. */
 static void changes(m2ua_gateway before, m2ua_gateway after) {
     static const char *const names[] = {"down", "?", "inactive", "active", "pending"};
     m2ua_timers t = m2ua_waits(before, after);
@@ -65,6 +80,7 @@ static void changes(m2ua_gateway before, m2ua_gateway after) {
         if (was.value != is.value) printf("  AS %u is %s\n", a, names[is.value]);
         if (t.began[a]) printf("  timer: start T(r) of AS %u\n", a);
         if (t.ended[a]) printf("  timer: stop T(r) of AS %u\n", a);
+        units(&before.held, &after.held, a);
     }
 }
 
@@ -74,21 +90,21 @@ static size_t place_of(uint32_t id) {
     return place.value;
 }
 
-/* An event: its orders in words, then as bytes, which come from the state before the event; then what has changed. */
+/* An event: its orders in words, then as bytes, which come from the state before the event and the hold; then what has changed. */
 static void happens(const char *what, uint32_t kind, size_t index, const uint8_t *msg, size_t len) {
     /* each call of m2ua_orders runs the event again: with so much room one is enough, or two */
     static uint32_t words[M2UA_LIST_WORDS], lens[M2UA_MAX_ORDERS];
-    static uint8_t out[16384], single[M2UA_MAX_MESSAGE];
+    static uint8_t out[65536], single[M2UA_MAX_MESSAGE];
     char line[128];
     printf("%s\n", what);
-    m2ua_outcome r = m2ua_event(gateway, kind, index, msg, len, words, M2UA_LIST_WORDS);
+    m2ua_outcome r = m2ua_event(gateway, kind, index, msg, len, hold, sizeof hold, words, M2UA_LIST_WORDS);
     if (r.refusal) {
         printf("  refused: %u (%s)\n", r.refusal, m2ua_code_text(r.refusal));
         return;
     }
     m2ua_batch b;
     for (size_t place = 0; place < r.count; place += b.count) {
-        b = m2ua_orders(gateway, kind, index, msg, len, place, lens, M2UA_MAX_ORDERS, out, sizeof out);
+        b = m2ua_orders(gateway, kind, index, msg, len, hold, sizeof hold, place, lens, M2UA_MAX_ORDERS, out, sizeof out);
         if (b.code) fail("m2ua_orders", b.code);
         const uint8_t *next = out;
         for (size_t j = 0; j < b.count; next += lens[j++]) {
@@ -101,7 +117,7 @@ static void happens(const char *what, uint32_t kind, size_t index, const uint8_t
             }
             send_to_asp(order[0], next, lens[j]);
             /* one order by itself is the same message */
-            m2ua_written w = m2ua_order(gateway, kind, index, msg, len, place + j, single, sizeof single);
+            m2ua_written w = m2ua_order(gateway, kind, index, msg, len, hold, sizeof hold, place + j, single, sizeof single);
             if (w.code || w.length != lens[j] || memcmp(single, next, lens[j])) fail("m2ua_order", w.code);
         }
     }
@@ -112,6 +128,7 @@ static void happens(const char *what, uint32_t kind, size_t index, const uint8_t
 static void asp_sends(const char *what, size_t asp, message m) { happens(what, M2UA_MESSAGE, asp, m.bytes, m.length); }
 static const uint8_t none[1];
 static void other(const char *what, uint32_t kind, size_t index) { happens(what, kind, index, none, 0); }
+static void link_sends(const char *what, message m) { happens(what, M2UA_LINK_MESSAGE, 0, m.bytes, m.length); }
 
 /* ---- The scenario */
 
@@ -123,6 +140,10 @@ static void scenario(void) {
     message up = plain(M2UA_CLASS_ASPSM, M2UA_TYPE_UP), active = plain(M2UA_CLASS_ASPTM, M2UA_TYPE_ACTIVE);
     message data = written(M2UA_CLASS_MAUP, M2UA_TYPE_DATA, 3, (const uint16_t[]){M2UA_TAG_INTERFACE_ID, M2UA_TAG_DATA_1, M2UA_TAG_CORRELATION_ID},
                            (const uint32_t[]){4, 11, 4}, unit);
+    /* link 101, a correlation id, and behind it a unit with its length indicator */
+    const uint8_t second[13] = {0, 0, 0, 101, 0, 0, 0, 6, 0x05, 'W', 'A', 'I', 'T'};
+    message later = written(M2UA_CLASS_MAUP, M2UA_TYPE_DATA, 3, (const uint16_t[]){M2UA_TAG_INTERFACE_ID, M2UA_TAG_CORRELATION_ID, M2UA_TAG_DATA_2},
+                            (const uint32_t[]){4, 4, 5}, second);
     message received = written(M2UA_CLASS_MAUP, M2UA_TYPE_DATA, 2, (const uint16_t[]){M2UA_TAG_INTERFACE_ID, M2UA_TAG_DATA_1}, (const uint32_t[]){4, 11}, unit);
     asp_sends("left comes up", 0, written(M2UA_CLASS_ASPSM, M2UA_TYPE_UP, 1, (const uint16_t[]){M2UA_TAG_ASP_ID}, (const uint32_t[]){4}, seven));
     asp_sends("left takes links 100 to 115", 0,
@@ -133,15 +154,18 @@ static void scenario(void) {
               written(M2UA_CLASS_MAUP, M2UA_TYPE_ESTABLISH_REQUEST, 1, (const uint16_t[]){M2UA_TAG_INTERFACE_ID}, (const uint32_t[]){4}, link100));
     other("link 100 is in service", M2UA_LINK_UP, place_of(100));
     asp_sends("right sends a unit on link 100", 1, data);
-    happens("a unit comes in on link 100", M2UA_LINK_MESSAGE, 0, received.bytes, received.length);
+    link_sends("a unit comes in on link 100", received);
     asp_sends("right sends a heartbeat", 1,
               written(M2UA_CLASS_ASPSM, M2UA_TYPE_BEAT, 1, (const uint16_t[]){M2UA_TAG_HEARTBEAT}, (const uint32_t[]){5}, (const uint8_t *)"alive"));
     asp_sends("left asks for a link of another AS", 0,
               written(M2UA_CLASS_ASPTM, M2UA_TYPE_ACTIVE, 1, (const uint16_t[]){M2UA_TAG_INTERFACE_ID}, (const uint32_t[]){4}, link200));
     happens("left sends three bytes", M2UA_MESSAGE, 0, up.bytes, 3);
     other("the association of right is lost", M2UA_LOST, 1);
+    link_sends("a unit comes in on link 100 and waits", received);
+    link_sends("a unit comes in on link 101 and waits", later);
     asp_sends("left takes over in time", 0, active);
     asp_sends("left goes down", 0, plain(M2UA_CLASS_ASPSM, M2UA_TYPE_DOWN));
+    link_sends("a unit comes in that nobody will take", later);
     other("the recovery time of AS 0 is over", M2UA_RECOVERY, 0);
     other("link 100 fails", M2UA_LINK_DOWN, place_of(100));
     other("an event of an ASP that there is not", M2UA_LOST, 3);

@@ -35,12 +35,13 @@ int main(int argc, char **argv) {
     std::array<std::uint8_t, M2UA_MAX_MESSAGE> out;
     std::array<std::uint32_t, M2UA_MAX_ORDERS> lens;
     std::array<char, 128> line;
+    std::vector<std::uint8_t> hold(M2UA_HOLD_BYTES); // goes with the state, from event to event
     std::printf("reading: %u\n", m2ua_read(up.data(), up.size()).code);
-    const m2ua_outcome r = m2ua_message(loaded.gateway, 0, up.data(), up.size(), words.data(), words.size());
-    const m2ua_batch all = m2ua_message_orders(loaded.gateway, 0, up.data(), up.size(), 0, lens.data(), lens.size(), out.data(), out.size());
+    const m2ua_outcome r = m2ua_message(loaded.gateway, 0, up.data(), up.size(), hold.data(), hold.size(), words.data(), words.size());
+    const m2ua_batch all = m2ua_message_orders(loaded.gateway, 0, up.data(), up.size(), hold.data(), hold.size(), 0, lens.data(), lens.size(), out.data(), out.size());
     for (std::size_t i = 0; i < r.count; i++) {
         m2ua_order_text(words.data() + M2UA_ORDER_WORDS * i, line.data(), line.size());
-        const m2ua_written w = m2ua_message_order(loaded.gateway, 0, up.data(), up.size(), i, out.data(), out.size());
+        const m2ua_written w = m2ua_message_order(loaded.gateway, 0, up.data(), up.size(), hold.data(), hold.size(), i, out.data(), out.size());
         std::printf("%s, %zu bytes, of %zu\n", line.data(), w.length, all.length);
     }
     const std::uint16_t tag = M2UA_TAG_HEARTBEAT;

@@ -25,13 +25,13 @@ type Call<'a> = (Gateway, u32, &'a [u8]);
 /// The calls in turn; all must give so many orders.
 fn messages(name: &str, calls: &[Call], orders: u32) {
     let (mut x, mut y) = ([0xaa; ROOM], [0xaa; ROOM]);
-    let mut w = vec![0xaa; HOLD_BYTES];
+    let (mut v, mut w) = (vec![0xaa; HOLD_BYTES], vec![0xaa; HOLD_BYTES]);
     for (state, p, msg) in calls {
-        let a = proved::message(*state, *p as usize, msg, &mut x);
+        let a = proved::message(*state, *p as usize, msg, &mut v, &mut x);
         let b = hand_message(*state, *p, msg, &mut w, &mut y);
         assert_eq!((a.refusal, a.count), (b.code, b.count as usize), "{name}");
         assert_eq!((b.code, b.count), (0, orders), "{name}");
-        assert!(a.gateway == b.gateway && x == y, "{name}");
+        assert!(a.gateway == b.gateway && x == y && v == w, "{name}");
     }
     let (mut i, mut j) = (0, 0);
     timing::compare(
@@ -39,7 +39,7 @@ fn messages(name: &str, calls: &[Call], orders: u32) {
         || {
             i = (i + 1) % calls.len();
             let (state, p, msg) = black_box(&calls[i]);
-            proved::message(*state, *p as usize, msg, &mut x)
+            proved::message(*state, *p as usize, msg, &mut v, &mut x)
         },
         || {
             j = (j + 1) % calls.len();
@@ -51,15 +51,15 @@ fn messages(name: &str, calls: &[Call], orders: u32) {
 
 fn link_message(name: &str, state: &Gateway, msg: &[u8], orders: u32) {
     let (mut x, mut y) = ([0xaa; ROOM], [0xaa; ROOM]);
-    let mut w = vec![0xaa; HOLD_BYTES];
-    let a = proved::link_message(*state, msg, &mut x);
+    let (mut v, mut w) = (vec![0xaa; HOLD_BYTES], vec![0xaa; HOLD_BYTES]);
+    let a = proved::link_message(*state, msg, &mut v, &mut x);
     let b = hand_link_message(*state, msg, &mut w, &mut y);
     assert_eq!((a.refusal, a.count), (b.code, b.count as usize), "{name}");
     assert_eq!((b.code, b.count), (0, orders), "{name}");
-    assert!(a.gateway == b.gateway && x == y, "{name}");
+    assert!(a.gateway == b.gateway && x == y && v == w, "{name}");
     timing::compare(
         name,
-        || proved::link_message(*black_box(state), msg, &mut x),
+        || proved::link_message(*black_box(state), msg, &mut v, &mut x),
         || hand_link_message(*black_box(state), msg, &mut w, &mut y),
     );
 }

@@ -1,6 +1,6 @@
 //! Times actions as bytes, of the proved library against the hand-written second program, both in this one run. A time is of one call: the state goes
 //! in by value, the event is run, and the bytes are written. Each call is first checked to give the same on both sides: result, lengths and all bytes.
-use bench::holds::full_hold;
+use bench::holds::{full_hold, held_on_plan_s};
 use bench::lines::{Call, What};
 use bench::messages::{active_of, data, message, number};
 use bench::plans::{full_plan, plan, plan_s};
@@ -129,6 +129,13 @@ fn main() {
 }
 
 fn from_the_hold(active: &Call) {
+    let (state, hold) = held_on_plan_s(8);
+    batch(
+        "all 11 actions of an Active",
+        (&state, &hold[..]),
+        active,
+        11,
+    );
     let (state, hold) = full_hold();
     let held = (&state, &hold[..]);
     single("Data of 88 bytes from the hold", held, active, 368, 88);

@@ -149,7 +149,7 @@ impl Tried {
     }
 
     /// Numbers beyond 32 bits are not cut, and a kind that there is not is an ASP beyond the plan.
-    fn wide(&mut self, call: &Call, (state, _hold): Met, refusal: u32) {
+    fn wide(&mut self, call: &Call, (state, hold): Met, refusal: u32) {
         let (far, kind, index) = (1 << 32, call.what as u32, call.index as usize);
         let wrong = if state.is_sound() { 102 } else { 105 };
         let beyond = match refusal {
@@ -166,12 +166,13 @@ impl Tried {
             (u32::MAX, index, 0, wrong),
         ] {
             let (mut lens, mut out) = ([UNSET; 4], [LEFT; 64]);
-            let a = proved::order(state, kind, index, &call.message, place, &mut out);
+            let a = proved::order(state, kind, index, &call.message, hold, place, &mut out);
             let b = proved::orders(
                 state,
                 kind,
                 index,
                 &call.message,
+                hold,
                 place,
                 &mut lens,
                 &mut out,

@@ -1,1 +1,2 @@
 pub mod Conserve
+pub mod Samples

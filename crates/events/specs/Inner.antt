@@ -1,3 +1,4 @@
 pub mod Columns
 pub mod Decision
 pub mod Perform
+pub mod Take

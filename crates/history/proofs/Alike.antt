@@ -1,5 +1,5 @@
--- What an accepted event does hangs on what it reads alone: the plan, its own controller's up flag, and the records and link states of the ASes
--- that it reaches. Kind by kind: g with other contents u, c, w, s that are alike there.
+-- What an accepted event does hangs on what it reads alone: the plan, its own controller's up flag, and the records, link states and units of
+-- the ASes that it reaches. Kind by kind: g with the contents of g′, which are alike there.
 -- Assumes nothing.
 use mathlib.Core.Path.{_≡_, refl, sym, ap, _∙_}
 use mathlib.Core.Bool.{Bool, true, false, _&&_, _||_, not, cond}
@@ -18,7 +18,7 @@ use Rattle.wire.specs.Walk.{Par, walk}
 use Rattle.message.specs.Verdict.{verdict}
 use Rattle.message.specs.Meaning.{readingOf}
 use Rattle.message.specs.declared.Reading.{Reading}
-use Rattle.gateway.specs.Sound.{pair, isSound}
+use Rattle.gateway.specs.Sound.{pair, mostHeld, isSound}
 use Rattle.gateway.specs.Sound as sound
 use Rattle.gateway.specs.Inner.Laws.{active-is-member, counts-within}
 use Rattle.gateway.specs.declared.Gateway.{Gateway}
@@ -27,65 +27,60 @@ use Rattle.ranges.specs.declared.Refused.{Refused}
 use Rattle.server.specs.declared.Change.the-variants.{AspUp, Activate}
 use Rattle.action.specs.Words.{toAll}
 use Rattle.action.specs.Types.{aspActiveAck, aspUpAck, aspUp, aspDown, beat, beatAck, aspActive, aspInactive, establishConfirm, releaseConfirm, releaseIndication}
-use Rattle.server.specs.Record.{some, recordOf}
+use Rattle.server.specs.declared.AsRecord.{AsRecord}
+use Rattle.server.specs.Record.{some, recordOf, stateIn}
 use Rattle.rules.specs.Event.{EventKind, message, lost, recovery, linkUp, linkDown, linkMessage}
 use Rattle.rules.specs.Identifiers.{firstRefused, ownsNamed, ownersNamed, isKnown, linkOf, ownerAt, isMember, isActive}
-use Rattle.rules.specs.Effect.{Effect, send, setLink, changeIn, oneAction, error, error2}
+use Rattle.rules.specs.Effect.{Effect, send, setLink, changeIn, takeIn, oneAction, error, error2}
 use Rattle.rules.specs.Asp.{asesOf, activeIn, upEffect, downEffect, lostEffect, otherMode, activeEffect, trafficEffect}
-use Rattle.rules.specs.Link.{linkEffect, classSixEffect, recipientsOf, toRecipients, linkUpEffect, linkDownEffect, linkMessageEffect, starting, idle, inService, stopping}
+use Rattle.rules.specs.Link.{linkEffect, classSixEffect, recipientsOf, toRecipients, linkUpEffect, linkDownEffect, isPending, arrival, holdEffect, linkMessageEffect, starting, idle, inService, stopping}
 use Rattle.rules.specs.Rules.{isError, classTypeOf, fromAsp, fromLink, readEffect, messageEffect, effectOf, inPlan}
 use Rattle.rules.specs.Reach.{ownsId, readReach, messageReach, kindReach, fromController}
 use Rattle.history.specs.Inner.Local.{false-of}
 use Rattle.history.proofs.Bits.{clash, cond-same, cond-both}
 use Rattle.servers.specs.Inner.Records.{column-at}
 use Rattle.history.proofs.Servers.{dyn, same-record}
+use Rattle.history.proofs.Units.{Column, counts, column, asOf}
 use Rattle.history.proofs.Within.{Reaches, known-below, owner-in, member-in, asps-16, reach-up, reach-six, neither}
 
--- u, c, w, s are what g has, at an event's own controller and in the ASes of R
-pub record Alike (g : Gateway) (R own : ℕ → Bool) (u c w s : List ℕ) : Type 0 where
-  pub mine : (q : ℕ) → q < 16 → own q ≡ true → numberAt u q ≡ numberAt (g .up) q
-  pub ups : (a q : ℕ) → a < 16 → q < 16 → R a ≡ true → isMember g a q ≡ true → numberAt u q ≡ numberAt (g .up) q
-  pub acts : (a q : ℕ) → a < 16 → q < 16 → R a ≡ true → numberAt c (pair a q) ≡ numberAt (g .active) (pair a q)
-  pub waits : (a : ℕ) → a < 16 → R a ≡ true → numberAt w a ≡ numberAt (g .waiting) a
-  pub lines : (l : ℕ) → R (ownerAt g l) ≡ true → numberAt s l ≡ numberAt (g .state) l
+-- g′ has what g has, at an event's own controller and in the ASes of R
+pub record Alike (g : Gateway) (R own : ℕ → Bool) (g′ : Gateway) : Type 0 where
+  pub mine : (q : ℕ) → q < 16 → own q ≡ true → numberAt (g′ .up) q ≡ numberAt (g .up) q
+  pub ups : (a q : ℕ) → a < 16 → q < 16 → R a ≡ true → isMember g a q ≡ true → numberAt (g′ .up) q ≡ numberAt (g .up) q
+  pub acts : (a q : ℕ) → a < 16 → q < 16 → R a ≡ true → numberAt (g′ .active) (pair a q) ≡ numberAt (g .active) (pair a q)
+  pub waits : (a : ℕ) → a < 16 → R a ≡ true → numberAt (g′ .waiting) a ≡ numberAt (g .waiting) a
+  pub lines : (l : ℕ) → R (ownerAt g l) ≡ true → numberAt (g′ .state) l ≡ numberAt (g .state) l
+  pub units : (c : Column) (i : ℕ) → R (asOf c i) ≡ true → numberAt (column c (g′ .held)) i ≡ numberAt (column c (g .held)) i
 
 flag : {x y : ℕ} → x ≡ y → eqb x 1 ≡ eqb y 1
 flag e = ap (λ (x : ℕ). eqb x 1) e
 
 -- ---- what hangs on the plan alone
 
-module _ (g : Gateway) (u c w s : List ℕ) where
-  pub refused-plan : (p : ℕ) (ps : List Par) → firstRefused (dyn g u c w s) p ps ≡ firstRefused g p ps
+module _ (g : Gateway) (g′ : Gateway) where
+  pub refused-plan : (p : ℕ) (ps : List Par) → firstRefused (dyn g g′) p ps ≡ firstRefused g p ps
   unfolding firstRefused
   refused-plan p [] = refl
   refused-plan p (x ∷ ps) = rw (refused-plan p ps)
 
-  pub owns-plan : (ps : List Par) (a : ℕ) → ownsNamed (dyn g u c w s) ps a ≡ ownsNamed g ps a
+  pub owns-plan : (ps : List Par) (a : ℕ) → ownsNamed (dyn g g′) ps a ≡ ownsNamed g ps a
   unfolding ownsNamed
   owns-plan [] a = refl
   owns-plan (x ∷ ps) a = rw (owns-plan ps a)
 
-  owners-plan : (ps : List Par) → ownersNamed (dyn g u c w s) ps ≡ ownersNamed g ps
+  owners-plan : (ps : List Par) → ownersNamed (dyn g g′) ps ≡ ownersNamed g ps
   unfolding ownersNamed
   owners-plan ps = tabulate-ext false 16 _ _ (λ a b. owns-plan ps a)
 
-  known-plan : (x : ℕ) → isKnown (dyn g u c w s) x ≡ isKnown g x
-  unfolding isKnown
-  known-plan x = refl
-
-  link-plan : (x : ℕ) → linkOf (dyn g u c w s) x ≡ linkOf g x
-  unfolding linkOf
-  link-plan x = refl
-
-  other-plan : (mode : ℕ) (named : List Bool) → otherMode (dyn g u c w s) mode named ≡ otherMode g mode named
+  other-plan : (mode : ℕ) (named : List Bool) → otherMode (dyn g g′) mode named ≡ otherMode g mode named
   unfolding otherMode
   other-plan mode named = refl
 
-  active-plan : (p mode : ℕ) (n : List Bool) → activeEffect (dyn g u c w s) p mode n ≡ activeEffect g p mode n
+  active-plan : (p mode : ℕ) (n : List Bool) → activeEffect (dyn g g′) p mode n ≡ activeEffect g p mode n
   unfolding activeEffect
   active-plan p mode n = ap (λ (t : Bool). cond t (send (error p 5)) (changeIn (oneAction p aspActiveAck 0 0) (Activate p) n)) (other-plan mode n)
 
-  pub in-plan : (k : EventKind) → inPlan (dyn g u c w s) k ≡ inPlan g k
+  pub in-plan : (k : EventKind) → inPlan (dyn g g′) k ≡ inPlan g k
   unfolding isKnown
   in-plan (message p m) = refl
   in-plan (lost p) = refl
@@ -94,7 +89,7 @@ module _ (g : Gateway) (u c w s : List ℕ) where
   in-plan (linkDown l) = refl
   in-plan (linkMessage m) = refl
 
-  pub reach-plan : (k : EventKind) (a : ℕ) → kindReach (dyn g u c w s) k a ≡ kindReach g k a
+  pub reach-plan : (k : EventKind) (a : ℕ) → kindReach (dyn g g′) k a ≡ kindReach g k a
   unfolding isKnown linkOf ownsId messageReach readReach
   reach-plan (message p m) a = rw (owns-plan (walk m 8 .pars) a)
   reach-plan (lost p) a = refl
@@ -109,53 +104,54 @@ unfolding ownsId
 owns-own g x y = and-both (isKnown g x) (eqb (ownerAt g (linkOf g x)) (ownerAt g (linkOf g x))) y (eq-eqb (ownerAt g (linkOf g x)) (ownerAt g (linkOf g x)) refl)
 
 -- fewer ASes
-narrow : (g : Gateway) (R R′ own : ℕ → Bool) (u c w s : List ℕ) → ((a : ℕ) → R a ≡ true → R′ a ≡ true) → Alike g R′ own u c w s → Alike g R own u c w s
-narrow g R R′ own u c w s h k =
+narrow : (g : Gateway) (R R′ own : ℕ → Bool) (g′ : Gateway) → ((a : ℕ) → R a ≡ true → R′ a ≡ true) → Alike g R′ own g′ → Alike g R own g′
+narrow g R R′ own g′ h k =
     record {
       mine = k .mine;
       ups = λ a q b d e. k .ups a q b d (h a e);
       acts = λ a q b d e. k .acts a q b d (h a e);
       waits = λ a b e. k .waits a b (h a e);
       lines = λ l e. k .lines l (h (ownerAt g l) e);
+      units = λ c i e. k .units c i (h (asOf c i) e);
     }
 
 -- the record of an AS reached
-pub record-alike : (g : Gateway) (R own : ℕ → Bool) (u c w s : List ℕ) → Alike g R own u c w s → (a : ℕ) → a < 16 → R a ≡ true → recordOf (dyn g u c w s) a ≡ recordOf g a
-record-alike g R own u c w s k a b r =
-    same-record u (g .up) (g .member) c (g .active) w (g .waiting) (g .mode) a (λ q d m. k .ups a q b d r m) (λ q d. k .acts a q b d r) (k .waits a b r)
+pub record-alike : (g : Gateway) (R own : ℕ → Bool) (g′ : Gateway) → Alike g R own g′ → (a : ℕ) → a < 16 → R a ≡ true → recordOf (dyn g g′) a ≡ recordOf g a
+record-alike g R own g′ k a b r =
+    same-record (g′ .up) (g .up) (g .member) (g′ .active) (g .active) (g′ .waiting) (g .waiting) (g .mode) a (λ q d m. k .ups a q b d r m) (λ q d. k .acts a q b d r) (k .waits a b r)
 
 -- ---- what hangs on the rest
 
-module _ (g : Gateway) (u c w s : List ℕ) (ok : isSound g ≡ true) (ok′ : isSound (dyn g u c w s) ≡ true) where
+module _ (g : Gateway) (g′ : Gateway) (ok : isSound g ≡ true) (ok′ : isSound (dyn g g′) ≡ true) where
   -- an ASP is active in its own ASes alone
-  active-alike : (R own : ℕ → Bool) → Alike g R own u c w s → (p : ℕ) → p < 16 → ((a : ℕ) → a < 16 → isMember g a p ≡ true → R a ≡ true) → some (activeIn (dyn g u c w s) p) ≡ some (activeIn g p)
+  active-alike : (R own : ℕ → Bool) → Alike g R own g′ → (p : ℕ) → p < 16 → ((a : ℕ) → a < 16 → isMember g a p ≡ true → R a ≡ true) → some (activeIn (dyn g g′) p) ≡ some (activeIn g p)
   unfolding some
   active-alike R own k p b h =
-      any-ext _ _ 16 (λ a d. column-at c p a d ∙ go a d (isMember g a p) refl ∙ sym (column-at (g .active) p a d))
+      any-ext _ _ 16 (λ a d. column-at (g′ .active) p a d ∙ go a d (isMember g a p) refl ∙ sym (column-at (g .active) p a d))
     where
-      go : (a : ℕ) → a < 16 → (t : Bool) → isMember g a p ≡ t → isSet c (pair a p) ≡ isSet (g .active) (pair a p)
+      go : (a : ℕ) → a < 16 → (t : Bool) → isMember g a p ≡ t → isSet (g′ .active) (pair a p) ≡ isSet (g .active) (pair a p)
       go a d true m = flag (k .acts a p d b (h a d m))
       go a d false m =
-          false-of (isSet c (pair a p)) (λ e. clash (isMember g a p) m (active-is-member (dyn g u c w s) ok′ a p d b e .0))
+          false-of (isSet (g′ .active) (pair a p)) (λ e. clash (isMember g a p) m (active-is-member (dyn g g′) ok′ a p d b e .0))
           ∙ sym (false-of (isSet (g .active) (pair a p)) (λ e. clash (isMember g a p) m (active-is-member g ok a p d b e .0)))
 
   -- the recipients of a link reached
-  recipients-alike : (R own : ℕ → Bool) → Alike g R own u c w s → (l : ℕ) → ownerAt g l < 16 → R (ownerAt g l) ≡ true → recipientsOf (dyn g u c w s) l ≡ recipientsOf g l
+  recipients-alike : (R own : ℕ → Bool) → Alike g R own g′ → (l : ℕ) → ownerAt g l < 16 → R (ownerAt g l) ≡ true → recipientsOf (dyn g g′) l ≡ recipientsOf g l
   unfolding recipientsOf receives before sound.activeIn
   recipients-alike R own k l b r =
       tabulate-ext false 16 _ _
       (λ q d j. at-q q d j && (not (eqb (numberAt (g .mode) (ownerAt g l)) 2) || eqb (below q d j) (numberAt (g .iid) l % every j)))
     where
-      at-q : (q : ℕ) → q < 16 → isSet c (pair (ownerAt g l) q) ≡ isSet (g .active) (pair (ownerAt g l) q)
+      at-q : (q : ℕ) → q < 16 → isSet (g′ .active) (pair (ownerAt g l) q) ≡ isSet (g .active) (pair (ownerAt g l) q)
       at-q q d = flag (k .acts (ownerAt g l) q b d r)
 
-      below : (q : ℕ) → q < 16 → countBelow (λ i. isSet c (pair (ownerAt g l) i)) q ≡ countBelow (λ i. isSet (g .active) (pair (ownerAt g l) i)) q
+      below : (q : ℕ) → q < 16 → countBelow (λ i. isSet (g′ .active) (pair (ownerAt g l) i)) q ≡ countBelow (λ i. isSet (g .active) (pair (ownerAt g l) i)) q
       below q d = count-ext _ _ q (λ i e. at-q i (omega arith))
 
-      every : countBelow (λ i. isSet c (pair (ownerAt g l) i)) 16 ≡ countBelow (λ i. isSet (g .active) (pair (ownerAt g l) i)) 16
+      every : countBelow (λ i. isSet (g′ .active) (pair (ownerAt g l) i)) 16 ≡ countBelow (λ i. isSet (g .active) (pair (ownerAt g l) i)) 16
       every = count-ext _ _ 16 at-q
 
-  told-alike : (R own : ℕ → Bool) → Alike g R own u c w s → (l n : ℕ) → ownerAt g l < 16 → R (ownerAt g l) ≡ true → toRecipients (dyn g u c w s) l n ≡ toRecipients g l n
+  told-alike : (R own : ℕ → Bool) → Alike g R own g′ → (l n : ℕ) → ownerAt g l < 16 → R (ownerAt g l) ≡ true → toRecipients (dyn g g′) l n ≡ toRecipients g l n
   unfolding toRecipients
   told-alike R own k l n b r = ap (λ (x : List Bool). toAll x n (numberAt (g .iid) l) 0) (recipients-alike R own k l b r)
 
@@ -163,25 +159,25 @@ module _ (g : Gateway) (u c w s : List ℕ) (ok : isSound g ≡ true) (ok′ : i
   owner-16 l b = omega (arith, counts-within g ok .ases, ltb-true (ownerAt g l) (g .ases) (owner-in g ok l b))
 
   module _ (p : ℕ) (b : p < g .asps) where
-    up-alike : (R : ℕ → Bool) → Alike g R (eqb p) u c w s → ((a : ℕ) → a < 16 → isMember g a p ≡ true → R a ≡ true) → (r : Reading) → upEffect (dyn g u c w s) p r ≡ upEffect g p r
+    up-alike : (R : ℕ → Bool) → Alike g R (eqb p) g′ → ((a : ℕ) → a < 16 → isMember g a p ≡ true → R a ≡ true) → (r : Reading) → upEffect (dyn g g′) p r ≡ upEffect g p r
     unfolding upEffect
     up-alike R k h r =
         cond-same (eqb (r .identified) 1 && not (eqb (r .aspid) (numberAt (g .aspid) p))) (λ _. refl)
         (λ _. ap (λ (t : Bool). changeIn (oneAction p aspUpAck 0 0 ++ cond t (error p 6) []) (AspUp p) (asesOf g p)) (active-alike R (eqb p) k p (asps-16 g ok p b) h))
 
-    mine-alike : (R : ℕ → Bool) → Alike g R (eqb p) u c w s → isSet u p ≡ isSet (g .up) p
+    mine-alike : (R : ℕ → Bool) → Alike g R (eqb p) g′ → isSet (g′ .up) p ≡ isSet (g .up) p
     mine-alike R k = flag (k .mine p (asps-16 g ok p b) (eq-eqb p p refl))
 
-    traffic-alike : (R : ℕ → Bool) → Alike g R (eqb p) u c w s → (r : Reading) (ps : List Par) (act′ act : List Bool → Effect) → ((n : List Bool) → act′ n ≡ act n) → trafficEffect (dyn g u c w s) p r ps act′ ≡ trafficEffect g p r ps act
+    traffic-alike : (R : ℕ → Bool) → Alike g R (eqb p) g′ → (r : Reading) (ps : List Par) (act′ act : List Bool → Effect) → ((n : List Bool) → act′ n ≡ act n) → trafficEffect (dyn g g′) p r ps act′ ≡ trafficEffect g p r ps act
     unfolding trafficEffect
     traffic-alike R k r ps act′ act h =
         cond-both (not (isSet (g .up) p)) (ap not (mine-alike R k)) (λ _. refl)
         (λ _. cond-same (eqb (r .ids) 1)
-        (λ _. cond-both (firstRefused g p ps .found) (ap (λ (x : Refused). x .found) (refused-plan g u c w s p ps))
-        (λ _. ap (λ (x : Refused). send (error2 p (x .id))) (refused-plan g u c w s p ps)) (λ _. ap act′ (owners-plan g u c w s ps) ∙ h (ownersNamed g ps)))
+        (λ _. cond-both (firstRefused g p ps .found) (ap (λ (x : Refused). x .found) (refused-plan g g′ p ps))
+        (λ _. ap (λ (x : Refused). send (error2 p (x .id))) (refused-plan g g′ p ps)) (λ _. ap act′ (owners-plan g g′ ps) ∙ h (ownersNamed g ps)))
         (λ _. cond-same (some (asesOf g p)) (λ _. h (asesOf g p)) (λ _. refl)))
 
-    six-alike : (R : ℕ → Bool) → Alike g R (eqb p) u c w s → (r : Reading) → (isKnown g (r .id) ≡ true → R (ownerAt g (linkOf g (r .id))) ≡ true) → classSixEffect (dyn g u c w s) p r ≡ classSixEffect g p r
+    six-alike : (R : ℕ → Bool) → Alike g R (eqb p) g′ → (r : Reading) → (isKnown g (r .id) ≡ true → R (ownerAt g (linkOf g (r .id))) ≡ true) → classSixEffect (dyn g g′) p r ≡ classSixEffect g p r
     unfolding classSixEffect isKnown linkOf
     six-alike R k r h =
         cond-both (not (isSet (g .up) p)) (ap not (mine-alike R k)) (λ _. refl)
@@ -192,14 +188,14 @@ module _ (g : Gateway) (u c w s : List ℕ) (ok : isSound g ≡ true) (ok′ : i
         cond-both (not (isActive g (ownerAt g (linkOf g (r .id))) p)) (ap not (flag (k .acts (ownerAt g (linkOf g (r .id))) p o (asps-16 g ok p b) (h y))))
         (λ _. refl) (λ _. ap (λ (x : ℕ). linkEffect p (r .id) (linkOf g (r .id)) x r) (k .lines (linkOf g (r .id)) (h y)))))
 
-    read-alike : (m : List ℕ) (r : Reading) → Alike g (λ a. ltb a (g .ases) && readReach g p m r a) (eqb p) u c w s → readEffect (dyn g u c w s) p m r ≡ readEffect g p m r
+    read-alike : (m : List ℕ) (r : Reading) → Alike g (λ a. ltb a (g .ases) && readReach g p m r a) (eqb p) g′ → readEffect (dyn g g′) p m r ≡ readEffect g p m r
     unfolding readEffect downEffect
     read-alike m r k =
         cond-same (eqb (classTypeOf r) aspUp) (λ t. up-alike R k (λ a d e. and-both (ltb a (g .ases)) (readReach g p m r a) (member-in g ok p a b d e) (reach-up g ok p b m r a t e)) r)
         (λ n₁. cond-same (eqb (classTypeOf r) aspDown) (λ _. refl)
         (λ n₂. cond-same (eqb (classTypeOf r) beat) (λ _. refl)
         (λ _. cond-same (eqb (classTypeOf r) beatAck) (λ _. refl)
-        (λ _. cond-same (eqb (classTypeOf r) aspActive) (λ _. traffic-alike R k r (walk m 8 .pars) _ _ (active-plan g u c w s p (r .mode)))
+        (λ _. cond-same (eqb (classTypeOf r) aspActive) (λ _. traffic-alike R k r (walk m 8 .pars) _ _ (active-plan g g′ p (r .mode)))
         (λ n₃. cond-same (eqb (classTypeOf r) aspInactive) (λ _. traffic-alike R k r (walk m 8 .pars) _ _ (λ n. refl))
         (λ n₄. cond-same (eqb (r .class) 6 && fromAsp (r .msgtype))
         (λ t. six-alike R k r
@@ -212,20 +208,30 @@ module _ (g : Gateway) (u c w s : List ℕ) (ok : isSound g ≡ true) (ok′ : i
         R : ℕ → Bool
         R = λ a. ltb a (g .ases) && readReach g p m r a
 
-    message-alike : (m : List ℕ) → Alike g (Reaches g (message p m)) (eqb p) u c w s → messageEffect (dyn g u c w s) p m ≡ messageEffect g p m
+    message-alike : (m : List ℕ) → Alike g (Reaches g (message p m)) (eqb p) g′ → messageEffect (dyn g g′) p m ≡ messageEffect g p m
     unfolding messageEffect messageReach
     message-alike m k =
         cond-same (isError m) (λ _. refl)
         (λ n. cond-same (eqb (verdict m) 0)
-        (λ v. read-alike m (readingOf m) (narrow g _ (Reaches g (message p m)) (eqb p) u c w s (λ a e. rw (n, v) e) k)) (λ _. refl))
+        (λ v. read-alike m (readingOf m) (narrow g _ (Reaches g (message p m)) (eqb p) g′ (λ a e. rw (n, v) e) k)) (λ _. refl))
+
+  -- ---- units
+
+  pending-alike : (R own : ℕ → Bool) → Alike g R own g′ → (a : ℕ) → a < 16 → R a ≡ true → isPending (dyn g g′) a ≡ isPending g a
+  unfolding isPending
+  pending-alike R own k a b r = ap (λ (z : AsRecord). eqb (stateIn z) 4) (record-alike g R own g′ k a b r)
+
+  hold-alike : (R own : ℕ → Bool) → Alike g R own g′ → (m : List ℕ) (z : Reading) (a : ℕ) → R a ≡ true → holdEffect (dyn g g′) m z a ≡ holdEffect g m z a
+  unfolding holdEffect
+  hold-alike R own k m z a r = ap (λ (n : ℕ). cond (ltb n mostHeld) (takeIn a (arrival m z)) (send [])) (k .units counts a r)
 
   -- ---- every kind
 
   link-reached : (l : ℕ) → l < g .links → (ltb (ownerAt g l) (g .ases) && eqb (ownerAt g l) (ownerAt g l)) ≡ true
   link-reached l b = and-both (ltb (ownerAt g l) (g .ases)) (eqb (ownerAt g l) (ownerAt g l)) (owner-in g ok l b) (eq-eqb (ownerAt g l) (ownerAt g l) refl)
 
-  pub effect-alike : (k : EventKind) → inPlan g k ≡ true → Alike g (Reaches g k) (fromController k) u c w s → effectOf (dyn g u c w s) k ≡ effectOf g k
-  unfolding lostEffect linkUpEffect linkDownEffect linkMessageEffect
+  pub effect-alike : (k : EventKind) → inPlan g k ≡ true → Alike g (Reaches g k) (fromController k) g′ → effectOf (dyn g g′) k ≡ effectOf g k
+  unfolding lostEffect linkUpEffect linkDownEffect linkMessageEffect linkOf
   effect-alike (message p m) i h = message-alike p (ltb-true p (g .asps) i) m h
   effect-alike (lost p) i h = refl
   effect-alike (recovery a) i h = refl
@@ -237,14 +243,16 @@ module _ (g : Gateway) (u c w s : List ℕ) (ok : isSound g ≡ true) (ok′ : i
       let b = ltb-true l (g .links) i in
       let e = h .lines l (link-reached l b) in
       cond-both (eqb (numberAt (g .state) l) idle) (ap (λ (x : ℕ). eqb x idle) e) (λ _. refl)
-      (λ _. ap (λ (x : ℕ). setLink l idle (toRecipients (dyn g u c w s) l (cond (eqb x stopping) releaseConfirm releaseIndication))) e
+      (λ _. ap (λ (x : ℕ). setLink l idle (toRecipients (dyn g g′) l (cond (eqb x stopping) releaseConfirm releaseIndication))) e
       ∙ ap (setLink l idle) (told-alike (Reaches g (linkDown l)) (λ q. false) h l (cond (eqb (numberAt (g .state) l) stopping) releaseConfirm releaseIndication) (owner-16 l b) (link-reached l b)))
   effect-alike (linkMessage m) i h =
       let x = readingOf m .id in
       let y = and-right (fromLink (readingOf m .msgtype)) (isKnown g x) (and-right (eqb (readingOf m .class) 6) _ (and-right (eqb (verdict m) 0) _ i)) in
       let b = known-below g ok x y in
       let o = ownerAt g (linkOf g x) in
-      ap send
-      (ap (λ (l : ℕ). toRecipients (dyn g u c w s) l (readingOf m .class * 256 + readingOf m .msgtype)) (link-plan g u c w s x)
-      ∙ told-alike (Reaches g (linkMessage m)) (λ q. false) h (linkOf g x) (readingOf m .class * 256 + readingOf m .msgtype) (owner-16 (linkOf g x) b)
-      (and-both (ltb o (g .ases)) (ownsId g x o) (owner-in g ok (linkOf g x) b) (owns-own g x y)))
+      let d = owner-16 (linkOf g x) b in
+      let r = and-both (ltb o (g .ases)) (ownsId g x o) (owner-in g ok (linkOf g x) b) (owns-own g x y) in
+      cond-both (eqb (readingOf m .msgtype) 1 && isPending g o)
+      (ap (λ (t : Bool). eqb (readingOf m .msgtype) 1 && t) (pending-alike (Reaches g (linkMessage m)) (λ q. false) h o d r))
+      (λ _. hold-alike (Reaches g (linkMessage m)) (λ q. false) h m (readingOf m) o r)
+      (λ _. ap send (told-alike (Reaches g (linkMessage m)) (λ q. false) h (linkOf g x) (readingOf m .class * 256 + readingOf m .msgtype) d r))

@@ -2,13 +2,14 @@
 -- Assumes nothing.
 use mathlib.Core.Path.{_≡_, refl, sym, ap, _∙_}
 use mathlib.Core.Bool.{Bool, true, false, _&&_, _||_, cond, false≢true}
-use mathlib.Core.List.{List}
-use Prim.Native.Nat.{ℕ, _+_, _-_, _<_}
+use mathlib.Core.List.{List, [], _∷_}
+use Prim.Native.Nat.{ℕ, suc, _+_, _-_, _<_, _≤_}
 use native.Mathlib.Omega.{arith}
 use native.Mathlib.Decide.{decLt, ℕ-discrete}
-use lib.ListN.{length, set, drop}
+use lib.ListN.{length, set, drop, length-set}
 use lib.Seq.{ext-getD, getD-set-same, getD-set-other, set-out, getD-drop}
 use Rattle.laws.specs.Columns.{numberAt}
+use Rattle.put.specs.Bytes.{overlay}
 
 pub clash : {A : Type 0} (t : Bool) → t ≡ false → t ≡ true → A
 clash t f h = absurd (false≢true (sym f ∙ h))
@@ -51,6 +52,20 @@ set-same l m i k v e h = go (ℕ-discrete k i) (decLt i (length l))
     go (yes p) (yes b) = rw p (getD-set-same l i v 0 b ∙ sym (getD-set-same m i v 0 (omega arith)))
     go (yes p) (no b) = rw (set-out l i v (omega arith), set-out m i v (omega arith)) h
     go (no p) d = getD-set-other l i k v 0 p ∙ h ∙ sym (getD-set-other m i k v 0 p)
+
+-- the same of bytes laid over them
+pub over-same : (vs l m : List ℕ) (i k : ℕ) → length l ≡ length m → numberAt l k ≡ numberAt m k → numberAt (overlay l i vs) k ≡ numberAt (overlay m i vs) k
+unfolding overlay
+over-same [] l m i k e h = h
+over-same (v ∷ vs) l m i k e h =
+    over-same vs (set l i v) (set m i v) (suc i) k (length-set l i v ∙ e ∙ sym (length-set m i v)) (set-same l m i k v e h)
+
+-- a place that they do not cover stays
+pub over-other : (vs l : List ℕ) (i k : ℕ) → (i ≤ k → k < i + length vs → ⊥) → numberAt (overlay l i vs) k ≡ numberAt l k
+unfolding overlay
+over-other [] l i k h = refl
+over-other (v ∷ vs) l i k h =
+    over-other vs (set l i v) (suc i) k (λ p q. h (omega arith) (omega arith)) ∙ getD-set-other l i k v 0 (λ z. h (omega arith) (omega arith))
 
 -- lists that are alike in their first n places, and have one length and the same after those
 pub ext-front : (n : ℕ) (l m : List ℕ) → ((i : ℕ) → i < n → numberAt l i ≡ numberAt m i) → length l ≡ length m → drop n l ≡ drop n m → l ≡ m

@@ -1,46 +1,55 @@
 -- Demand 3, proved.
 -- Assumes nothing.
 use mathlib.Core.Path.{_≡_, refl, sym, ap, _∙_, subst}
-use mathlib.Core.Bool.{true, _&&_, not, false≢true}
+use mathlib.Core.Bool.{Bool, true, false, _&&_, not, cond, false≢true}
 use mathlib.Core.List.{List, [], _∷_, _++_, map}
-use Prim.Native.Nat.{ℕ, zero, suc, _*_}
+use Prim.Native.Nat.{ℕ, zero, suc, _+_, _*_, _/_, _<_}
 use native.Mathlib.Omega.{arith}
 use lib.Dec.{eqb, ltb}
-use lib.ListN.{length, take, drop, length-replicate}
+use lib.ListN.{length, take, drop, replicate, length-replicate}
 use lib.Seq.{take-at}
 use borrow.Author.Tests.{not-true, eq-eqb, eqb-true, ltb-true}
 use Rattle.laws.specs.Inner.Every.{and-left, and-right}
+use Rattle.laws.specs.Columns.{numberAt}
 use Rattle.action.specs.declared.Action.{Action}
 use Rattle.action.specs.Words.{wordsOf}
 use Rattle.action.specs.Inner.Words.{length-wordsOf}
 use Rattle.message.specs.Verdict.{verdict}
 use Rattle.message.specs.Meaning.{readingOf}
+use Rattle.gateway.specs.Sound.{isSound}
 use Rattle.gateway.specs.declared.Gateway.{Gateway}
 use Rattle.action.specs.Types.{aspUp}
 use Rattle.rules.specs.Event.{Event, message}
 use Rattle.rules.specs.Identifiers.{isMember}
-use Rattle.rules.specs.Rules.{isError, classTypeOf, refusal}
+use Rattle.rules.specs.Effect.{holdBytes}
+use Rattle.rules.specs.Rules.{isError, classTypeOf, inPlan, refusal}
 use Rattle.rules.specs.Reach.{reach, messageReach, readReach}
-use Rattle.rules.specs.Entry.{actions, next, MeetsRules}
+use Rattle.rules.specs.Entry.{actions, next, nextHold, MeetsRules}
+use Rattle.rules.specs.Calls.{Board, nextBoard, Call, events, boardAfter, Calls, none, call, answer, rulesAnswer}
+use Rattle.rules.specs.Inner.Accepted.{accepted}
 use Rattle.rules.specs.Inner.Few.{few-actions}
 use Rattle.rules.specs.Samples.{g₁, takes, comesUp}
 use Rattle.rules.proofs.Samples.{reach-apart}
 use Rattle.history.specs.Trade.{swaps, outs, last}
 use Rattle.history.specs.Inner.Trade.{Commute, traded-outs, traded-last}
-use Rattle.history.specs.History.{Call, events, Calls, none, call, answer, rulesAnswer, reaches, Independent, Untouched, Outside, Statement, isUp, ReachOfUp, Rooms, blanks, Made, TradesExist}
-use Rattle.history.proofs.Frame.{Plan, planOf, plan, wait, act, line, up, untouched, not-mine, not-reached, reach-next, free-commute}
+use Rattle.history.specs.Inner.Local.{false-of}
+use Rattle.history.specs.History.{reaches, Independent, Untouched, UnitsStay, Outside, Statement, isUp, ReachOfUp, Rooms, blanks, Made, sampleBoard, TradesExist}
+use Rattle.history.proofs.Bits.{clash, by-cond, cond-yes}
+use Rattle.history.proofs.Units.{Column, counts, tags, lengths, marks, ids, correlations, column, placeOf, as-place}
+use Rattle.history.proofs.Frame.{Plan, planOf, plan, wait, act, line, up, unit, live, not-mine, not-reached, reach-next}
 use Rattle.history.proofs.Keeps.{keeps}
+use Rattle.history.proofs.Boards.{gate, byte, hold-dead, hold-room, untouched, free-commute}
 
-ruled-commute : (g : Gateway) (e f : Event) → Independent g e f → Commute rulesAnswer next g e f
+ruled-commute : (b : Board) (e f : Event) → Independent b e f → Commute rulesAnswer nextBoard b e f
 ruled-commute = free-commute keeps
 
 -- ---- what the calls hand back is what the rules give
 
-one-given : (g : Gateway) (d : Call) → MeetsRules g (d .event) (d .lent) (d .left) (d .outcome) → answer d ≡ rulesAnswer g (d .event)
-one-given g d h = λ j. record { refusal = h .refused j; count = h .count j; words = words j }
+one-given : (b : Board) (d : Call) → MeetsRules (b .gateway) (d .event) (d .lent) (d .left) (d .hold) (d .held) (d .outcome) → answer d ≡ rulesAnswer b (d .event)
+one-given b d h = λ j. record { refusal = h .refused j; count = h .count j; words = words j }
   where
     os : List Action
-    os = actions g (d .event)
+    os = actions (b .gateway) (d .event)
 
     long : length (wordsOf os) ≡ 4 * length os
     long = let z = length-wordsOf os in omega arith
@@ -48,19 +57,38 @@ one-given g d h = λ j. record { refusal = h .refused j; count = h .count j; wor
     words : take (4 * d .outcome .count) (d .left) ≡ wordsOf os
     words = (λ j. take (4 * h .count j) (h .words j)) ∙ take-at (wordsOf os) (drop (4 * length os) (d .lent)) (4 * length os) long
 
-by-rules : {g c : Gateway} {cs : List Call} → Calls g cs c → map answer cs ≡ outs rulesAnswer next g (events cs)
-by-rules none = refl
-by-rules (call {g} {d = d} {ds} h t) =
-    λ j. one-given g d h j ∷ (by-rules t ∙ ap (λ (s : Gateway). outs rulesAnswer next s (events ds)) (h .state)) j
+-- an event with a hold of another length is refused
+short-dead : (g : Gateway) (e : Event) → eqb (e .hold) holdBytes ≡ false → live g e ≡ false
+short-dead g e n =
+    false-of (live g e)
+    (λ l. clash (eqb (e .hold) holdBytes) n (eq-eqb (e .hold) holdBytes (accepted (isSound g) (inPlan g (e .kind)) (e .hold) (e .room) (eqb-true (refusal g e) 0 l) .whole)))
 
-state-by-rules : {g c : Gateway} {cs : List Call} → Calls g cs c → c ≡ last rulesAnswer next g (events cs)
+-- so the hold that goes on is the rules', whatever was lent
+one-hold : (b : Board) (d : Call) → d .held ≡ nextHold (b .gateway) (d .event) (d .hold) → (d .event .hold ≡ holdBytes → d .hold ≡ b .hold)
+    → cond (eqb (d .event .hold) holdBytes) (d .held) (b .hold) ≡ nextHold (b .gateway) (d .event) (b .hold)
+one-hold b d h s = go (eqb (d .event .hold) holdBytes) refl
+  where
+    go : (t : Bool) → eqb (d .event .hold) holdBytes ≡ t → cond t (d .held) (b .hold) ≡ nextHold (b .gateway) (d .event) (b .hold)
+    go true e = h ∙ ap (nextHold (b .gateway) (d .event)) (s (eqb-true (d .event .hold) holdBytes e))
+    go false e = sym (hold-dead (b .gateway) (d .event) (b .hold) (short-dead (b .gateway) (d .event) e))
+
+one-after : (b : Board) (d : Call) → MeetsRules (b .gateway) (d .event) (d .lent) (d .left) (d .hold) (d .held) (d .outcome) → (d .event .hold ≡ holdBytes → d .hold ≡ b .hold)
+    → boardAfter b d ≡ nextBoard b (d .event)
+one-after b d h s = λ j. record { gateway = h .state j; hold = one-hold b d (h .bytes) s j }
+
+by-rules : {b c : Board} {cs : List Call} → Calls b cs c → map answer cs ≡ outs rulesAnswer nextBoard b (events cs)
+by-rules none = refl
+by-rules (call {b} {d = d} {ds} h s t) =
+    λ j. one-given b d h j ∷ (by-rules t ∙ ap (λ (x : Board). outs rulesAnswer nextBoard x (events ds)) (one-after b d h s)) j
+
+state-by-rules : {b c : Board} {cs : List Call} → Calls b cs c → c ≡ last rulesAnswer nextBoard b (events cs)
 state-by-rules none = refl
-state-by-rules (call {g} {d = d} {ds} h t) = state-by-rules t ∙ ap (λ (s : Gateway). last rulesAnswer next s (events ds)) (h .state)
+state-by-rules (call {b} {d = d} {ds} h s t) = state-by-rules t ∙ ap (λ (x : Board). last rulesAnswer nextBoard x (events ds)) (one-after b d h s)
 
 -- ---- what lies outside the reach is as before
 
-one-outside : (g : Gateway) (e : Event) → Untouched g e (next g e)
-one-outside g e =
+one-outside : (b : Board) (e : Event) → Untouched (b .gateway) e (next (b .gateway) e)
+one-outside b e =
     record {
       asps = ap (λ (x : Plan). x .asps) same;
       ases = ap (λ (x : Plan). x .ases) same;
@@ -71,56 +99,100 @@ one-outside g e =
       mode = ap (λ (x : Plan). x .mode) same;
       iid = ap (λ (x : Plan). x .iid) same;
       owner = ap (λ (x : Plan). x .owner) same;
-      waiting = λ a b r. untouched keeps g e (wait a b) r;
-      active = λ a q b c r. untouched keeps g e (act a q b c) r;
-      state = λ l r. untouched keeps g e (line l) r;
-      up = λ q b n. untouched keeps g e (up q b) (not-mine g e q b n);
-      ups = λ a q d b n m. untouched keeps g e (up q b) (not-reached g e a q d b n m);
+      waiting = λ a l r. untouched keeps b e (gate (wait a l)) r;
+      active = λ a q l m r. untouched keeps b e (gate (act a q l m)) r;
+      state = λ l r. untouched keeps b e (gate (line l)) r;
+      up = λ q l n. untouched keeps b e (gate (up q l)) (not-mine (b .gateway) e q l n);
+      ups = λ a q k l n m. untouched keeps b e (gate (up q l)) (not-reached (b .gateway) e a q k l n m);
     }
   where
-    same : planOf (next g e) ≡ planOf g
-    same = untouched keeps g e plan refl
+    same : planOf (next (b .gateway) e) ≡ planOf (b .gateway)
+    same = untouched keeps b e (gate plan) refl
 
-outside : {g c : Gateway} {cs : List Call} → Calls g cs c → Outside g cs
+one-stays : (b : Board) (e : Event) → UnitsStay b e (nextBoard b e)
+one-stays b e =
+    record {
+      count = λ a l r. untouched keeps b e (gate (unit counts a)) r;
+      tag = λ a k l m r. place tags a k m r;
+      length = λ a k l m r. place lengths a k m r;
+      marked = λ a k l m r. place marks a k m r;
+      id = λ a k l m r. place ids a k m r;
+      correlation = λ a k l m r. place correlations a k m r;
+      bytes = λ a j l m r. let z : (a * 2184 + j) / 2184 ≡ a = omega arith in untouched keeps b e (byte (a * 2184 + j)) (rw z r);
+    }
+  where
+    place : (c : Column) (a k : ℕ) → k < 8 → reach (b .gateway) e a ≡ false
+        → numberAt (column c (next (b .gateway) e .held)) (placeOf c a k) ≡ numberAt (column c (b .gateway .held)) (placeOf c a k)
+    place c a k m r = untouched keeps b e (gate (unit c (placeOf c a k))) (ap (reach (b .gateway) e) (as-place c a k m) ∙ r)
+
+outside : {b c : Board} {cs : List Call} → Calls b cs c → Outside b cs
 outside none = tt
-outside (call {g} {d = d} h t) = (subst (Untouched g (d .event)) (sym (h .state)) (one-outside g (d .event)), outside t)
+outside (call {b} {d = d} h s t) =
+    (subst (Untouched (b .gateway) (d .event)) (sym (h .state)) (one-outside b (d .event)), subst (UnitsStay b (d .event)) (sym (one-after b d h s)) (one-stays b (d .event)), outside t)
 
 -- ---- the theorem
 
 pub demand-3 : Statement
-demand-3 g c c′ cs ds ts C D t e =
+demand-3 b c c′ cs ds ts C D t e =
     record {
       by-rules = by-rules C;
       state-by-rules = state-by-rules C;
-      same-answers = by-rules D ∙ ap (outs rulesAnswer next g) e ∙ traded-outs rulesAnswer next Independent ruled-commute g (events cs) ts t ∙ ap (swaps ts) (sym (by-rules C));
-      same-state = state-by-rules D ∙ ap (last rulesAnswer next g) e ∙ traded-last rulesAnswer next Independent ruled-commute g (events cs) ts t ∙ sym (state-by-rules C);
+      same-answers = by-rules D ∙ ap (outs rulesAnswer nextBoard b) e ∙ traded-outs rulesAnswer nextBoard Independent ruled-commute b (events cs) ts t ∙ ap (swaps ts) (sym (by-rules C));
+      same-state = state-by-rules D ∙ ap (last rulesAnswer nextBoard b) e ∙ traded-last rulesAnswer nextBoard Independent ruled-commute b (events cs) ts t ∙ sym (state-by-rules C);
       outside = outside C;
     }
 
 -- ---- and it is about something
 
-abbrev made : Gateway → Event → List ℕ → Call
-made g e l =
+-- the hold to lend: the board's, or zeros where the event has another length
+abbrev lend : Board → Event → List ℕ
+lend b e = cond (eqb (e .hold) holdBytes) (b .hold) (replicate (e .hold) 0)
+
+abbrev made : Board → Event → List ℕ → Call
+made b e l =
     record {
       event = e;
       lent = l;
-      left = wordsOf (actions g e) ++ drop (4 * length (actions g e)) l;
-      outcome = record { refusal = refusal g e; count = length (actions g e); gateway = next g e };
+      left = wordsOf (actions (b .gateway) e) ++ drop (4 * length (actions (b .gateway) e)) l;
+      hold = lend b e;
+      held = nextHold (b .gateway) e (lend b e);
+      outcome = record { refusal = refusal (b .gateway) e; count = length (actions (b .gateway) e); gateway = next (b .gateway) e };
     }
 
-made-meets : (g : Gateway) (e : Event) (l : List ℕ) → length l ≡ e .room → MeetsRules g e l (made g e l .left) (made g e l .outcome)
-made-meets g e l r = record { room = r; refused = refl; count = refl; few = few-actions g e; state = refl; words = refl }
+lend-length : (b : Board) (e : Event) → length (b .hold) ≡ holdBytes → length (lend b e) ≡ e .hold
+lend-length b e n =
+    by-cond (eqb (e .hold) holdBytes) (λ (x : List ℕ). length x ≡ e .hold) (λ t. n ∙ sym (eqb-true (e .hold) holdBytes t)) (λ t. length-replicate (e .hold) 0)
 
-pub some-calls : (g : Gateway) (h : List Event) (ls : List (List ℕ)) → Rooms h ls → Made g h ls
-some-calls g [] [] r = record { list = []; end = g; are = none; of = refl; lend = refl }
-some-calls g [] (l ∷ ls) r = absurd r
-some-calls g (e ∷ h) [] r = absurd r
-some-calls g (e ∷ h) (l ∷ ls) r =
-    let m = some-calls (next g e) h ls (r .1) in
+lend-same : (b : Board) (e : Event) → e .hold ≡ holdBytes → lend b e ≡ b .hold
+lend-same b e t = cond-yes (b .hold) (replicate (e .hold) 0) (eq-eqb (e .hold) holdBytes t)
+
+made-meets : (b : Board) (e : Event) (l : List ℕ) → length (b .hold) ≡ holdBytes → length l ≡ e .room
+    → MeetsRules (b .gateway) e l (made b e l .left) (made b e l .hold) (made b e l .held) (made b e l .outcome)
+made-meets b e l n r =
     record {
-      list = made g e l ∷ m .list;
+      room = r;
+      lends = lend-length b e n;
+      refused = refl;
+      count = refl;
+      few = few-actions (b .gateway) e;
+      state = refl;
+      bytes = refl;
+      words = refl;
+    }
+
+-- for every board with a hold of the right length
+pub some-calls : (b : Board) → length (b .hold) ≡ holdBytes → (h : List Event) (ls : List (List ℕ)) → Rooms h ls → Made b h ls
+some-calls b n [] [] r = record { list = []; end = b; are = none; of = refl; lend = refl }
+some-calls b n [] (l ∷ ls) r = absurd r
+some-calls b n (e ∷ h) [] r = absurd r
+some-calls b n (e ∷ h) (l ∷ ls) r =
+    let meets = made-meets b e l n (r .0) in
+    let after = one-after b (made b e l) meets (lend-same b e) in
+    let m = some-calls (boardAfter b (made b e l)) (ap (λ (x : Board). length (x .hold)) after ∙ hold-room (b .gateway) e (b .hold) ∙ n) h ls (r .1) in
+    record {
+      list = made b e l ∷ m .list;
       end = m .end;
-      are = call {d = made g e l} (made-meets g e l (r .0)) (m .are);
+      are = call {d = made b e l} meets (lend-same b e) (m .are);
       of = ap (λ (x : List Event). e ∷ x) (m .of);
       lend = ap (λ (x : List (List ℕ)). l ∷ x) (m .lend);
     }
@@ -133,7 +205,7 @@ some-rooms (e ∷ h) = (length-replicate (e .room) 0, some-rooms h)
 -- ---- and trades exist
 
 -- ASP 0 takes AS 0 over, ASP 2 comes up in AS 1
-apart-events : Independent g₁ takes comesUp
+apart-events : Independent (sampleBoard g₁) takes comesUp
 unfolding takes comesUp reach
 apart-events =
     record { controllers = λ q x y. let z : ⊥ = omega (arith, eqb-true 0 q x, eqb-true 2 q y) in absurd z; servers = go }
@@ -150,8 +222,8 @@ pub trades-exist : TradesExist
 unfolding takes comesUp
 trades-exist =
     record {
-      calls = some-calls g₁ (takes ∷ comesUp ∷ []) _ (some-rooms (takes ∷ comesUp ∷ []));
-      traded = some-calls g₁ (comesUp ∷ takes ∷ []) _ (some-rooms (comesUp ∷ takes ∷ []));
+      calls = some-calls (sampleBoard g₁) (length-replicate {A = ℕ} holdBytes 0) (takes ∷ comesUp ∷ []) _ (some-rooms (takes ∷ comesUp ∷ []));
+      traded = some-calls (sampleBoard g₁) (length-replicate {A = ℕ} holdBytes 0) (comesUp ∷ takes ∷ []) _ (some-rooms (comesUp ∷ takes ∷ []));
       trades = (apart-events, tt);
       events-trade = refl;
       first = reach-apart .first .0;
@@ -166,7 +238,7 @@ reach-stays g e f a = reach-next keeps g e f a
 
 pub up-reach : ReachOfUp
 unfolding isUp reach messageReach readReach
-up-reach g p s n a r u = λ j. eq-eqb (refusal g (record { kind = message p s; room = n })) 0 r j && (ltb a (g .ases) && inside j)
+up-reach g p s n h a r u = λ j. eq-eqb (refusal g (record { kind = message p s; room = n; hold = h })) 0 r j && (ltb a (g .ases) && inside j)
   where
     inside : messageReach g p s a ≡ isMember g a p
     inside =

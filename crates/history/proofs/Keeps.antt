@@ -14,9 +14,9 @@ use Rattle.server.specs.declared.Change.the-variants.{AspUp, AspDown, Deactivat
 use Rattle.server.specs.Record.{recordFrom, recordOf}
 use Rattle.servers.specs.Inner.Records.{ups-at}
 use Rattle.keeps.specs.Inner.Good.{Allowed}
-use Rattle.keeps.specs.Inner.Keeps.{InPlan, keeps as keeps-change, keeps-link}
+use Rattle.keeps.specs.Inner.Keeps.{InPlan, keeps as keeps-change, keeps-link, keeps-unit}
 use Rattle.rules.specs.Event.{Event}
-use Rattle.rules.specs.Effect.{Effect, send, setLink, changeIn, stateAfter}
+use Rattle.rules.specs.Effect.{Effect, send, setLink, changeIn, takeIn, stateAfter}
 use Rattle.rules.specs.Reach.{kindReach, fromController}
 use Rattle.rules.specs.Rules.{effectOf, inPlan, refusalOf, refusal}
 use Rattle.rules.specs.Entry.{next}
@@ -44,6 +44,7 @@ keeps-effect g R own ok h (send os) w = ok
 keeps-effect g R own ok h (setLink l v os) w = keeps-link g l v ok (w .0) (w .1)
 keeps-effect g R own ok h (changeIn os k named) w =
     keeps-change g k named ok (w .whole) (in-plan g named k (w .safe)) (allowed g named k (w .safe) (λ a b e. h a (w .reached a b e)))
+keeps-effect g R own ok h (takeIn a x) w = keeps-unit g a x ok (w .below) (w .waits) (w .room) (w .good)
 
 pub keeps : (g : Gateway) (e : Event) → isSound g ≡ true → isSound (next g e) ≡ true
 keeps g e ok =
@@ -54,4 +55,4 @@ keeps g e ok =
 -- an unsound state refuses every event (Rule 6.4): and so it stays, since a refused event changes nothing
 pub refused-unsound : (g : Gateway) (e : Event) → isSound g ≡ false → refusal g e ≡ 105
 unfolding refusalOf
-refused-unsound g e n = ap (λ (t : Bool). refusalOf t (inPlan g (e .kind)) (e .room)) n
+refused-unsound g e n = ap (λ (t : Bool). refusalOf t (inPlan g (e .kind)) (e .hold) (e .room)) n

@@ -2,41 +2,48 @@
 -- Assumes nothing.
 use mathlib.Core.Path.{_≡_, refl, sym, ap, _∙_}
 use mathlib.Core.Bool.{Bool, true, false, _&&_, cond}
-use mathlib.Core.List.{List, []}
+use mathlib.Core.List.{List, [], _++_}
 use Prim.Native.Nat.{ℕ, _<_}
 use native.Mathlib.Omega.{arith}
 use lib.ListN.{length, drop, drop-of-length-le}
-use lib.Dec.{eqb}
+use lib.Dec.{eqb, ltb}
+use Rattle.laws.specs.Below.{when}
 use Rattle.laws.specs.Inner.Below.{concat-ext}
 use Rattle.laws.specs.Columns.{flagAt, isSet, numberAt, tabulate}
 use Rattle.laws.specs.Inner.Columns.{length-tabulate, tabulate-ext}
-use Rattle.gateway.specs.Sound.{pair}
+use Rattle.gateway.specs.Sound.{pair, unitIndex}
 use Rattle.gateway.specs.declared.Gateway.{Gateway}
+use Rattle.action.specs.declared.Action.{Action}
+use Rattle.action.specs.Types.{userData}
+use Rattle.action.specs.Words.{action}
 use Rattle.server.specs.declared.Change.{Change}
 use Rattle.server.specs.declared.Change.the-variants.{AspUp, AspDown, Deactivate, Activate, Recover}
 use Rattle.server.specs.Record.{row, membersUp, recordFrom, recordOf}
-use Rattle.server.specs.Notify.{actionsIn}
+use Rattle.server.specs.Change.{after, overtakenIn}
+use Rattle.server.specs.Units.{unitOut, unitsOut, letOut}
+use Rattle.server.specs.Notify.{notifies, actionsIn}
 use Rattle.servers.specs.Changed.{withFlag, newActive, newWaiting, upAfter, withChange, actionsAt, allActions}
 use Rattle.servers.specs.Inner.Records.{flag-at}
 use Rattle.history.proofs.Bits.{and-cong}
 
--- the gateway g with other contents where events change it
-abbrev pub dyn : Gateway → List ℕ → List ℕ → List ℕ → List ℕ → Gateway
-dyn g u c w s =
+-- the plan of g, with what g′ has where events change it
+abbrev pub dyn : Gateway → Gateway → Gateway
+dyn g g′ =
     record {
       asps = g .asps;
       ases = g .ases;
       links = g .links;
       spare = g .spare;
       aspid = g .aspid;
-      up = u;
+      up = g′ .up;
       member = g .member;
-      active = c;
+      active = g′ .active;
       mode = g .mode;
-      waiting = w;
+      waiting = g′ .waiting;
       iid = g .iid;
       owner = g .owner;
-      state = s;
+      state = g′ .state;
+      held = g′ .held;
     }
 
 -- the record of an AS hangs on its members' up flags, its row, its mark and its mode
@@ -54,15 +61,31 @@ same-record up′ up member active′ active waiting′ waiting mode a hu hc hw 
     acts : tabulate 16 (λ q. isSet active′ (pair a q)) ≡ tabulate 16 (λ q. isSet active (pair a q))
     acts = tabulate-ext false 16 _ _ (λ q b. ap (λ (x : ℕ). eqb x 1) (hc q b))
 
--- the actions hang on the records of the ASes named
+-- the units that go out hang on the identifiers of the AS's places
+same-out : (k : Change) (n : ℕ) (id′ id : List ℕ) (a : ℕ) → ((j : ℕ) → j < 8 → numberAt id′ (unitIndex a j) ≡ numberAt id (unitIndex a j)) → letOut k n id′ a ≡ letOut k n id a
+unfolding letOut unitsOut unitOut
+same-out (AspUp p) n id′ id a h = refl
+same-out (AspDown p) n id′ id a h = refl
+same-out (Deactivate p) n id′ id a h = refl
+same-out (Activate p) n id′ id a h = concat-ext _ _ 8 (λ j b. ap (λ (x : ℕ). when (ltb j n) (action p userData x 0)) (h j b))
+same-out Recover n id′ id a h = refl
+
+-- the actions hang on the records and the units of the ASes named
 pub same-actions : (g′ g : Gateway) (k : Change) (named : List Bool) → ((a : ℕ) → a < 16 → flagAt named a ≡ true → recordOf g′ a ≡ recordOf g a)
+    → ((a : ℕ) → a < 16 → flagAt named a ≡ true → numberAt (g′ .held .count) a ≡ numberAt (g .held .count) a)
+    → ((a j : ℕ) → a < 16 → j < 8 → flagAt named a ≡ true → numberAt (g′ .held .id) (unitIndex a j) ≡ numberAt (g .held .id) (unitIndex a j))
     → allActions g′ k named ≡ allActions g k named
 unfolding allActions actionsAt actionsIn
-same-actions g′ g k named h = concat-ext _ _ 16 (λ a b. go a (flagAt named a) (h a b))
+same-actions g′ g k named h hn hi = concat-ext _ _ 16 (λ a b. go a (flagAt named a) (h a b) (hn a b) (λ j c. hi a j b c))
   where
-    go : (a : ℕ) (t : Bool) → (t ≡ true → recordOf g′ a ≡ recordOf g a) → actionsIn t k a (recordOf g′ a) ≡ actionsIn t k a (recordOf g a)
-    go a true e = ap (actionsIn true k a) (e refl)
-    go a false e = refl
+    go : (a : ℕ) (t : Bool) → (t ≡ true → recordOf g′ a ≡ recordOf g a) → (t ≡ true → numberAt (g′ .held .count) a ≡ numberAt (g .held .count) a)
+        → ((j : ℕ) → j < 8 → t ≡ true → numberAt (g′ .held .id) (unitIndex a j) ≡ numberAt (g .held .id) (unitIndex a j))
+        → actionsIn t k a (recordOf g′ a) (numberAt (g′ .held .count) a) (g′ .held .id) ≡ actionsIn t k a (recordOf g a) (numberAt (g .held .count) a) (g .held .id)
+    go a true e n i =
+        (λ j. letOut k (n refl j) (g′ .held .id) a ++ notifies (overtakenIn k (e refl j)) (e refl j) (after k (e refl j)) a)
+        ∙ ap (λ (x : List Action). x ++ notifies (overtakenIn k (recordOf g a)) (recordOf g a) (after k (recordOf g a)) a)
+        (same-out k (numberAt (g .held .count) a) (g′ .held .id) (g .held .id) a (λ j b. i j b refl))
+    go a false e n i = refl
 
 -- an up flag after a change hangs on that flag
 pub same-up : (k : Change) (u v : List ℕ) (q : ℕ) → q < 16 → numberAt u q ≡ numberAt v q → numberAt (upAfter k u) q ≡ numberAt (upAfter k v) q

@@ -1,4 +1,5 @@
--- What an accepted event may do lies within its reach: the ASes that its change names, the link that it turns. Kind by kind.
+-- What an accepted event may do lies within its reach: the ASes that its change names, the link that it turns, the AS that takes its unit in. Kind by
+-- kind.
 -- Assumes nothing.
 use mathlib.Core.Path.{_≡_, refl, sym, _∙_}
 use mathlib.Core.Bool.{Bool, true, false, _&&_, _||_, not, cond}
@@ -25,17 +26,20 @@ use Rattle.ranges.specs.Named.{ownerOf, isRefused, isOwnedBy, span, nothing, re
 use Rattle.ranges.specs.declared.Refused.{Refused}
 use Rattle.action.specs.declared.Action.{Action}
 use Rattle.action.specs.Types.{aspUp, aspDown, aspActive, aspInactive, beat, beatAck}
+use Rattle.server.specs.declared.Arrival.{Arrival}
 use Rattle.server.specs.declared.Change.{Change}
 use Rattle.server.specs.declared.Change.the-variants.{AspUp, AspDown, Deactivate, Activate, Recover}
 use Rattle.server.specs.Record.{some}
+use Rattle.keeps.specs.Inner.Units.{UnitOf}
 use Rattle.servers.specs.Inner.Records.{moves, NamesOwn, names-own, column-at}
 use Rattle.rules.specs.Event.{EventKind, message, lost, recovery, linkUp, linkDown, linkMessage}
 use Rattle.rules.specs.Identifiers.{isIds, firstRefused, ownsNamed, ownersNamed, isKnown, linkOf, ownerAt, isMember, isActive}
-use Rattle.rules.specs.Effect.{Effect, send, setLink, changeIn}
+use Rattle.rules.specs.Effect.{Effect, send, setLink, changeIn, takeIn}
 use Rattle.rules.specs.Asp.{asesOf, upEffect, downEffect, lostEffect, otherMode, activeEffect, inactiveEffect, trafficEffect}
-use Rattle.rules.specs.Link.{starting, inService, stopping, idle, establish, release, dataEffect, linkEffect, classSixEffect, linkUpEffect, linkDownEffect, linkMessageEffect}
+use Rattle.rules.specs.Link.{starting, inService, stopping, idle, establish, release, dataEffect, linkEffect, classSixEffect, linkUpEffect, linkDownEffect, isPending, arrival, holdEffect, linkMessageEffect}
 use Rattle.rules.specs.Rules.{isError, classTypeOf, fromAsp, readEffect, messageEffect, effectOf, inPlan}
 use Rattle.rules.specs.Reach.{ownsId, readReach, messageReach, kindReach, fromController}
+use Rattle.rules.specs.Inner.TakeIn.{taken-in}
 use Rattle.history.specs.Inner.Local.{false-of}
 use Rattle.history.proofs.Bits.{clash, or-left, or-right, or-case, by-cond}
 
@@ -55,11 +59,20 @@ pub record In (g : Gateway) (R own : ℕ → Bool) (k : Change) (named : List Bo
   pub whole : NamesOwn k (g .member) named
   pub safe : Safe g k named
 
+-- A unit that comes in for AS a, which is reached, waits and has room.
+pub record Into (g : Gateway) (R : ℕ → Bool) (a : ℕ) (x : Arrival) : Type 0 where
+  pub reached : R a ≡ true
+  pub below : a < 16
+  pub waits : isSet (g .waiting) a ≡ true
+  pub room : numberAt (g .held .count) a < 8
+  pub good : UnitOf (g .iid) (g .owner) (g .links) a x
+
 -- the same of all that an event does; a link that it turns is the plan's, and its owner is reached
 abbrev pub Within : Gateway → (ℕ → Bool) → (ℕ → Bool) → Effect → Type 0
 Within g R own (send os) = Unit {0}
 Within g R own (setLink l v os) = (l < g .links) × (v < 4) × (R (ownerAt g l) ≡ true)
 Within g R own (changeIn os k named) = In g R own k named
+Within g R own (takeIn a x) = Into g R a x
 
 -- the ASes that an accepted event reaches
 abbrev pub Reaches : Gateway → EventKind → ℕ → Bool
@@ -73,6 +86,8 @@ widen g R R′ own (send os) h w = tt
 widen g R R′ own (setLink l v os) h w = (w .0, w .1, h (ownerAt g l) (w .2))
 widen g R R′ own (changeIn os k named) h w =
     record { reached = λ a b e. h a (w .reached a b e); mine = w .mine; whole = w .whole; safe = w .safe }
+widen g R R′ own (takeIn a x) h w =
+    record { reached = h a (w .reached); below = w .below; waits = w .waits; room = w .room; good = w .good }
 
 -- ---- the identifiers that a message names
 
@@ -346,10 +361,36 @@ module _ (g : Gateway) (ok : isSound g ≡ true) where
         safe = tt;
       }
 
+  -- ---- a unit of the link side
+
+  into : (s : List ℕ) → inPlan g (linkMessage s) ≡ true → (eqb (readingOf s .msgtype) 1 && isPending g (ownerAt g (linkOf g (readingOf s .id)))) ≡ true
+      → ltb (numberAt (g .held .count) (ownerAt g (linkOf g (readingOf s .id)))) 8 ≡ true
+      → Into g (Reaches g (linkMessage s)) (ownerAt g (linkOf g (readingOf s .id))) (arrival s (readingOf s))
+  unfolding ownsId
+  into s i p u =
+      let o = ownerAt g (linkOf g (readingOf s .id)) in
+      let m = eqb (readingOf s .msgtype) 1 in
+      let t =
+      taken-in g s o (arrival s (readingOf s)) ok i
+      (record {
+        owner = refl;
+        unit = refl;
+        is-data = eqb-true (readingOf s .msgtype) 1 (and-left m (isPending g o) p);
+        pending = and-right m (isPending g o) p;
+        room = ltb-true (numberAt (g .held .count) o) 8 u;
+      }) in
+      record {
+        reached = and-both (ltb o (g .ases)) _ (lt-ltb o (g .ases) (t .as-below)) (and-both (isKnown g (readingOf s .id)) (eqb o o) (t .is-known) (eq-eqb o o refl));
+        below = t .as-16;
+        waits = t .waits;
+        room = t .takes .room;
+        good = record { tagged = t .tagged; least = t .least; most = t .longest; known = t .of-link; marks = t .marks };
+      }
+
   -- ---- every kind
 
   pub within : (k : EventKind) → inPlan g k ≡ true → Within g (Reaches g k) (fromController k) (effectOf g k)
-  unfolding lostEffect linkUpEffect linkDownEffect linkMessageEffect
+  unfolding lostEffect linkUpEffect linkDownEffect linkMessageEffect holdEffect
   within (message p s) i = message-in p (ltb-true p (g .asps) i) s
   within (lost p) i = down-in p (ltb-true p (g .asps) i) (λ a. isMember g a p) (λ a m. m)
   within (recovery a) i = recover-in a (ltb-true a (g .ases) i)
@@ -359,4 +400,7 @@ module _ (g : Gateway) (ok : isSound g ≡ true) where
   within (linkDown l) i =
       by-cond (eqb (numberAt (g .state) l) idle) (Within g (Reaches g (linkDown l)) (λ q. false)) (λ _. tt)
       (λ _. link-turn l idle [] (λ q. false) (ltb-true l (g .links) i) (omega arith))
-  within (linkMessage s) i = tt
+  within (linkMessage s) i =
+      let o = ownerAt g (linkOf g (readingOf s .id)) in
+      by-cond (eqb (readingOf s .msgtype) 1 && isPending g o) (Within g (Reaches g (linkMessage s)) (λ q. false))
+      (λ p. by-cond (ltb (numberAt (g .held .count) o) 8) (Within g (Reaches g (linkMessage s)) (λ q. false)) (λ u. into s i p u) (λ _. tt)) (λ _. tt)

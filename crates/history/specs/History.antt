@@ -92,7 +92,7 @@ abbrev pub ReachOfUp : Type 0
 ReachOfUp = (g : Gateway) (p : ℕ) (s : List ℕ) (room hold a : ℕ) → refusal g (record { kind = message p s; room = room; hold = hold }) ≡ 0 → isUp s ≡ true
     → reaches g (record { kind = message p s; room = room; hold = hold }) a ≡ (ltb a (g .ases) && isMember g a p)
 
--- lists and holds to lend, of the lengths that the events have
+-- lists to lend, of the lengths that the events have
 abbrev pub Rooms : List Event → List (List ℕ) → Type 0
 Rooms [] [] = Unit {0}
 Rooms [] (l ∷ ls) = ⊥

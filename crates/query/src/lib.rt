@@ -41,9 +41,9 @@ pub struct Waits {
 // The version of the entries that this library has: raised by each change of a struct, a limit or a signature (include/m2ua.h, M2UA_ABI).
 #[no_mangle]
 pub extern "C" fn m2ua_abi() -> u32
-    ensures { λ r. ⌜ r ≡ 1 ⌝ }
+    ensures { λ r. ⌜ r ≡ 2 ⌝ }
 {
-    1
+    2
 }
 
 // Where the protocol data of a message lies (Rule 1.7).
@@ -93,7 +93,7 @@ fn find(s: &[u8], from: usize, t: u16) -> ParamAt
 pub extern "C" fn m2ua_as_state(g: Gateway, a: usize) -> Answer
     ensures { λ r. ⌜ r ≡ asStateAt g a ⌝ }
 {
-    if !g.is_sound() {
+    if !held::is_sound(g) {
         return Answer {
             code: NOT_SOUND,
             value: 0,
@@ -117,7 +117,7 @@ pub extern "C" fn m2ua_as_state(g: Gateway, a: usize) -> Answer
 pub extern "C" fn m2ua_link_place(g: Gateway, id: u32) -> Answer
     ensures { λ r. ⌜ r ≡ linkPlace g id ⌝ }
 {
-    if !g.is_sound() {
+    if !held::is_sound(g) {
         return Answer {
             code: NOT_SOUND,
             value: 0,

@@ -134,7 +134,7 @@ fn row_of<'a>(
     iid: &'a [u32; 128],
     owner: &'a [u8; 128],
 ) -> [bool; 16]
-    requires { ⌜ Table (now iid) (now owner) links × AskFits links (now iid) ask ⌝ }
+    requires { ⌜ Table (now iid) (now owner) links × AskFits links (now iid) (now msg) ask ⌝ }
     ensures { λ w. ⌜ w ≡ askRow links (now (member .entry)) (now (iid .entry)) (now (owner .entry)) (now (msg .entry)) ask ⌝ }
 {
     match ask {
@@ -164,15 +164,15 @@ fn within(ases: usize, row: [bool; 16]) -> [bool; 16]
 // ---- the entries
 
 // An event by the number of its kind, its index and its message, where its list has `room` words.
-pub fn of_event(g: Gateway, kind: u32, i: usize, msg: &[u8], room: usize) -> [bool; 16]
-    ensures { λ r. ⌜ r ≡ reached g (eventOf (happened kind i (now (msg .entry))) room) ⌝ }
+pub fn of_event(g: Gateway, kind: u32, i: usize, msg: &[u8], room: usize, hold: usize) -> [bool; 16]
+    ensures { λ r. ⌜ r ≡ reached g (eventOf (happened kind i (now (msg .entry))) room hold) ⌝ }
 {
     let ask = ask::asked(kind, i, msg);
     let asps = g.asps;
     let ases = g.ases;
     let links = g.links;
     let spare = g.spare;
-    let found = ask::refused(
+    let sound = held::sound_of(
         asps,
         ases,
         links,
@@ -186,9 +186,14 @@ pub fn of_event(g: Gateway, kind: u32, i: usize, msg: &[u8], room: usize) -> [bo
         &g.iid,
         &g.owner,
         &g.state,
-        ask,
-        room,
+        &g.held.count,
+        &g.held.tag,
+        &g.held.length,
+        &g.held.marked,
+        &g.held.id,
+        &g.held.correlation,
     );
+    let found = ask::refused(sound, asps, ases, links, &g.iid, ask, hold, room);
     if found.code != 0 {
         return [false; 16];
     }
@@ -198,43 +203,43 @@ pub fn of_event(g: Gateway, kind: u32, i: usize, msg: &[u8], room: usize) -> [bo
 }
 
 // A message of ASP p.
-pub fn of_message(g: Gateway, p: usize, msg: &[u8], room: usize) -> [bool; 16]
-    ensures { λ r. ⌜ r ≡ reached g (eventOf (message p (now (msg .entry))) room) ⌝ }
+pub fn of_message(g: Gateway, p: usize, msg: &[u8], room: usize, hold: usize) -> [bool; 16]
+    ensures { λ r. ⌜ r ≡ reached g (eventOf (message p (now (msg .entry))) room hold) ⌝ }
 {
-    of_event(g, ask::MESSAGE, p, msg, room)
+    of_event(g, ask::MESSAGE, p, msg, room, hold)
 }
 
 // The association of ASP p is lost.
-pub fn of_lost(g: Gateway, p: usize, room: usize) -> [bool; 16]
-    ensures { λ r. ⌜ r ≡ reached g (eventOf (lost p) room) ⌝ }
+pub fn of_lost(g: Gateway, p: usize, room: usize, hold: usize) -> [bool; 16]
+    ensures { λ r. ⌜ r ≡ reached g (eventOf (lost p) room hold) ⌝ }
 {
-    of_event(g, ask::LOST, p, &[0; 1], room)
+    of_event(g, ask::LOST, p, &[0; 1], room, hold)
 }
 
 // The recovery time of AS a is over.
-pub fn of_recovery(g: Gateway, a: usize, room: usize) -> [bool; 16]
-    ensures { λ r. ⌜ r ≡ reached g (eventOf (recovery a) room) ⌝ }
+pub fn of_recovery(g: Gateway, a: usize, room: usize, hold: usize) -> [bool; 16]
+    ensures { λ r. ⌜ r ≡ reached g (eventOf (recovery a) room hold) ⌝ }
 {
-    of_event(g, ask::RECOVERY, a, &[0; 1], room)
+    of_event(g, ask::RECOVERY, a, &[0; 1], room, hold)
 }
 
 // The link at index l is up.
-pub fn of_link_up(g: Gateway, l: usize, room: usize) -> [bool; 16]
-    ensures { λ r. ⌜ r ≡ reached g (eventOf (linkUp l) room) ⌝ }
+pub fn of_link_up(g: Gateway, l: usize, room: usize, hold: usize) -> [bool; 16]
+    ensures { λ r. ⌜ r ≡ reached g (eventOf (linkUp l) room hold) ⌝ }
 {
-    of_event(g, ask::LINK_UP, l, &[0; 1], room)
+    of_event(g, ask::LINK_UP, l, &[0; 1], room, hold)
 }
 
 // The link at index l is down.
-pub fn of_link_down(g: Gateway, l: usize, room: usize) -> [bool; 16]
-    ensures { λ r. ⌜ r ≡ reached g (eventOf (linkDown l) room) ⌝ }
+pub fn of_link_down(g: Gateway, l: usize, room: usize, hold: usize) -> [bool; 16]
+    ensures { λ r. ⌜ r ≡ reached g (eventOf (linkDown l) room hold) ⌝ }
 {
-    of_event(g, ask::LINK_DOWN, l, &[0; 1], room)
+    of_event(g, ask::LINK_DOWN, l, &[0; 1], room, hold)
 }
 
 // A message of the link side.
-pub fn of_link_message(g: Gateway, msg: &[u8], room: usize) -> [bool; 16]
-    ensures { λ r. ⌜ r ≡ reached g (eventOf (linkMessage (now (msg .entry))) room) ⌝ }
+pub fn of_link_message(g: Gateway, msg: &[u8], room: usize, hold: usize) -> [bool; 16]
+    ensures { λ r. ⌜ r ≡ reached g (eventOf (linkMessage (now (msg .entry))) room hold) ⌝ }
 {
-    of_event(g, ask::LINK_MESSAGE, 0, msg, room)
+    of_event(g, ask::LINK_MESSAGE, 0, msg, room, hold)
 }

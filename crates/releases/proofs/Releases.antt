@@ -17,6 +17,7 @@ use Rattle.servers.specs.Changed.{withChange, allActions}
 use Rattle.rules.specs.Effect.{Effect, send, setLink, changeIn, takeIn, actionsOf, stateAfter}
 use Rattle.rules.specs.Rules.{effectOf}
 use Rattle.rules.specs.Sent.{actionsOn, actionAt, isData, dataBefore, gone, unitFor}
+use Rattle.rules.specs.Inner.Shapes.{effect-by}
 use Rattle.releases.specs.Releases.{EveryUnit}
 use Rattle.releases.proofs.Tags.{tagged-at, untagged, tagged-append}
 use Rattle.releases.proofs.Units.{UnitOf, Quiet, quiet-change, units-gone}
@@ -47,5 +48,5 @@ sent g (takeIn a x) h = λ n b d. absurd (not-suc-le-zero b)
 pub every-unit : EveryUnit
 unfolding unitFor
 every-unit g k n ok i u b d =
-    let x = sent g (effectOf g k) (own g k ok i u) n (ltb-true n (length (actionsOn g k)) b) d in
+    let x = sent g (effectOf g k) (effect-by (own g) g k ok i u) n (ltb-true n (length (actionsOn g k)) b) d in
     record { place = x .place; held = x .held; link = x .link }

@@ -37,3 +37,9 @@ pub record MeetsRules (g : Gateway) (e : Event) (lent left hold held : List ℕ)
   pub state : r .gateway ≡ next g e
   pub bytes : held ≡ nextHold g e hold
   pub words : left ≡ wordsOf (actions g e) ++ drop (4 * length (actions g e)) lent
+
+-- What the one function of all events promises, which may be lent less than the hold, as where only the actions are wanted: e .hold is the hold's length. All that
+-- `MeetsRules` says of a hold of that length; and the bytes are written where it is lent whole.
+pub record Runs (g : Gateway) (e : Event) (lent left part part′ : List ℕ) (r : Outcome) : Type 0 where
+  pub meets : (hold : List ℕ) → length hold ≡ e .hold → MeetsRules g e lent left hold (nextHold g e hold) r
+  pub bytes : part′ ≡ cond (eqb (length part) (e .hold)) (nextHold g e part) part

@@ -1,4 +1,4 @@
-//! The lines of a script that load a plan or say an event.
+//! The lines of a script that load a plan, say an event or change what an event is lent.
 
 /// A line that matters here.
 #[derive(Clone, Debug, PartialEq, Eq)]
@@ -6,6 +6,10 @@ pub enum Command {
     Plan(Vec<u8>),
     /// An event, and the words that it is lent.
     Event(Happening, usize),
+    /// How many bytes of hold the events that follow are lent.
+    Hold(usize),
+    /// The hold that goes with the state has this byte everywhere.
+    Paint(u8),
 }
 
 /// An event with its own bytes.
@@ -55,7 +59,12 @@ fn command(line: &str) -> Result<Option<Command>, String> {
         ["up", link, list] => event(Happening::LinkUp(number(link)?), list),
         ["down", link, list] => event(Happening::LinkDown(number(link)?), list),
         ["linkmsg", list, message] => event(Happening::LinkMessage(bytes(message)?), list),
-        ["read" | "show" | "write" | "state" | "reach" | "bytes", ..] => Ok(None),
+        ["hold", length] => Ok(Some(Command::Hold(number(length)?))),
+        ["paint", byte] => match number(byte)?.try_into() {
+            Ok(byte) => Ok(Some(Command::Paint(byte))),
+            Err(_) => Err(format!("'{byte}' is no byte")),
+        },
+        ["read" | "show" | "write" | "state" | "reach" | "bytes" | "held", ..] => Ok(None),
         _ => Err(format!(
             "no command of docs/SCRIPT.md: {}",
             line.chars().take(60).collect::<String>()

@@ -1,6 +1,6 @@
 //! What went to and fro in a script.
 use crate::script::{Command, Happening};
-use m2ua::{sys, Addressee, Event, Gateway, MessageType, Orders};
+use m2ua::{sys, Addressee, AsState, Event, Gateway, Hold, MessageType, Orders, Refusal};
 
 /// Who takes part.
 #[derive(Clone, Copy, Debug, PartialEq, Eq)]
@@ -42,6 +42,8 @@ pub struct Trace {
 pub fn run(commands: &[Command]) -> Trace {
     let mut runner = Runner {
         gateway: None,
+        hold: Hold::new(),
+        lent: sys::HOLD_BYTES,
         orders: Orders::new(),
         event: 0,
         trace: Trace {
@@ -50,17 +52,26 @@ pub fn run(commands: &[Command]) -> Trace {
         },
     };
     for command in commands {
-        runner.event += 1;
         match command {
             Command::Plan(file) => runner.plan(file),
             Command::Event(happening, list) => runner.happens(happening, *list),
+            Command::Hold(bytes) => runner.lent = *bytes,
+            Command::Paint(byte) => runner.hold = painted(*byte),
         }
     }
     runner.trace
 }
 
+/// A hold with one byte everywhere.
+fn painted(byte: u8) -> Hold {
+    Hold::from_bytes(&[byte; sys::HOLD_BYTES]).expect("as long as a hold")
+}
+
 struct Runner {
     gateway: Option<Gateway>,
+    /// The hold that goes with the state, and how long the one is that events are lent.
+    hold: Hold,
+    lent: usize,
     orders: Orders,
     event: usize,
     trace: Trace,
@@ -80,7 +91,13 @@ impl Runner {
         });
     }
 
+    fn refused(&mut self, code: u32) {
+        let no = Refusal::of(code).map_or(String::new(), |no| no.to_string());
+        self.step(What::Note, format!("refused: {no}"));
+    }
+
     fn plan(&mut self, file: &[u8]) {
+        self.event += 1;
         match Gateway::load(file) {
             Ok(g) => {
                 self.trace.asps = self.trace.asps.max(g.asps());
@@ -104,6 +121,7 @@ impl Runner {
 
     /// What comes in is seen first, then the orders, then what has changed.
     fn happens(&mut self, happening: &Happening, list: usize) {
+        self.event += 1;
         let event = match happening {
             Happening::Message(asp, message) => Event::Message { asp: *asp, message },
             Happening::Lost(asp) => Event::Lost { asp: *asp },
@@ -114,20 +132,17 @@ impl Runner {
         };
         self.comes_in(&event);
         let Some(g) = self.gateway else {
-            return self.step(What::Note, "refused: 105 (the state is not sound)");
+            return self.refused(sys::REFUSED_STATE);
         };
-        let next = match g.event(&event, &mut self.orders) {
-            Ok(_) if list < sys::LIST_WORDS => {
-                return self.step(
-                    What::Note,
-                    "refused: 101 (the lent list of words is too short)",
-                )
-            }
+        let mut hold = self.hold.clone();
+        let next = match g.event(&event, &mut hold, &mut self.orders) {
+            Ok(_) if self.lent != sys::HOLD_BYTES => return self.refused(sys::REFUSED_HOLD),
+            Ok(_) if list < sys::LIST_WORDS => return self.refused(sys::REFUSED_LIST),
             Ok(next) => next,
-            Err(no) => return self.step(What::Note, format!("refused: {no}")),
+            Err(no) => return self.refused(no.code()),
         };
         let orders: Vec<_> = self.orders.iter().collect();
-        for (order, message) in orders.iter().zip(g.messages(&event)) {
+        for (order, message) in orders.iter().zip(g.messages(&event, &hold)) {
             let text = order.to_string();
             let label = text
                 .split_once(": ")
@@ -140,7 +155,9 @@ impl Runner {
             }
         }
         self.changes(&g, &next);
+        self.units(&event, &g, &next);
         self.gateway = Some(next);
+        self.hold = hold;
     }
 
     fn comes_in(&mut self, event: &Event<'_>) {
@@ -195,6 +212,32 @@ impl Runner {
             }
         }
     }
+
+    /// A unit that is kept, one that is turned away, and those that are discarded. (Those that go out are orders.)
+    fn units(&mut self, event: &Event<'_>, before: &Gateway, after: &Gateway) {
+        for a in 0..after.ases() {
+            let (was, is) = (before.held(a).count(), after.held(a).count());
+            let state = after.as_state(a);
+            if is > was {
+                self.step(What::Note, format!("AS {a} keeps the unit, {is} held"));
+            } else if is < was && state != Some(AsState::Active) {
+                self.step(What::Note, format!("AS {a} discards what it held, {was}"));
+            } else if state == Some(AsState::Pending) && brings_unit(event, after, a) {
+                self.step(What::Note, format!("AS {a} turns the unit away, {is} held"));
+            }
+        }
+    }
+}
+
+/// Whether an event is Data of the link side for an AS.
+fn brings_unit(event: &Event<'_>, g: &Gateway, r#as: usize) -> bool {
+    let Event::LinkMessage { message } = event else {
+        return false;
+    };
+    m2ua::read(message).is_ok_and(|r| {
+        let link = g.link_place(r.id);
+        r.message == MessageType::Data && link.and_then(|l| g.owner(l)) == Some(r#as)
+    })
 }
 
 /// The lanes of a step.

@@ -13,7 +13,7 @@ fn traced(lines: &str) -> trace::Trace {
 
 #[test]
 fn a_chart() {
-    let t = traced("msg 0 1032 0100030100000008\nmsg 0 1032 0100040100000008\nmsg 0 1032 01000602000000100001000800000064\nup 0 1032\nlost 0 1032\nrecovery 0 1032\nmsg 0 1031 -\nlost 1 1032\n");
+    let t = traced("msg 0 1544 0100030100000008\nmsg 0 1544 0100040100000008\nmsg 0 1544 01000602000000100001000800000064\nup 0 1544\nlost 0 1544\nrecovery 0 1544\nmsg 0 1543 -\nlost 1 1544\n");
     let expected = "
  link side  gateway    ASP 0     ASP 1
      |         |         |         |
@@ -55,7 +55,7 @@ fn a_chart() {
 
 #[test]
 fn a_capture_has_each_message_of_an_association() {
-    let t = traced("msg 0 1032 0100030100000008\nup 0 1032\nlost 0 1032\n");
+    let t = traced("msg 0 1544 0100030100000008\nup 0 1544\nlost 0 1544\n");
     let file = capture::pcap(&t);
     assert_eq!(file[..4], [0xd4, 0xc3, 0xb2, 0xa1]);
     let (mut at, mut chunks) = (24, Vec::new());
@@ -80,35 +80,95 @@ fn a_capture_has_each_message_of_an_association() {
 }
 
 #[test]
+fn units_that_wait() {
+    let data = "010006010000001800010008000000640300000507000000";
+    let fill = format!("linkmsg 1544 {data}\n").repeat(9);
+    let (up, active, inactive) = ("0100030100000008", "0100040100000008", "0100040200000008");
+    let script = format!(
+        "msg 0 1544 {up}\nmsg 0 1544 {active}\nmsg 0 1544 {inactive}\nhold 1\nlinkmsg 1543 {data}\nlinkmsg 1543 00\nhold 34944\npaint 9\nlinkmsg 1543 {data}\n{fill}msg 0 1544 {active}\n\
+         msg 0 1544 {inactive}\nlinkmsg 1544 {data}\nheld 0 0\nrecovery 0 1544\n"
+    );
+    let t = traced(&script);
+    let labels: Vec<&str> = t.steps.iter().map(|s| s.label.as_str()).collect();
+    let mut expected = vec![
+        "plan: 1 ASPs, 1 ASes, 1 links",
+        "ASP Up",
+        "ASP Up Ack",
+        "Notify, AS 0 inactive",
+        "AS 0 is inactive",
+        "ASP Active",
+        "ASP Active Ack",
+        "Notify, AS 0 active",
+        "AS 0 is active",
+        "ASP Inactive",
+        "ASP Inactive Ack",
+        "Notify, AS 0 pending",
+        "AS 0 is pending, T(r) starts",
+        "Data of link 100",
+        "refused: 106 (the lent hold has another length)",
+        "1 bytes that do not read: 7 (protocol error)",
+        "refused: 102 (no such ASP, AS or link in the plan, or a message of the link side that does not fit)",
+        "Data of link 100",
+        "refused: 101 (the lent list of words is too short)",
+    ];
+    let kept: Vec<String> = (1..9)
+        .map(|n| format!("AS 0 keeps the unit, {n} held"))
+        .collect();
+    for note in &kept {
+        expected.extend(["Data of link 100", note]);
+    }
+    expected.extend(["Data of link 100", "AS 0 turns the unit away, 8 held"]);
+    expected.extend(["ASP Active", "ASP Active Ack"]);
+    expected.extend(["Data of link 100"; 8]);
+    expected.extend(["Notify, AS 0 active", "AS 0 is active"]);
+    expected.extend([
+        "ASP Inactive",
+        "ASP Inactive Ack",
+        "Notify, AS 0 pending",
+        "AS 0 is pending, T(r) starts",
+        "Data of link 100",
+        "AS 0 keeps the unit, 1 held",
+        "T(r) of AS 0 is over",
+        "Notify, AS 0 inactive",
+        "AS 0 is inactive",
+        "AS 0 discards what it held, 1",
+    ]);
+    assert_eq!(labels, expected);
+}
+
+#[test]
 fn wrong_lines_are_named() {
     for (line, why) in [
         ("nonsense", "line 2: no command of docs/SCRIPT.md: nonsense"),
-        ("lost x 1032", "line 2: 'x' is no number of 32 bits"),
+        ("lost x 1544", "line 2: 'x' is no number of 32 bits"),
         (
             "lost 4294967296 1",
             "line 2: '4294967296' is no number of 32 bits",
         ),
         (
-            "msg 0 1032 0",
+            "msg 0 1544 0",
             "line 2: bytes are pairs of hex digits, or -",
         ),
         (
-            "msg 0 1032 é1",
+            "msg 0 1544 é1",
             "line 2: bytes are pairs of hex digits, or -",
         ),
         ("lost 0", "line 2: no command of docs/SCRIPT.md: lost 0"),
+        ("hold", "line 2: no command of docs/SCRIPT.md: hold"),
+        ("hold x", "line 2: 'x' is no number of 32 bits"),
+        ("paint 256", "line 2: '256' is no byte"),
     ] {
         assert_eq!(script::parse(&source(line)).unwrap_err(), why);
     }
     assert_eq!(
-        script::parse("# nothing\n\nstate\nread 00\nreach lost 0 1032\n").unwrap(),
+        script::parse("# nothing\n\nstate\nread 00\nreach lost 0 1544\nheld 0 0\n").unwrap(),
         []
     );
 }
 
 #[test]
 fn without_a_plan_every_event_is_refused() {
-    let t = trace::run(&script::parse("plan 00\nlost 0 1032\n").unwrap());
+    let t = trace::run(&script::parse("plan 00\nlost 0 1544\n").unwrap());
     let labels: Vec<&str> = t.steps.iter().map(|s| s.label.as_str()).collect();
     assert_eq!(
         labels,

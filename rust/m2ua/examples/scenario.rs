@@ -1,37 +1,38 @@
-//! A small host: it loads a plan, lets two ASPs take turns, a link come up, units go both ways, an association break and the recovery time run out. What a host sends, and which
-//! timers it starts, is printed. (examples/c/scenario.c is the same in C; tools/hosts compares what both print.)
+//! A small host: it loads a plan, lets two ASPs take turns, a link come up, units go both ways, an association break, units wait until the other ASP takes over, and the recovery
+//! time run out. What a host sends, which units wait, and which timers it starts, is printed. (examples/c/scenario.c is the same in C; tools/hosts compares what both print.)
 //! Usage: scenario PLAN, with examples/plans/sample.txt compiled; or scenario words.
 use m2ua::{
-    parameter, protocol_data, read, sys, write, Addressee, Event, Gateway, MessageType, Order,
-    Orders, Parameter, Refusal,
+    parameter, protocol_data, read, sys, write, Addressee, Event, Gateway, Hold, MessageType,
+    Order, Orders, Parameter, Refusal,
 };
 use std::process::ExitCode;
 
-/// What a host keeps: the state, and a list to lend.
+/// What a host keeps: the state, the hold that goes with it, and a list to lend.
 struct Host {
     gateway: Gateway,
+    hold: Hold,
     orders: Orders,
 }
 
 impl Host {
-    /// An event: its orders in words, then as bytes, which come from the state before the event; then what has changed.
+    /// An event: its orders in words, then as bytes, which come from the state before the event and the hold; then what has changed.
     fn happens(&mut self, what: &str, event: Event<'_>) -> Result<(), Refusal> {
         println!("{what}");
-        let next = match self.gateway.event(&event, &mut self.orders) {
+        let next = match self.gateway.event(&event, &mut self.hold, &mut self.orders) {
             Ok(next) => next,
             Err(no) => {
                 println!("  refused: {no}");
                 return Ok(());
             }
         };
-        for (place, message) in self.gateway.messages(&event).enumerate() {
+        for (place, message) in self.gateway.messages(&event, &self.hold).enumerate() {
             let order = self.orders.get(place).expect("as many messages as orders");
             println!("  {order}");
             match (order.to, message?, event) {
                 (Addressee::Asp(asp), Some(bytes), _) => {
                     send_to_asp(asp, &bytes);
                     // one order by itself is the same message
-                    assert_eq!(self.gateway.order(&event, place)?, bytes);
+                    assert_eq!(self.gateway.order(&event, &self.hold, place)?, bytes);
                 }
                 (Addressee::LinkSide, _, Event::Message { message, .. })
                     if order.message == MessageType::Data =>
@@ -46,7 +47,7 @@ impl Host {
         Ok(())
     }
 
-    /// What has changed: the states of ASes, and the timers that start and stop.
+    /// What has changed: the states of ASes, the timers that start and stop, the units held.
     fn changes(&self, next: &Gateway) {
         let timers = self.gateway.timers(next);
         for a in 0..next.ases() {
@@ -64,6 +65,28 @@ impl Host {
                 .stopped()
                 .filter(|&b| a == b)
                 .for_each(|_| println!("  timer: stop T(r) of AS {a}"));
+            self.units(next, a);
+        }
+    }
+
+    /// The units that an AS holds since an event, with their bytes in the hold; or how many it holds no longer.
+    fn units(&self, next: &Gateway, a: usize) {
+        let (was, is) = (self.gateway.held(a).count(), next.held(a).count());
+        for (k, unit) in next.held(a).enumerate().skip(was) {
+            let bytes = next.unit_bytes(&self.hold, a, k).expect("a unit held");
+            print!(
+                "  AS {a} holds a unit ({:#x}) of link {}: {}",
+                unit.tag,
+                unit.link,
+                hex(bytes)
+            );
+            match unit.correlation {
+                Some(id) => println!(", correlation id {id}"),
+                None => println!(),
+            }
+        }
+        if is < was {
+            println!("  units that AS {a} no longer holds: {}", was - is);
         }
     }
 
@@ -132,6 +155,15 @@ fn scenario(host: &mut Host) -> Result<(), Refusal> {
         &[link100, unit, (sys::TAG_CORRELATION_ID, &[0, 0, 0, 5])],
     )?;
     let received = message(Data, &[link100, unit])?;
+    // a correlation id, and behind it a unit with its length indicator
+    let later = message(
+        Data,
+        &[
+            (sys::TAG_INTERFACE_ID, &[0, 0, 0, 101]),
+            (sys::TAG_CORRELATION_ID, &[0, 0, 0, 6]),
+            (sys::TAG_DATA_2, b"\x05WAIT"),
+        ],
+    )?;
     let beat = message(Beat, &[(sys::TAG_HEARTBEAT, b"alive")])?;
     let other = message(Active, &[link200])?;
     host.happens(
@@ -209,6 +241,14 @@ fn scenario(host: &mut Host) -> Result<(), Refusal> {
     )?;
     host.happens("the association of right is lost", Event::Lost { asp: 1 })?;
     host.happens(
+        "a unit comes in on link 100 and waits",
+        Event::LinkMessage { message: &received },
+    )?;
+    host.happens(
+        "a unit comes in on link 101 and waits",
+        Event::LinkMessage { message: &later },
+    )?;
+    host.happens(
         "left takes over in time",
         Event::Message {
             asp: 0,
@@ -221,6 +261,10 @@ fn scenario(host: &mut Host) -> Result<(), Refusal> {
             asp: 0,
             message: &down,
         },
+    )?;
+    host.happens(
+        "a unit comes in that nobody will take",
+        Event::LinkMessage { message: &later },
     )?;
     host.happens(
         "the recovery time of AS 0 is over",
@@ -304,6 +348,7 @@ fn run(path: &str) -> Result<(), String> {
     );
     scenario(&mut Host {
         gateway,
+        hold: Hold::new(),
         orders: Orders::new(),
     })
     .map_err(|no| no.to_string())

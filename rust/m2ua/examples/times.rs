@@ -1,6 +1,6 @@
 //! What the crate's calls cost beside the library's entries themselves: nanoseconds of one call, best of 101 rounds, and the median of the rounds' ratios. (tools/bench times the entries against a
 //! hand-written program.) Nothing else should run on the machine.
-use m2ua::{sys, write, Event, Gateway, MessageType, Orders, Parameter};
+use m2ua::{sys, write, Event, Gateway, Hold, MessageType, Orders, Parameter};
 use std::hint::black_box;
 use std::time::Instant;
 
@@ -47,14 +47,18 @@ fn full() -> Gateway {
     words.extend((0..128).flat_map(|id| [id, id / 8]));
     let file: Vec<u8> = words.iter().flat_map(|w| w.to_be_bytes()).collect();
     let mut g = Gateway::load(&file).expect("a plan");
-    let mut orders = Orders::new();
+    let (mut hold, mut orders) = (Hold::new(), Orders::new());
     let (up, active) = (
         write(MessageType::Up, &[]).expect("an Up"),
         write(MessageType::Active, &[]).expect("an Active"),
     );
     for asp in 0..16 {
         g = g
-            .event(&Event::Message { asp, message: &up }, &mut orders)
+            .event(
+                &Event::Message { asp, message: &up },
+                &mut hold,
+                &mut orders,
+            )
             .expect("accepted");
     }
     g.event(
@@ -62,6 +66,7 @@ fn full() -> Gateway {
             asp: 0,
             message: &active,
         },
+        &mut hold,
         &mut orders,
     )
     .expect("accepted")
@@ -70,6 +75,7 @@ fn full() -> Gateway {
 fn main() {
     let g = full();
     let (mut orders, mut words, mut out) = (Orders::new(), [0u32; sys::LIST_WORDS], [0u8; 16384]);
+    let (mut hold, mut bytes) = (Hold::new(), vec![0u8; sys::HOLD_BYTES]);
     let mut lens = [0u32; sys::MAX_ORDERS];
     let parameters = [
         Parameter::new(sys::TAG_INTERFACE_ID, &[0, 0, 0, 9]),
@@ -114,8 +120,8 @@ fn main() {
         compare(
             what,
             2000,
-            || g.event(black_box(&event), &mut orders),
-            || sys::event(black_box(g.raw()), 0, 0, message, &mut words),
+            || g.event(black_box(&event), &mut hold, &mut orders),
+            || sys::event(black_box(g.raw()), 0, 0, message, &mut bytes, &mut words),
         );
     }
     let event = Event::Message {
@@ -125,8 +131,19 @@ fn main() {
     compare(
         "its messages: iterator, against one batch",
         100,
-        || g.messages(black_box(&event)).count(),
-        || sys::orders(black_box(g.raw()), 0, 0, &up, 0, &mut lens, &mut out),
+        || g.messages(black_box(&event), &hold).count(),
+        || {
+            sys::orders(
+                black_box(g.raw()),
+                0,
+                0,
+                &up,
+                &bytes,
+                0,
+                &mut lens,
+                &mut out,
+            )
+        },
     );
     compare(
         "its messages: lent buffers, against one batch",
@@ -134,11 +151,23 @@ fn main() {
         || {
             g.orders_into(
                 black_box(&event),
+                &hold,
                 0,
                 &mut [0; sys::MAX_ORDERS],
                 &mut [0; 16384],
             )
         },
-        || sys::orders(black_box(g.raw()), 0, 0, &up, 0, &mut lens, &mut out),
+        || {
+            sys::orders(
+                black_box(g.raw()),
+                0,
+                0,
+                &up,
+                &bytes,
+                0,
+                &mut lens,
+                &mut out,
+            )
+        },
     );
 }

@@ -1,5 +1,6 @@
 //! The gateway's state.
 use crate::event::Event;
+use crate::hold::Hold;
 use crate::order::Orders;
 use crate::refusal::Refusal;
 use crate::sys;
@@ -150,11 +151,24 @@ impl Gateway {
         &self.state
     }
 
-    /// An event on this state: its orders go to `orders`, and the next state is handed back. Refused (102), there are no orders; this state is as it was in either case.
-    pub fn event(&self, event: &Event<'_>, orders: &mut Orders) -> Result<Gateway, Refusal> {
+    /// An event on this state: its orders go to `orders`, and the next state is handed back. `hold` is the one that goes with this state, and then with the next: Data for an AS
+    /// that is pending is put there. Refused (102), there are no orders and the hold is as it was; this state is as it was in either case.
+    pub fn event(
+        &self,
+        event: &Event<'_>,
+        hold: &mut Hold,
+        orders: &mut Orders,
+    ) -> Result<Gateway, Refusal> {
         let (kind, index, message) = event.parts();
         orders.count = 0;
-        let outcome = sys::event(&self.state, kind, index, message, &mut orders.words[..]);
+        let outcome = sys::event(
+            &self.state,
+            kind,
+            index,
+            message,
+            &mut hold.bytes[..],
+            &mut orders.words[..],
+        );
         Refusal::check(outcome.refusal)?;
         orders.count = outcome.count;
         Ok(Gateway {
@@ -258,7 +272,7 @@ fn pair(table: &[u8; sys::PAIRS], r#as: usize, asp: usize) -> bool {
 }
 
 impl fmt::Display for Gateway {
-    /// One line: what is up, active and waiting, and the links that are not idle.
+    /// One line: what is up, active and waiting, how many units are held, and the links that are not idle.
     fn fmt(&self, f: &mut fmt::Formatter<'_>) -> fmt::Result {
         let asps = (0..self.asps()).filter(|&p| self.is_up(p));
         write!(f, "up: {}", listed(asps.map(|p| format!("ASP {p}"))))?;
@@ -271,6 +285,11 @@ impl fmt::Display for Gateway {
             )?;
             if self.is_waiting(a) {
                 f.write_str(", waits")?;
+            }
+            match self.held(a).count() {
+                0 => {}
+                1 => f.write_str(", 1 unit held")?,
+                n => write!(f, ", {n} units held")?,
             }
         }
         for l in 0..self.links() {

@@ -1,11 +1,11 @@
 //! The M2UA side (RFC 3331) of a signalling gateway: SS7 links come in, call controllers (ASPs) take them over by M2UA messages. This crate is a safe layer over the
 //! proved library `libm2ua.a`; it adds types, words and no rule of its own. The rules are in docs/RULES.md, the guide for hosts is docs/HOST.md.
 //!
-//! A host has SCTP, timers and MTP2. It loads a [`Gateway`] from a plan file, and for each thing that happens it makes an [`Event`], calls [`Gateway::event`], carries out the
-//! [`Orders`] and keeps the next state:
+//! A host has SCTP, timers and MTP2. It loads a [`Gateway`] from a plan file, makes a [`Hold`] to go with it, and for each thing that happens it makes an [`Event`], calls
+//! [`Gateway::event`], carries out the [`Orders`] and keeps the next state:
 //!
 //! ```
-//! use m2ua::{Addressee, Event, Gateway, MessageType, Orders};
+//! use m2ua::{Addressee, Event, Gateway, Hold, MessageType, Orders};
 //!
 //! // One ASP with identifier 7 in one AS, override; one link with identifier 100.
 //! let plan = [
@@ -15,9 +15,9 @@
 //!     0, 0, 0, 100, 0, 0, 0, 0, // a link: identifier, owner
 //! ];
 //! let gateway = Gateway::load(&plan)?;
-//! let mut orders = Orders::new();
+//! let (mut hold, mut orders) = (Hold::new(), Orders::new());
 //! let up = m2ua::write(MessageType::Up, &[])?;
-//! let next = gateway.event(&Event::Message { asp: 0, message: &up }, &mut orders)?;
+//! let next = gateway.event(&Event::Message { asp: 0, message: &up }, &mut hold, &mut orders)?;
 //! assert!(next.is_up(0));
 //! let first = orders.iter().next().unwrap();
 //! assert_eq!((first.to, first.message), (Addressee::Asp(0), MessageType::UpAck));
@@ -25,13 +25,15 @@
 //! # Ok::<(), m2ua::Refusal>(())
 //! ```
 //!
-//! A state is a value: [`Gateway`] is `Copy`, an event leaves the one it was called on as it was, and any thread may use any of them.
+//! A state is a value: [`Gateway`] is `Copy`, an event leaves the one it was called on as it was, and any thread may use any of them. The hold is what an event writes to: it has the bytes of
+//! the units that wait with a pending AS, and belongs to one line of states.
 #![deny(unsafe_code)]
 #![warn(missing_docs)]
 
 mod bytes;
 mod event;
 mod gateway;
+mod hold;
 mod message;
 mod order;
 mod refusal;
@@ -42,6 +44,7 @@ mod words;
 pub use bytes::Messages;
 pub use event::Event;
 pub use gateway::{AsState, Gateway, LinkState, Timers, TrafficMode};
+pub use hold::{Hold, Unit};
 pub use message::{
     parameter, parameters, protocol_data, read, write, write_into, MessageType, Parameter,
     Parameters, Reading,

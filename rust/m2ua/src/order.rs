@@ -138,7 +138,7 @@ impl Orders {
         }
     }
 
-    /// How many orders there are, at most 258.
+    /// How many orders there are, at most 386 (`sys::MAX_ORDERS`).
     pub fn len(&self) -> usize {
         self.count
     }

@@ -8,7 +8,7 @@ use std::fmt;
 pub struct Refusal(u32);
 
 impl Refusal {
-    /// The number: an Error code of RFC 3331 from the reader and the writer, 101 to 105 from events and orders, 201 or 202 from the loading of a plan.
+    /// The number: an Error code of RFC 3331 from the reader and the writer, 101 to 106 from events and orders, 201 or 202 from the loading of a plan.
     pub fn code(self) -> u32 {
         self.0
     }
@@ -32,6 +32,7 @@ impl fmt::Display for Refusal {
             sys::REFUSED_BUFFER => "the lent buffer is too short",
             sys::REFUSED_ORDER => "the event has no such order, or it goes to the link side",
             sys::REFUSED_STATE => "the state is not sound",
+            sys::REFUSED_HOLD => "the lent hold has another length",
             sys::REFUSED_LAYOUT => "plan file: a count, an offset or the length is wrong",
             sys::REFUSED_ROW => "plan file: a row is wrong",
             code => error_name(code),

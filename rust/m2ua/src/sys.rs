@@ -3,7 +3,7 @@
 #![allow(unsafe_code)]
 use std::mem::{offset_of, size_of};
 
-pub const ABI: u32 = 1;
+pub const ABI: u32 = 2;
 
 // Limits.
 pub const MAX_ASPS: usize = 16;
@@ -14,9 +14,13 @@ pub const MAX_MESSAGE: usize = 2048;
 pub const MAX_DATA: usize = 273;
 pub const MAX_PLAN: usize = 1240;
 pub const ORDER_WORDS: usize = 4;
-pub const MAX_ORDERS: usize = 258;
-pub const LIST_WORDS: usize = 1032;
-pub const STACK: usize = 16384;
+pub const MAX_ORDERS: usize = 386;
+pub const LIST_WORDS: usize = 1544;
+pub const HELD_MOST: usize = 8;
+pub const UNITS: usize = 128;
+pub const HOLD_PLACE: usize = 273;
+pub const HOLD_BYTES: usize = 34944;
+pub const STACK: usize = 32768;
 
 // Where messages come from: SCTP port and payload protocol identifier of M2UA.
 pub const PORT: u16 = 2904;
@@ -32,6 +36,7 @@ pub const REFUSED_PLACE: u32 = 102;
 pub const REFUSED_BUFFER: u32 = 103;
 pub const REFUSED_ORDER: u32 = 104;
 pub const REFUSED_STATE: u32 = 105;
+pub const REFUSED_HOLD: u32 = 106;
 pub const REFUSED_LAYOUT: u32 = 201;
 pub const REFUSED_ROW: u32 = 202;
 
@@ -211,6 +216,18 @@ pub struct Written {
     pub length: usize,
 }
 
+/// The units held for ASes that wait (Rule 5.21).
+#[repr(C)]
+#[derive(Clone, Copy, Debug, PartialEq, Eq)]
+pub struct Units {
+    pub count: [u8; 16],
+    pub tag: [u16; 128],
+    pub length: [u16; 128],
+    pub marked: [u16; 128],
+    pub id: [u32; 128],
+    pub correlation: [u32; 128],
+}
+
 /// The gateway's state (Rule 5.1).
 #[repr(C)]
 #[derive(Clone, Copy, Debug, PartialEq, Eq)]
@@ -228,6 +245,7 @@ pub struct Gateway {
     pub iid: [u32; 128],
     pub owner: [u8; 128],
     pub state: [u8; 128],
+    pub held: Units,
 }
 
 /// What loading a plan gives (Rules 4.6, 4.7).
@@ -311,12 +329,15 @@ extern "C" {
     ) -> Written;
     pub fn m2ua_load(file: *const u8, len: usize) -> Loaded;
     pub fn m2ua_is_sound(g: Gateway) -> u32;
-    pub fn m2ua_event(
+    pub fn m2ua_run(
         g: Gateway,
         kind: u32,
         index: usize,
         msg: *const u8,
         len: usize,
+        hold: *mut u8,
+        hold_bytes: usize,
+        size: usize,
         words: *mut u32,
         count: usize,
     ) -> Outcome;
@@ -326,6 +347,8 @@ extern "C" {
         index: usize,
         msg: *const u8,
         len: usize,
+        hold: *const u8,
+        hold_bytes: usize,
         place: usize,
         out: *mut u8,
         out_bytes: usize,
@@ -336,6 +359,8 @@ extern "C" {
         index: usize,
         msg: *const u8,
         len: usize,
+        hold: *const u8,
+        hold_bytes: usize,
         place: usize,
         lens: *mut u32,
         len_count: usize,
@@ -416,15 +441,25 @@ pub fn is_sound(g: &Gateway) -> bool {
     unsafe { m2ua_is_sound(*g) == 1 }
 }
 
-pub fn event(g: &Gateway, kind: u32, index: usize, msg: &[u8], words: &mut [u32]) -> Outcome {
-    // SAFETY: as in `write` and `is_sound`.
+pub fn event(
+    g: &Gateway,
+    kind: u32,
+    index: usize,
+    msg: &[u8],
+    hold: &mut [u8],
+    words: &mut [u32],
+) -> Outcome {
+    // SAFETY: as in `write` and `is_sound`; the two `&mut` slices do not overlap. A hold of any length is answered.
     unsafe {
-        m2ua_event(
+        m2ua_run(
             *g,
             kind,
             index,
             msg.as_ptr(),
             msg.len(),
+            hold.as_mut_ptr(),
+            hold.len(),
+            hold.len(),
             words.as_mut_ptr(),
             words.len(),
         )
@@ -436,6 +471,7 @@ pub fn order(
     kind: u32,
     index: usize,
     msg: &[u8],
+    hold: &[u8],
     place: usize,
     out: &mut [u8],
 ) -> Written {
@@ -447,6 +483,8 @@ pub fn order(
             index,
             msg.as_ptr(),
             msg.len(),
+            hold.as_ptr(),
+            hold.len(),
             place,
             out.as_mut_ptr(),
             out.len(),
@@ -454,16 +492,18 @@ pub fn order(
     }
 }
 
+#[allow(clippy::too_many_arguments)]
 pub fn orders(
     g: &Gateway,
     kind: u32,
     index: usize,
     msg: &[u8],
+    hold: &[u8],
     place: usize,
     lens: &mut [u32],
     out: &mut [u8],
 ) -> Batch {
-    // SAFETY: as in `event`; the two `&mut` slices do not overlap.
+    // SAFETY: as in `event`.
     unsafe {
         m2ua_orders(
             *g,
@@ -471,6 +511,8 @@ pub fn orders(
             index,
             msg.as_ptr(),
             msg.len(),
+            hold.as_ptr(),
+            hold.len(),
             place,
             lens.as_mut_ptr(),
             lens.len(),
@@ -491,7 +533,7 @@ const _: () = assert!(offset_of!(Batch, length) == 16);
 const _: () = assert!(size_of::<DataAt>() == 16);
 const _: () = assert!(offset_of!(DataAt, start) == 0);
 const _: () = assert!(offset_of!(DataAt, length) == 8);
-const _: () = assert!(size_of::<Gateway>() == 1396);
+const _: () = assert!(size_of::<Gateway>() == 3204);
 const _: () = assert!(offset_of!(Gateway, asps) == 0);
 const _: () = assert!(offset_of!(Gateway, ases) == 1);
 const _: () = assert!(offset_of!(Gateway, links) == 2);
@@ -505,10 +547,11 @@ const _: () = assert!(offset_of!(Gateway, waiting) == 612);
 const _: () = assert!(offset_of!(Gateway, iid) == 628);
 const _: () = assert!(offset_of!(Gateway, owner) == 1140);
 const _: () = assert!(offset_of!(Gateway, state) == 1268);
-const _: () = assert!(size_of::<Loaded>() == 1400);
+const _: () = assert!(offset_of!(Gateway, held) == 1396);
+const _: () = assert!(size_of::<Loaded>() == 3208);
 const _: () = assert!(offset_of!(Loaded, code) == 0);
 const _: () = assert!(offset_of!(Loaded, gateway) == 4);
-const _: () = assert!(size_of::<Outcome>() == 1416);
+const _: () = assert!(size_of::<Outcome>() == 3224);
 const _: () = assert!(offset_of!(Outcome, refusal) == 0);
 const _: () = assert!(offset_of!(Outcome, count) == 8);
 const _: () = assert!(offset_of!(Outcome, gateway) == 16);
@@ -529,6 +572,13 @@ const _: () = assert!(offset_of!(Reading, correlated) == 32);
 const _: () = assert!(offset_of!(Reading, correlation) == 36);
 const _: () = assert!(offset_of!(Reading, state) == 40);
 const _: () = assert!(offset_of!(Reading, retrieval) == 44);
+const _: () = assert!(size_of::<Units>() == 1808);
+const _: () = assert!(offset_of!(Units, count) == 0);
+const _: () = assert!(offset_of!(Units, tag) == 16);
+const _: () = assert!(offset_of!(Units, length) == 272);
+const _: () = assert!(offset_of!(Units, marked) == 528);
+const _: () = assert!(offset_of!(Units, id) == 784);
+const _: () = assert!(offset_of!(Units, correlation) == 1296);
 const _: () = assert!(size_of::<Waits>() == 32);
 const _: () = assert!(offset_of!(Waits, began) == 0);
 const _: () = assert!(offset_of!(Waits, ended) == 16);

@@ -1,5 +1,5 @@
 //! Orders as bytes: one by one and many at a time, the same; and each reads as the order says.
-use m2ua::{read, sys, write, Addressee, Event, Gateway, MessageType, Orders, Parameter};
+use m2ua::{read, sys, write, Addressee, Event, Gateway, Hold, MessageType, Orders, Parameter};
 
 /// 16 ASPs in 16 ASes of broadcast, with 8 links each.
 fn full() -> Gateway {
@@ -12,12 +12,12 @@ fn full() -> Gateway {
 }
 
 /// The event is done, its orders are as bytes what they are as words, and the next state is handed back.
-fn sent(g: &Gateway, event: &Event<'_>, orders: &mut Orders) -> Gateway {
-    let next = g.event(event, orders).unwrap();
-    let messages: Vec<_> = g.messages(event).map(|m| m.unwrap()).collect();
+fn sent(g: &Gateway, event: &Event<'_>, hold: &mut Hold, orders: &mut Orders) -> Gateway {
+    let next = g.event(event, hold, orders).unwrap();
+    let messages: Vec<_> = g.messages(event, hold).map(|m| m.unwrap()).collect();
     assert_eq!(messages.len(), orders.len(), "{event}");
     for (place, (order, message)) in orders.iter().zip(&messages).enumerate() {
-        let one = g.order(event, place);
+        let one = g.order(event, hold, place);
         match (order.to, message) {
             (Addressee::LinkSide, None) => assert_eq!(one.unwrap_err().code(), 104),
             (Addressee::Asp(_), Some(bytes)) => {
@@ -27,13 +27,13 @@ fn sent(g: &Gateway, event: &Event<'_>, orders: &mut Orders) -> Gateway {
             _ => panic!("{order}: {message:?}"),
         }
     }
-    assert_eq!(g.order(event, orders.len()).unwrap_err().code(), 104);
+    assert_eq!(g.order(event, hold, orders.len()).unwrap_err().code(), 104);
     next
 }
 
 #[test]
 fn every_kind_of_event() {
-    let mut orders = Orders::new();
+    let (mut hold, mut orders) = (Hold::new(), Orders::new());
     let mut g = full();
     let plain = |message| write(message, &[]).unwrap();
     let id = 9u32.to_be_bytes();
@@ -64,40 +64,58 @@ fn every_kind_of_event() {
     )
     .unwrap();
     for asp in 0..16 {
-        g = sent(&g, &Event::Message { asp, message: &up }, &mut orders);
+        g = sent(
+            &g,
+            &Event::Message { asp, message: &up },
+            &mut hold,
+            &mut orders,
+        );
     }
     for message in [&active, &beat, &establish, &unknown] {
-        g = sent(&g, &Event::Message { asp: 1, message }, &mut orders);
+        g = sent(
+            &g,
+            &Event::Message { asp: 1, message },
+            &mut hold,
+            &mut orders,
+        );
     }
-    g = sent(&g, &Event::LinkUp { link: 9 }, &mut orders);
+    g = sent(&g, &Event::LinkUp { link: 9 }, &mut hold, &mut orders);
     g = sent(
         &g,
         &Event::Message {
             asp: 1,
             message: &data,
         },
+        &mut hold,
         &mut orders,
     );
     assert_eq!(orders.len(), 2);
-    g = sent(&g, &Event::LinkMessage { message: &data }, &mut orders);
-    g = sent(&g, &Event::LinkDown { link: 9 }, &mut orders);
+    g = sent(
+        &g,
+        &Event::LinkMessage { message: &data },
+        &mut hold,
+        &mut orders,
+    );
+    g = sent(&g, &Event::LinkDown { link: 9 }, &mut hold, &mut orders);
     g = sent(
         &g,
         &Event::Message {
             asp: 1,
             message: &up,
         },
+        &mut hold,
         &mut orders,
     );
-    assert_eq!(orders.len(), sys::MAX_ORDERS);
-    g = sent(&g, &Event::Recovery { r#as: 3 }, &mut orders);
-    g = sent(&g, &Event::Lost { asp: 2 }, &mut orders);
+    assert_eq!(orders.len(), 258);
+    g = sent(&g, &Event::Recovery { r#as: 3 }, &mut hold, &mut orders);
+    g = sent(&g, &Event::Lost { asp: 2 }, &mut hold, &mut orders);
     sent(
         &g,
         &Event::Message {
             asp: 1,
             message: &down,
         },
+        &mut hold,
         &mut orders,
     );
     sent(
@@ -106,21 +124,22 @@ fn every_kind_of_event() {
             asp: 1,
             message: &[1, 2, 3],
         },
+        &mut hold,
         &mut orders,
     );
 }
 
 #[test]
 fn a_notify_names_the_links() {
-    let mut orders = Orders::new();
+    let (mut hold, mut orders) = (Hold::new(), Orders::new());
     let g = full();
     let up = write(MessageType::Up, &[]).unwrap();
     let event = Event::Message {
         asp: 0,
         message: &up,
     };
-    g.event(&event, &mut orders).unwrap();
-    let notify = g.order(&event, 2).unwrap();
+    g.event(&event, &mut hold, &mut orders).unwrap();
+    let notify = g.order(&event, &hold, 2).unwrap();
     let listed: Vec<String> = m2ua::parameters(&notify).map(|p| p.to_string()).collect();
     assert_eq!(listed[0], "status (0xd) 65538");
     assert_eq!(
@@ -131,7 +150,7 @@ fn a_notify_names_the_links() {
 
 #[test]
 fn batches() {
-    let mut orders = Orders::new();
+    let (mut hold, mut orders) = (Hold::new(), Orders::new());
     let mut g = full();
     let (up, active) = (
         write(MessageType::Up, &[]).unwrap(),
@@ -139,7 +158,11 @@ fn batches() {
     );
     for asp in 0..16 {
         g = g
-            .event(&Event::Message { asp, message: &up }, &mut orders)
+            .event(
+                &Event::Message { asp, message: &up },
+                &mut hold,
+                &mut orders,
+            )
             .unwrap();
     }
     g = g
@@ -148,6 +171,7 @@ fn batches() {
                 asp: 0,
                 message: &active,
             },
+            &mut hold,
             &mut orders,
         )
         .unwrap();
@@ -156,39 +180,45 @@ fn batches() {
         message: &up,
     };
     let one_by_one: Vec<u8> = g
-        .messages(&event)
+        .messages(&event, &hold)
         .flat_map(|m| m.unwrap().unwrap())
         .collect();
     assert_eq!(one_by_one.len(), 13336);
     let (mut lens, mut out) = ([0; sys::MAX_ORDERS], [0; 13337]);
     assert_eq!(
-        g.orders_into(&event, 0, &mut lens, &mut out),
-        Ok((sys::MAX_ORDERS, 13336))
+        g.orders_into(&event, &hold, 0, &mut lens, &mut out),
+        Ok((258, 13336))
     );
     assert_eq!(out[..13336], one_by_one);
     // an Up Ack of 8 bytes, an Error of 16, Notifies of 52
     assert_eq!(
-        g.orders_into(&event, 0, &mut lens, &mut out[..8 + 16 + 2 * 52 + 51]),
+        g.orders_into(
+            &event,
+            &hold,
+            0,
+            &mut lens,
+            &mut out[..8 + 16 + 2 * 52 + 51]
+        ),
         Ok((4, 128))
     );
     assert_eq!(
-        g.orders_into(&event, 0, &mut lens[..3], &mut out),
+        g.orders_into(&event, &hold, 0, &mut lens[..3], &mut out),
         Ok((3, 76))
     );
     assert_eq!(
-        g.orders_into(&event, 0, &mut [], &mut out)
+        g.orders_into(&event, &hold, 0, &mut [], &mut out)
             .unwrap_err()
             .code(),
         103
     );
     assert_eq!(
-        g.orders_into(&event, 2, &mut lens, &mut out[..51])
+        g.orders_into(&event, &hold, 2, &mut lens, &mut out[..51])
             .unwrap_err()
             .code(),
         103
     );
     assert_eq!(
-        g.orders_into(&event, 258, &mut lens, &mut out)
+        g.orders_into(&event, &hold, 258, &mut lens, &mut out)
             .unwrap_err()
             .code(),
         104
@@ -197,22 +227,110 @@ fn batches() {
 
 #[test]
 fn refusals() {
-    let g = full();
+    let (g, hold) = (full(), Hold::new());
     let up = write(MessageType::Up, &[]).unwrap();
     let beyond = Event::Lost { asp: 16 };
     assert_eq!(
-        g.messages(&beyond)
+        g.messages(&beyond, &hold)
             .map(|m| m.unwrap_err().code())
             .collect::<Vec<_>>(),
         [102]
     );
-    assert_eq!(g.order(&beyond, 0).unwrap_err().code(), 102);
+    assert_eq!(g.order(&beyond, &hold, 0).unwrap_err().code(), 102);
     let event = Event::Message {
         asp: 0,
         message: &up,
     };
     let mut out = [0xaa; 7];
-    assert_eq!(g.order_into(&event, 0, &mut out).unwrap_err().code(), 103);
+    assert_eq!(
+        g.order_into(&event, &hold, 0, &mut out).unwrap_err().code(),
+        103
+    );
     assert_eq!(out, [0xaa; 7]);
-    assert_eq!(g.messages(&Event::Lost { asp: 0 }).count(), 0);
+    assert_eq!(g.messages(&Event::Lost { asp: 0 }, &hold).count(), 0);
+}
+
+/// A unit of a link with one byte of its own, the longest that there is, with a correlation id.
+fn longest(id: u8) -> Vec<u8> {
+    write(
+        MessageType::Data,
+        &[
+            Parameter::new(sys::TAG_INTERFACE_ID, &[0, 0, 0, id]),
+            Parameter::new(sys::TAG_CORRELATION_ID, &[1, 0, 0, id]),
+            Parameter::new(sys::TAG_DATA_2, &[id; sys::MAX_DATA]),
+        ],
+    )
+    .unwrap()
+}
+
+#[test]
+fn the_most_orders_and_the_most_bytes() {
+    let (mut hold, mut orders) = (Hold::new(), Orders::new());
+    let plain = |message| write(message, &[]).unwrap();
+    let (up, active, inactive) = (
+        plain(MessageType::Up),
+        plain(MessageType::Active),
+        plain(MessageType::Inactive),
+    );
+    let mut g = full();
+    for asp in 0..16 {
+        g = sent(
+            &g,
+            &Event::Message { asp, message: &up },
+            &mut hold,
+            &mut orders,
+        );
+    }
+    for message in [&active, &inactive] {
+        let event = Event::Message { asp: 0, message };
+        g = sent(&g, &event, &mut hold, &mut orders);
+    }
+    for id in 0..128 {
+        let message = longest(id);
+        let event = Event::LinkMessage { message: &message };
+        g = sent(&g, &event, &mut hold, &mut orders);
+        assert!(orders.is_empty());
+    }
+    // an Active of 2,048 bytes, which its Ack repeats: all links, in parameters of one identifier
+    let ids: Vec<[u8; 4]> = (0..255).map(|i| [0, 0, 0, i % 128]).collect();
+    let named: Vec<_> = ids
+        .iter()
+        .map(|id| Parameter::new(sys::TAG_INTERFACE_ID, id))
+        .collect();
+    let message = write(MessageType::Active, &named).unwrap();
+    let event = Event::Message {
+        asp: 1,
+        message: &message,
+    };
+    let next = sent(&g, &event, &mut hold, &mut orders);
+    // the Ack, then in each AS its 8 units and 16 Notifies
+    assert_eq!(orders.len(), 385);
+    let messages: Vec<_> = g
+        .messages(&event, &hold)
+        .map(|m| m.unwrap().unwrap())
+        .collect();
+    let bytes: usize = messages.iter().map(Vec::len).sum();
+    assert_eq!(bytes, 2048 + 128 * 304 + 256 * 52);
+    let mut out = vec![0; 65536];
+    assert_eq!(
+        g.orders_into(&event, &hold, 0, &mut [0; sys::MAX_ORDERS], &mut out),
+        Ok((385, bytes))
+    );
+    assert_eq!(out[..bytes], messages.concat());
+    for (place, (order, message)) in orders.iter().zip(&messages).enumerate().skip(1) {
+        let (server, within) = ((place - 1) / 24, (place - 1) % 24);
+        let is_unit = order.message == MessageType::Data;
+        assert_eq!(is_unit, within < 8, "{place}: {order}");
+        if is_unit {
+            let id = (server * 8 + within) as u8;
+            assert_eq!(m2ua::protocol_data(message), [id; sys::MAX_DATA]);
+            let tags: Vec<_> = m2ua::parameters(message).map(|p| p.tag).collect();
+            assert_eq!(tags, [0x1, 0x301, 0x13]);
+            assert_eq!(
+                read(message).unwrap().correlation,
+                Some(1 << 24 | u32::from(id))
+            );
+        }
+    }
+    assert!((0..16).all(|a| g.held(a).count() == 8 && next.held(a).count() == 0));
 }

@@ -1,7 +1,7 @@
 //! The samples of docs/RULES.md (11.1 to 11.5) and what lies around them, through the crate.
 use m2ua::{
     parameter, parameters, protocol_data, read, sys, write, Addressee, AsState, Event, Gateway,
-    LinkState, MessageType, Order, Orders, Parameter, TrafficMode,
+    Hold, LinkState, MessageType, Order, Orders, Parameter, Refusal, TrafficMode, Unit,
 };
 
 const M: [u8; 28] = [
@@ -39,9 +39,9 @@ fn bare(message: MessageType) -> Vec<u8> {
 }
 
 /// The event is accepted with these orders, as four numbers each.
-fn takes(g: &mut Gateway, event: Event, expected: &[(u32, u32, u32, u32)]) {
+fn takes(g: &mut Gateway, hold: &mut Hold, event: Event, expected: &[(u32, u32, u32, u32)]) {
     let mut orders = Orders::new();
-    *g = g.event(&event, &mut orders).unwrap();
+    *g = g.event(&event, hold, &mut orders).unwrap();
     let to = |o: &Order| match o.to {
         Addressee::Asp(p) => p as u32,
         Addressee::LinkSide => 255,
@@ -59,7 +59,7 @@ fn takes(g: &mut Gateway, event: Event, expected: &[(u32, u32, u32, u32)]) {
 
 #[test]
 fn the_samples_of_events() {
-    let mut g = plan_s();
+    let (mut g, mut hold) = (plan_s(), Hold::new());
     let (up, active, down) = (
         bare(MessageType::Up),
         bare(MessageType::Active),
@@ -67,6 +67,7 @@ fn the_samples_of_events() {
     );
     takes(
         &mut g,
+        &mut hold,
         Event::Message {
             asp: 0,
             message: &up,
@@ -77,6 +78,7 @@ fn the_samples_of_events() {
     to_116[27] = 116;
     takes(
         &mut g,
+        &mut hold,
         Event::Message {
             asp: 0,
             message: &to_116,
@@ -85,6 +87,7 @@ fn the_samples_of_events() {
     );
     takes(
         &mut g,
+        &mut hold,
         Event::Message {
             asp: 0,
             message: &M,
@@ -93,6 +96,7 @@ fn the_samples_of_events() {
     );
     takes(
         &mut g,
+        &mut hold,
         Event::Message {
             asp: 1,
             message: &up,
@@ -101,6 +105,7 @@ fn the_samples_of_events() {
     );
     takes(
         &mut g,
+        &mut hold,
         Event::Message {
             asp: 1,
             message: &active,
@@ -110,6 +115,7 @@ fn the_samples_of_events() {
     assert!(g.is_active(0, 1) && !g.is_active(0, 0));
     takes(
         &mut g,
+        &mut hold,
         Event::Message {
             asp: 1,
             message: &down,
@@ -117,14 +123,19 @@ fn the_samples_of_events() {
         &[(1, 773, 0, 0), (0, 1, 0, 65540)],
     );
     assert!(g.is_waiting(0));
-    takes(&mut g, Event::Recovery { r#as: 0 }, &[(0, 1, 0, 65538)]);
+    takes(
+        &mut g,
+        &mut hold,
+        Event::Recovery { r#as: 0 },
+        &[(0, 1, 0, 65538)],
+    );
     assert!(!g.is_waiting(0));
 }
 
 #[test]
 fn a_link_in_words() {
     let mut g = plan_s();
-    let mut orders = Orders::new();
+    let (mut hold, mut orders) = (Hold::new(), Orders::new());
     let id = 100u32.to_be_bytes();
     let link = [Parameter::new(sys::TAG_INTERFACE_ID, &id)];
     let establish = write(MessageType::EstablishRequest, &link).unwrap();
@@ -162,7 +173,7 @@ fn a_link_in_words() {
         Event::Lost { asp: 0 },
     ] {
         said.push(format!("{event}"));
-        g = g.event(&event, &mut orders).unwrap();
+        g = g.event(&event, &mut hold, &mut orders).unwrap();
         said.extend(orders.iter().map(|o| format!("  {o}")));
         if matches!(event, Event::LinkUp { .. }) {
             assert_eq!(g.link_state(0), Some(LinkState::InService));
@@ -195,7 +206,7 @@ ASP 0: association lost";
 #[test]
 fn refusals_leave_all_as_it_was() {
     let g = plan_s();
-    let mut orders = Orders::new();
+    let (mut hold, mut orders) = (Hold::new(), Orders::new());
     for event in [
         Event::Lost { asp: 3 },
         Event::Recovery { r#as: 2 },
@@ -204,7 +215,7 @@ fn refusals_leave_all_as_it_was() {
         Event::LinkMessage { message: &[] },
         Event::LinkMessage { message: &M },
     ] {
-        let no = g.event(&event, &mut orders).unwrap_err();
+        let no = g.event(&event, &mut hold, &mut orders).unwrap_err();
         assert_eq!((no.code(), orders.len()), (102, 0), "{event}");
     }
     assert_eq!(g, plan_s());
@@ -254,14 +265,18 @@ fn plans() {
 }
 
 #[test]
-fn the_most_orders() {
+fn an_up_with_many_orders() {
     let asps: Vec<(u32, u16)> = (0..16).map(|i| (i, 0xffff)).collect();
     let mut g = Gateway::load(&plan(&asps, &[3; 16], &[])).unwrap();
-    let mut orders = Orders::new();
+    let (mut hold, mut orders) = (Hold::new(), Orders::new());
     let (up, active) = (bare(MessageType::Up), bare(MessageType::Active));
     for asp in 0..16 {
         g = g
-            .event(&Event::Message { asp, message: &up }, &mut orders)
+            .event(
+                &Event::Message { asp, message: &up },
+                &mut hold,
+                &mut orders,
+            )
             .unwrap();
     }
     g = g
@@ -270,6 +285,7 @@ fn the_most_orders() {
                 asp: 0,
                 message: &active,
             },
+            &mut hold,
             &mut orders,
         )
         .unwrap();
@@ -278,10 +294,11 @@ fn the_most_orders() {
             asp: 0,
             message: &up,
         },
+        &mut hold,
         &mut orders,
     )
     .unwrap();
-    assert_eq!(orders.len(), sys::MAX_ORDERS);
+    assert_eq!(orders.len(), 258);
     assert!(orders.get(257).is_some() && orders.get(258).is_none());
 }
 
@@ -354,9 +371,13 @@ fn states_may_go_to_other_threads() {
     let up = bare(MessageType::Up);
     let counts: Vec<usize> = std::thread::scope(|s| {
         let run = |asp| {
-            let mut orders = Orders::new();
-            g.event(&Event::Message { asp, message: &up }, &mut orders)
-                .unwrap();
+            let (mut hold, mut orders) = (Hold::new(), Orders::new());
+            g.event(
+                &Event::Message { asp, message: &up },
+                &mut hold,
+                &mut orders,
+            )
+            .unwrap();
             orders.len()
         };
         let threads: Vec<_> = (0..3).map(|asp| s.spawn(move || run(asp))).collect();
@@ -375,7 +396,7 @@ fn what_a_host_asks_beside_the_events() {
     );
     assert_eq!((g.as_state(0), g.as_state(2)), (Some(AsState::Down), None));
     let (up, active) = (bare(MessageType::Up), bare(MessageType::Active));
-    let mut orders = Orders::new();
+    let (mut hold, mut orders) = (Hold::new(), Orders::new());
     for (event, state, started, stopped) in [
         (
             Event::Message {
@@ -398,7 +419,7 @@ fn what_a_host_asks_beside_the_events() {
         (Event::Lost { asp: 0 }, AsState::Pending, 1, 0),
         (Event::Recovery { r#as: 0 }, AsState::Down, 0, 1),
     ] {
-        let next = g.event(&event, &mut orders).unwrap();
+        let next = g.event(&event, &mut hold, &mut orders).unwrap();
         let timers = g.timers(&next);
         assert_eq!(
             (timers.started().count(), timers.stopped().count()),
@@ -476,4 +497,197 @@ fn long_lists_are_written_too() {
         write(MessageType::Active, &ids[..256]).unwrap_err().code(),
         7
     );
+}
+
+/// Data of a link with one parameter of data, and a correlation id where there is one.
+fn unit(id: u8, tag: u16, value: &[u8], correlation: Option<u8>) -> Vec<u8> {
+    let (id, number) = ([0, 0, 0, id], [0, 0, 0, correlation.unwrap_or(0)]);
+    let mut list = vec![Parameter::new(sys::TAG_INTERFACE_ID, &id)];
+    if correlation.is_some() {
+        list.push(Parameter::new(sys::TAG_CORRELATION_ID, &number));
+    }
+    list.push(Parameter::new(tag, value));
+    write(MessageType::Data, &list).unwrap()
+}
+
+/// Plan S with ASP 0 and ASP 1 up, and AS 0 pending since ASP 1 was lost.
+fn pending() -> Gateway {
+    let (mut g, mut hold) = (plan_s(), Hold::new());
+    let (up, active) = (bare(MessageType::Up), bare(MessageType::Active));
+    for event in [
+        Event::Message {
+            asp: 0,
+            message: &up,
+        },
+        Event::Message {
+            asp: 1,
+            message: &up,
+        },
+        Event::Message {
+            asp: 1,
+            message: &active,
+        },
+        Event::Lost { asp: 1 },
+    ] {
+        g = g.event(&event, &mut hold, &mut Orders::new()).unwrap();
+    }
+    assert_eq!(g.as_state(0), Some(AsState::Pending));
+    g
+}
+
+#[test]
+fn units_wait_with_a_pending_as_and_go_out_first() {
+    let (mut g, mut hold) = (
+        pending(),
+        Hold::from_bytes(&[0xee; sys::HOLD_BYTES]).unwrap(),
+    );
+    let (first, second) = (
+        unit(100, sys::TAG_DATA_1, b"one", None),
+        unit(115, sys::TAG_DATA_2, b"second", Some(0)),
+    );
+    for message in [&first, &second] {
+        takes(&mut g, &mut hold, Event::LinkMessage { message }, &[]);
+    }
+    let held: Vec<Unit> = g.held(0).collect();
+    assert_eq!(
+        held,
+        [
+            Unit {
+                tag: 0x300,
+                length: 7,
+                link: 100,
+                correlation: None
+            },
+            Unit {
+                tag: 0x301,
+                length: 10,
+                link: 115,
+                correlation: Some(0)
+            },
+        ]
+    );
+    assert_eq!(
+        (
+            g.held(1).count(),
+            g.held(16).count(),
+            g.held(usize::MAX).count()
+        ),
+        (0, 0, 0)
+    );
+    assert_eq!(g.unit_bytes(&hold, 0, 0), Some(&b"one"[..]));
+    assert_eq!(g.unit_bytes(&hold, 0, 1), Some(&b"second"[..]));
+    assert_eq!(
+        (g.unit_bytes(&hold, 0, 2), g.unit_bytes(&hold, 1, 0)),
+        (None, None)
+    );
+    // places 0 and 1, and nothing else
+    let mut expected = vec![0xee; sys::HOLD_BYTES];
+    expected[..3].copy_from_slice(b"one");
+    expected[273..279].copy_from_slice(b"second");
+    assert_eq!(hold.bytes()[..], expected);
+    assert_eq!(
+        g.to_string(),
+        "up: ASP 0; AS 0: none, waits, 2 units held; AS 1: none"
+    );
+    let active = bare(MessageType::Active);
+    let back = Event::Message {
+        asp: 0,
+        message: &active,
+    };
+    let sent: Vec<_> = g
+        .messages(&back, &hold)
+        .map(|m| m.unwrap().unwrap())
+        .collect();
+    takes(
+        &mut g,
+        &mut hold,
+        back,
+        &[
+            (0, 1027, 0, 0),
+            (0, 1537, 100, 0),
+            (0, 1537, 115, 0),
+            (0, 1, 0, 65539),
+        ],
+    );
+    assert_eq!(sent[1], first);
+    // the second came with its correlation id before the data, and goes out with it behind
+    let tags: Vec<u16> = parameters(&sent[2]).map(|p| p.tag).collect();
+    assert_eq!(
+        (tags, protocol_data(&sent[2])),
+        (vec![0x1, 0x301, 0x13], &b"second"[..])
+    );
+    assert_eq!((g.held(0).count(), hold.bytes()[..] == expected), (0, true));
+    // active again, nothing is held
+    takes(
+        &mut g,
+        &mut hold,
+        Event::LinkMessage { message: &first },
+        &[(0, 1537, 100, 0)],
+    );
+}
+
+#[test]
+fn a_ninth_is_turned_away_and_recovery_discards() {
+    let (mut g, mut hold) = (pending(), Hold::new());
+    for k in 0..10 {
+        let message = unit(100 + k, sys::TAG_DATA_1, &[k], None);
+        takes(
+            &mut g,
+            &mut hold,
+            Event::LinkMessage { message: &message },
+            &[],
+        );
+    }
+    let links: Vec<u32> = g.held(0).map(|u| u.link).collect();
+    assert_eq!(links, [100, 101, 102, 103, 104, 105, 106, 107]);
+    assert_eq!(g.unit_bytes(&hold, 0, 7), Some(&[7][..]));
+    assert_eq!(g.unit_bytes(&hold, 0, 8), None);
+    let before = hold.clone();
+    takes(
+        &mut g,
+        &mut hold,
+        Event::Recovery { r#as: 0 },
+        &[(0, 1, 0, 65538)],
+    );
+    assert_eq!((g.held(0).count(), hold == before), (0, true));
+    // a state that holds units without waiting is not sound
+    let mut raw = *g.raw();
+    raw.held.count[0] = 1;
+    assert_eq!(Gateway::from_raw(raw).unwrap_err().code(), 105);
+}
+
+#[test]
+fn a_hold_of_another_length_is_refused() {
+    let g = pending();
+    let message = unit(100, sys::TAG_DATA_1, b"unit", None);
+    let refusal = Refusal::of(106).unwrap();
+    assert_eq!(
+        refusal.to_string(),
+        "106 (the lent hold has another length)"
+    );
+    let (mut words, mut out) = ([7; sys::LIST_WORDS], [7; 64]);
+    for bytes in [0, 1, sys::HOLD_BYTES - 1, sys::HOLD_BYTES + 1] {
+        let mut hold = vec![0x5c; bytes];
+        assert_eq!(Hold::from_bytes(&hold), None);
+        let r = sys::event(
+            g.raw(),
+            sys::LINK_MESSAGE,
+            0,
+            &message,
+            &mut hold,
+            &mut words,
+        );
+        assert_eq!((r.refusal, r.count, r.gateway == *g.raw()), (106, 0, true));
+        // before a list that is short, and after an ASP that there is not
+        let r = sys::event(g.raw(), sys::LOST, 0, &[], &mut hold, &mut words[..0]);
+        assert_eq!(r.refusal, 106);
+        let r = sys::event(g.raw(), sys::LOST, 3, &[], &mut hold, &mut words);
+        assert_eq!(r.refusal, 102);
+        let w = sys::order(g.raw(), sys::LOST, 0, &[], &hold, 9, &mut out);
+        assert_eq!((w.code, w.length), (106, 0));
+        let b = sys::orders(g.raw(), sys::LOST, 0, &[], &hold, 9, &mut [], &mut out);
+        assert_eq!((b.code, b.count, b.length), (106, 0, 0));
+        assert!(hold.iter().all(|byte| *byte == 0x5c));
+    }
+    assert_eq!((words, out), ([7; sys::LIST_WORDS], [7; 64]));
 }

@@ -1,26 +1,29 @@
 -- What the parts of a `Decision` are, by `what`.
 -- Assumes nothing.
-use Prim.Native.Nat.{ℕ, _+_, _*_, _<_, _≤_}
+use Prim.Native.Nat.{ℕ, _+_, _-_, _*_, _<_, _≤_}
 use mathlib.Core.Path.{_≡_, refl, ap, _∙_, sym}
 use mathlib.Core.Bool.{Bool, true, false, cond, not, _&&_, _||_, false≢true}
 use mathlib.Core.List.{List, [], _∷_, _++_}
 use native.Mathlib.Omega.{arith}
 use lib.Dec.{eqb, ltb}
 use lib.ListN.{length, set, length-append}
-use borrow.Author.Tests.{ne-eqb, eqb-true, eqb-false, le-ltb, ltb-true, ltb-false}
+use borrow.Author.Tests.{ne-eqb, eqb-true, eqb-false}
 use Rattle.laws.specs.Below.{when}
 use Rattle.action.specs.declared.Action.{Action}
-use Rattle.action.specs.Inner.Words.{Written, toAll-short, written-append, written-length}
+use Rattle.action.specs.Inner.Words.{Written, toAll-short, written-none, written-append, written-length}
+use Rattle.gateway.specs.Sound.{unitIndex}
 use Rattle.gateway.specs.declared.Gateway.{Gateway}
-use Rattle.server.specs.Record.{recordFrom}
-use Rattle.servers.specs.Changed.{withChange, upAfter, allActions}
+use Rattle.gateway.specs.declared.Units.{Units}
+use Rattle.server.specs.Record.{recordFrom, recordOf}
+use Rattle.servers.specs.Changed.{withChange, unitsWithout, unitsWith, letsGo, upAfter, allActions}
 use Rattle.servers.specs.Inner.Changed.{allActions-short}
 use Rattle.servers.specs.Inner.Run.{Ran, ran-actions}
 use Rattle.rules.specs.declared.Decision.{Decision}
-use Rattle.rules.specs.Effect.{Effect, send, setLink, changeIn, actionsOf, stateAfter}
-use Rattle.rules.specs.Inner.Decision.{firstActions, spread, effectIn}
+use Rattle.rules.specs.Effect.{Effect, send, setLink, changeIn, takeIn, actionsOf, stateAfter, holdAt, holdAfter}
+use Rattle.rules.specs.Inner.Decision.{firstActions, spread, arrivalIn, effectIn}
 use Rattle.work.specs.Inner.Decides.{aspOf, fits-asp}
 use Rattle.events.specs.Inner.Perform.{Performed}
+use Rattle.events.specs.declared.Put.{Put}
 
 -- the actions that are written before a change in ASes
 unfoldable pub firstOf : Decision → List Action
@@ -31,19 +34,35 @@ unfoldable pub linkAfter : Effect → List ℕ → List ℕ
 linkAfter (send os) state = state
 linkAfter (setLink l v os) state = set state l v
 linkAfter (changeIn os k named) state = state
+linkAfter (takeIn a x) state = state
 
--- the effect d done on the state g: the words, and the columns of ASPs and ASes after it
-pub record Enacted (g : Gateway) (d : Effect) (ws up active waiting ws′ : List ℕ) (n : ℕ) : Type 0 where
+-- the effect d done on the state g: the words, and the columns of ASPs and ASes and the units after it
+pub record Enacted (g : Gateway) (d : Effect) (ws up active waiting ws′ : List ℕ) (held : Units) (n : ℕ) : Type 0 where
   pub wrote : Written ws 0 (actionsOf g d) ws′ n
-  pub few : length (actionsOf g d) ≤ 258
+  pub few : length (actionsOf g d) ≤ 386
   pub up-is : up ≡ stateAfter g d .up
   pub active-is : active ≡ stateAfter g d .active
   pub waiting-is : waiting ≡ stateAfter g d .waiting
+  pub held-is : held ≡ stateAfter g d .held
 
 -- what the change of w in its ASes leaves of columns and words, behind n actions
-pub record Changed (w : Decision) (up member mode active waiting ws : List ℕ) (n : ℕ) (up′ active′ waiting′ ws′ : List ℕ) (r : ℕ) : Type 0 where
-  pub ran : Ran (w .change) (w .who) (recordFrom up member active waiting mode) active waiting ws n active′ waiting′ ws′ r
+pub record Changed (w : Decision) (up member mode count id active waiting ws : List ℕ) (n : ℕ) (up′ active′ waiting′ ws′ : List ℕ) (r : ℕ) : Type 0 where
+  pub ran : Ran (w .change) (w .who) (recordFrom up member active waiting mode) count id active waiting ws n active′ waiting′ ws′ r
   pub marked : up′ ≡ upAfter (w .change) up
+
+-- where a unit that comes in goes, which is the k-th of its AS
+unfoldable pub putIn : Decision → ℕ → Put
+putIn w k =
+    record {
+      at = unitIndex (w .link) k;
+      tag = w .first .to;
+      length = w .first .classtype;
+      marked = w .state;
+      start = w .second .to;
+      bytes = w .first .classtype - 4;
+      place = holdAt (w .link) k;
+      count = k + 1;
+    }
 
 -- ---- laws
 
@@ -97,38 +116,64 @@ effect-send w h = go (eqb (w .what) 0) (eqb (w .what) 3) refl refl h
     go false true e f h = rw (eqb-true (w .what) 3 f)
     go false false e f h = absurd (false≢true h)
 
-effect-set : (w : Decision) → (w .what ≡ 2 → ⊥) → (eqb (w .what) 0 || eqb (w .what) 3) ≡ false → effectIn w ≡ setLink (w .link) (w .state) (firstOf w)
+effect-set : (w : Decision) → (w .what ≡ 2 → ⊥) → w .what < 5 → (eqb (w .what) 0 || eqb (w .what) 3) ≡ false → effectIn w ≡ setLink (w .link) (w .state) (firstOf w)
 unfolding effectIn firstOf
-effect-set w n h = go (eqb (w .what) 0) (eqb (w .what) 1) (eqb (w .what) 3) refl refl refl h
+effect-set w n l h = go (eqb (w .what) 0) (eqb (w .what) 1) (eqb (w .what) 3) refl refl refl h
   where
     go : (u v t : Bool) → eqb (w .what) 0 ≡ u → eqb (w .what) 1 ≡ v → eqb (w .what) 3 ≡ t → (u || t) ≡ false → effectIn w ≡ setLink (w .link) (w .state) (firstOf w)
     go true v t e f q h = absurd (false≢true (sym h))
     go false v true e f q h = absurd (false≢true (sym h))
     go false true false e f q h = rw (eqb-true (w .what) 1 f)
     go false false false e f q h =
-        let z : 3 ≤ w .what = omega (arith, eqb-false (w .what) 0 e, eqb-false (w .what) 1 f) in
-        rw (e, f, ne-eqb (w .what) 2 n, q, le-ltb (w .what) 3 z)
+        let z : w .what ≡ 4 = omega (arith, n, eqb-false (w .what) 0 e, eqb-false (w .what) 1 f, eqb-false (w .what) 3 q) in
+        rw z
+
+-- a unit comes in
+pub effect-take : (w : Decision) → 4 < w .what → effectIn w ≡ takeIn (w .link) (arrivalIn w)
+unfolding effectIn
+effect-take w l =
+    rw (ne-eqb (w .what) 0 (λ e. omega arith), ne-eqb (w .what) 1 (λ e. omega arith), ne-eqb (w .what) 2 (λ e. omega arith), ne-eqb (w .what) 3 (λ e. omega arith), ne-eqb (w .what) 4 (λ e. omega arith))
+
+-- nothing else writes the hold
+pub hold-stays : (g : Gateway) (w : Decision) (s h : List ℕ) (b : Bool) → w .what < 5 → h ≡ cond b (holdAfter g s (effectIn w) h) h
+unfolding effectIn
+hold-stays g w s h b l = go (eqb (w .what) 0) (eqb (w .what) 1) (eqb (w .what) 2) (eqb (w .what) 3) (eqb (w .what) 4) refl refl refl refl refl b
+  where
+    same : (b : Bool) → h ≡ cond b h h
+    same true = refl
+    same false = refl
+
+    go : (x y z t u : Bool) → eqb (w .what) 0 ≡ x → eqb (w .what) 1 ≡ y → eqb (w .what) 2 ≡ z → eqb (w .what) 3 ≡ t → eqb (w .what) 4 ≡ u → (b : Bool)
+        → h ≡ cond b (holdAfter g s (cond x (send (firstActions w)) (cond y (setLink (w .link) (w .state) (firstActions w)) (cond z (changeIn (firstActions w) (w .change) (w .who)) (cond t (send (spread w)) (cond u (setLink (w .link) (w .state) (spread w)) (takeIn (w .link) (arrivalIn w))))))) h) h
+    go true y z t u e f p q v b = same b
+    go false true z t u e f p q v b = same b
+    go false false true t u e f p q v b = same b
+    go false false false true u e f p q v b = same b
+    go false false false false true e f p q v b = same b
+    go false false false false false e f p q v b =
+        let n : ⊥ = omega (arith, l, eqb-false (w .what) 0 e, eqb-false (w .what) 1 f, eqb-false (w .what) 2 p, eqb-false (w .what) 3 q, eqb-false (w .what) 4 v) in absurd n
 
 -- ---- the effect done
 
 -- room for the change behind the first actions
-pub change-room : (w : Decision) {ws ws′ : List ℕ} {n : ℕ} → w .what ≡ 2 → 1032 ≤ length ws → Written ws 0 (firstOf w) ws′ n → n * 4 + 1024 ≤ length ws′
+pub change-room : (w : Decision) {ws ws′ : List ℕ} {n : ℕ} → w .what ≡ 2 → 1544 ≤ length ws → Written ws 0 (firstOf w) ws′ n → n * 4 + 1536 ≤ length ws′
 change-room w q h x = omega (arith, x .next, written-length x, ap length (first-change w q), given-short w, h)
 
 module _ (g : Gateway) (w : Decision) {ws ws′ : List ℕ} {n : ℕ} where
   -- no change in ASes
-  pub enacted-first : (w .what ≡ 2 → ⊥) → Written ws 0 (firstOf w) ws′ n → Enacted g (effectIn w) ws (g .up) (g .active) (g .waiting) ws′ n
-  enacted-first q x = go (eqb (w .what) 0 || eqb (w .what) 3) refl
+  pub enacted-first : (w .what ≡ 2 → ⊥) → w .what < 5 → Written ws 0 (firstOf w) ws′ n → Enacted g (effectIn w) ws (g .up) (g .active) (g .waiting) ws′ (g .held) n
+  enacted-first q l x = go (eqb (w .what) 0 || eqb (w .what) 3) refl
     where
-      go : (u : Bool) → (eqb (w .what) 0 || eqb (w .what) 3) ≡ u → Enacted g (effectIn w) ws (g .up) (g .active) (g .waiting) ws′ n
-      go true e = rw (effect-send w e) (record { wrote = x; few = omega (arith, first-short w); up-is = refl; active-is = refl; waiting-is = refl })
-      go false e = rw (effect-set w q e) (record { wrote = x; few = omega (arith, first-short w); up-is = refl; active-is = refl; waiting-is = refl })
+      go : (u : Bool) → (eqb (w .what) 0 || eqb (w .what) 3) ≡ u → Enacted g (effectIn w) ws (g .up) (g .active) (g .waiting) ws′ (g .held) n
+      go true e = rw (effect-send w e) (record { wrote = x; few = omega (arith, first-short w); up-is = refl; active-is = refl; waiting-is = refl; held-is = refl })
+      go false e = rw (effect-set w q l e) (record { wrote = x; few = omega (arith, first-short w); up-is = refl; active-is = refl; waiting-is = refl; held-is = refl })
 
-  pub enacted-change : {ws″ up′ active′ waiting′ : List ℕ} {m : ℕ} → w .what ≡ 2 → aspOf (w .change) < 16 → Written ws 0 (firstOf w) ws′ n
-      → Changed w (g .up) (g .member) (g .mode) (g .active) (g .waiting) ws′ n up′ active′ waiting′ ws″ m
-      → Enacted g (effectIn w) ws up′ active′ waiting′ ws″ m
+  pub enacted-change : {ws″ up′ active′ waiting′ : List ℕ} {held : Units} {m : ℕ} → w .what ≡ 2 → aspOf (w .change) < 16 → Written ws 0 (firstOf w) ws′ n
+      → Changed w (g .up) (g .member) (g .mode) (g .held .count) (g .held .id) (g .active) (g .waiting) ws′ n up′ active′ waiting′ ws″ m
+      → held ≡ unitsWithout (letsGo (w .change) (w .who) (recordOf g) (g .held .count)) (g .held)
+      → Enacted g (effectIn w) ws up′ active′ waiting′ ws″ held m
   unfolding withChange allActions
-  enacted-change q f x y =
+  enacted-change q f x y h =
       rw (effect-change w q)
       (record {
         wrote = written-append (rw (first-change w q) at x) (ran-actions g (y .ran));
@@ -136,39 +181,41 @@ module _ (g : Gateway) (w : Decision) {ws ws′ : List ℕ} {n : ℕ} where
         up-is = y .marked;
         active-is = y .ran .acts;
         waiting-is = y .ran .waits;
+        held-is = h;
       })
 
--- the links' states, by `what`
-pub settled : (w : Decision) (state : List ℕ) → (eqb (w .what) 1 || ltb 3 (w .what)) ≡ true → set state (w .link) (w .state) ≡ linkAfter (effectIn w) state
-unfolding linkAfter effectIn
-settled w state h = go (eqb (w .what) 0) (eqb (w .what) 1) (eqb (w .what) 2) (eqb (w .what) 3) refl refl refl refl h
-  where
-    go : (x y z t : Bool) → eqb (w .what) 0 ≡ x → eqb (w .what) 1 ≡ y → eqb (w .what) 2 ≡ z → eqb (w .what) 3 ≡ t → (y || ltb 3 (w .what)) ≡ true
-        → set state (w .link) (w .state) ≡ linkAfter (cond x (send (firstActions w)) (cond y (setLink (w .link) (w .state) (firstActions w)) (cond z (changeIn (firstActions w) (w .change) (w .who)) (cond t (send (spread w)) (setLink (w .link) (w .state) (spread w)))))) state
-    go true true z t e f p q h = let l = eqb-true (w .what) 0 e in let o = eqb-true (w .what) 1 f in let n : ⊥ = omega (arith, l, o) in absurd n
-    go true false z t e f p q h = let l = ltb-true 3 (w .what) h in let o = eqb-true (w .what) 0 e in let n : ⊥ = omega (arith, l, o) in absurd n
-    go false true z t e f p q h = refl
-    go false false true t e f p q h = let l = ltb-true 3 (w .what) h in let o = eqb-true (w .what) 2 p in let n : ⊥ = omega (arith, l, o) in absurd n
-    go false false false true e f p q h = let l = ltb-true 3 (w .what) h in let o = eqb-true (w .what) 3 q in let n : ⊥ = omega (arith, l, o) in absurd n
-    go false false false false e f p q h = refl
+pub enacted-take : (g : Gateway) (w : Decision) {ws : List ℕ} {held : Units} → 4 < w .what → held ≡ unitsWith (g .held) (w .link) (arrivalIn w) → Enacted g (effectIn w) ws (g .up) (g .active) (g .waiting) ws held 0
+enacted-take g w {ws} l h =
+    rw (effect-take w l) (record { wrote = written-none ws 0; few = omega arith; up-is = refl; active-is = refl; waiting-is = refl; held-is = h })
 
-pub unsettled : (w : Decision) (state : List ℕ) → (eqb (w .what) 1 || ltb 3 (w .what)) ≡ false → state ≡ linkAfter (effectIn w) state
+-- the links' states, by `what`
+pub settled : (w : Decision) (state : List ℕ) → (eqb (w .what) 1 || eqb (w .what) 4) ≡ true → set state (w .link) (w .state) ≡ linkAfter (effectIn w) state
 unfolding linkAfter effectIn
-unsettled w state h = go (eqb (w .what) 0) (eqb (w .what) 1) (eqb (w .what) 2) (eqb (w .what) 3) refl refl refl refl h
+settled w state h = go (eqb (w .what) 1) (eqb (w .what) 4) refl refl h
   where
-    go : (x y z t : Bool) → eqb (w .what) 0 ≡ x → eqb (w .what) 1 ≡ y → eqb (w .what) 2 ≡ z → eqb (w .what) 3 ≡ t → (y || ltb 3 (w .what)) ≡ false
-        → state ≡ linkAfter (cond x (send (firstActions w)) (cond y (setLink (w .link) (w .state) (firstActions w)) (cond z (changeIn (firstActions w) (w .change) (w .who)) (cond t (send (spread w)) (setLink (w .link) (w .state) (spread w)))))) state
-    go true y z t e f p q h = refl
-    go false true z t e f p q h = absurd (false≢true (sym h))
-    go false false true t e f p q h = refl
-    go false false false true e f p q h = refl
-    go false false false false e f p q h = let l = ltb-false 3 (w .what) h in let n : ⊥ = omega (arith, l, eqb-false (w .what) 0 e, eqb-false (w .what) 1 f, eqb-false (w .what) 2 p, eqb-false (w .what) 3 q) in absurd n
+    go : (y t : Bool) → eqb (w .what) 1 ≡ y → eqb (w .what) 4 ≡ t → (y || t) ≡ true → set state (w .link) (w .state) ≡ linkAfter (effectIn w) state
+    go true t e f h = rw (eqb-true (w .what) 1 e)
+    go false true e f h = rw (eqb-true (w .what) 4 f)
+    go false false e f h = absurd (false≢true h)
+
+pub unsettled : (w : Decision) (state : List ℕ) → (eqb (w .what) 1 || eqb (w .what) 4) ≡ false → state ≡ linkAfter (effectIn w) state
+unfolding linkAfter effectIn
+unsettled w state h = go (eqb (w .what) 0) (eqb (w .what) 1) (eqb (w .what) 2) (eqb (w .what) 3) (eqb (w .what) 4) h
+  where
+    go : (x y z t u : Bool) → (y || u) ≡ false
+        → state ≡ linkAfter (cond x (send (firstActions w)) (cond y (setLink (w .link) (w .state) (firstActions w)) (cond z (changeIn (firstActions w) (w .change) (w .who)) (cond t (send (spread w)) (cond u (setLink (w .link) (w .state) (spread w)) (takeIn (w .link) (arrivalIn w))))))) state
+    go true y z t u h = refl
+    go false true z t u h = absurd (false≢true (sym h))
+    go false false true t u h = refl
+    go false false false true u h = refl
+    go false false false false true h = absurd (false≢true (sym h))
+    go false false false false false h = refl
 
 -- ---- on the whole state
 
 -- the gateway with these columns
-abbrev laidIn : Gateway → List ℕ → List ℕ → List ℕ → List ℕ → Gateway
-laidIn g up active waiting state =
+abbrev laidIn : Gateway → List ℕ → List ℕ → List ℕ → List ℕ → Units → Gateway
+laidIn g up active waiting state held =
     record {
       asps = g .asps;
       ases = g .ases;
@@ -183,16 +230,19 @@ laidIn g up active waiting state =
       iid = g .iid;
       owner = g .owner;
       state = state;
+      held = held;
     }
 
-pub performed : (g : Gateway) (d : Effect) {up active waiting state ws ws′ : List ℕ} {n : ℕ}
-    → Enacted g d ws up active waiting ws′ n
+pub performed : (g : Gateway) (d : Effect) {up active waiting state ws ws′ : List ℕ} {held : Units} {n : ℕ}
+    → Enacted g d ws up active waiting ws′ held n
     → state ≡ linkAfter d (g .state)
-    → Performed g d ws ws′ (record { refusal = 0; count = n; gateway = laidIn g up active waiting state })
+    → Performed g d ws ws′ (record { refusal = 0; count = n; gateway = laidIn g up active waiting state held })
 unfolding linkAfter withChange allActions
 performed g (send os) e s =
-    record { accepted = refl; wrote = e .wrote; few = e .few; state = rw (e .up-is, e .active-is, e .waiting-is, s) }
+    record { accepted = refl; wrote = e .wrote; few = e .few; state = rw (e .up-is, e .active-is, e .waiting-is, e .held-is, s) }
 performed g (setLink l v os) e s =
-    record { accepted = refl; wrote = e .wrote; few = e .few; state = rw (e .up-is, e .active-is, e .waiting-is, s) }
+    record { accepted = refl; wrote = e .wrote; few = e .few; state = rw (e .up-is, e .active-is, e .waiting-is, e .held-is, s) }
 performed g (changeIn os k named) e s =
-    record { accepted = refl; wrote = e .wrote; few = e .few; state = rw (e .up-is, e .active-is, e .waiting-is, s) }
+    record { accepted = refl; wrote = e .wrote; few = e .few; state = rw (e .up-is, e .active-is, e .waiting-is, e .held-is, s) }
+performed g (takeIn a x) e s =
+    record { accepted = refl; wrote = e .wrote; few = e .few; state = rw (e .up-is, e .active-is, e .waiting-is, e .held-is, s) }

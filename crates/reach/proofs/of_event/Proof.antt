@@ -1,6 +1,5 @@
 -- `reach::of_event`: nothing where it is refused, else what is asked reaches. Assumes nothing.
-use mathlib.Core.Path.{_≡_, ap, sym, _∙_}
-use mathlib.Core.Bool.{Bool}
+use mathlib.Core.Path.{_≡_, sym, _∙_}
 use borrow.Author.Needs.{needs}
 use Rattle.gateway.specs.Sound.{isSound}
 use Rattle.gateway.specs.Inner.Laws.{counts-within}
@@ -16,22 +15,27 @@ use Rattle.reach.proofs.of_event.Tie as tie
 
 -- the way back: a further column that is lent makes it one longer
 abbrev to-asked : tie.After-refused → tie.After-asked
-to-asked c = c .before .before .before .before .before .before .before .before .before .before .before
+to-asked c = c .before .before .before .before .before .before .before .before .before .before .before .before .before .before .before .before .before .before .before .before
 
 abbrev start : tie.After-asked → tie.Start
 start c = c .before .before
 
 -- the event
 abbrev happens : tie.After-asked → Event
-happens c = eventOf (happened (start c .args .kind) (start c .args .i) (start c .args .msg .now)) (start c .args .room)
+happens c = eventOf (happened (start c .args .kind) (start c .args .i) (start c .args .msg .now)) (start c .args .room) (start c .args .hold)
 
 refusal-is : (c : tie.After-refused) → c .refused .result .code ≡ refusal (start (to-asked c) .args .t1) (happens (to-asked c))
 refusal-is c =
     c .refused .ensures .0
-    ∙ ap (λ (k : Bool). refusalOf (isSound (start (to-asked c) .args .t1)) k (start (to-asked c) .args .room)) (to-asked c .asked .ensures .known (start (to-asked c) .args .t1))
+    ∙ (λ j. refusalOf (c .before .before .before .sound-of .ensures j) (to-asked c .asked .ensures .known (start (to-asked c) .args .t1) j) (start (to-asked c) .args .hold) (start (to-asked c) .args .room))
 
-taken : (c : tie.After-refused) → c .refused .result .code ≡ 0 → Accepted (isSound (start (to-asked c) .args .t1)) (inPlan (start (to-asked c) .args .t1) (happens (to-asked c) .kind)) (start (to-asked c) .args .room)
-taken c h = accepted _ _ _ (sym (refusal-is c) ∙ h)
+taken : (c : tie.After-refused) → c .refused .result .code ≡ 0 → Accepted (isSound (start (to-asked c) .args .t1)) (inPlan (start (to-asked c) .args .t1) (happens (to-asked c) .kind)) (start (to-asked c) .args .hold) (start (to-asked c) .args .room)
+taken c h = accepted _ _ _ _ (sym (refusal-is c) ∙ h)
+
+refused-requires : tie.Need-refused-requires
+refused-requires c κs h =
+    let t = table (start (c .before .before .before .before .before .before .before .before .before .before .before .before .before .before .before .before .before .before .before) .args .t1) (sym (c .before .before .sound-of .ensures) ∙ h) in
+    (t .few, t .order)
 
 row-of-requires : tie.Need-row-of-requires
 row-of-requires c κs =
@@ -40,7 +44,7 @@ row-of-requires c κs =
     let a = to-asked r .asked .ensures in
     let t = taken r (c .before .before .before .before .before .if1 .left) in
     let w = c .before .before .before .before .wide .ensures in
-    (rw w (table g (t .sound-yes)), ask-fits-at g (to-asked r .asked .result) w (counts-within g (t .sound-yes)) (a .known g ∙ t .known-yes) (a .small))
+    (rw w (table g (t .sound-yes)), ask-fits-at g _ (to-asked r .asked .result) w (counts-within g (t .sound-yes)) (a .known g ∙ t .known-yes) (a .small))
 
 returns-2 : tie.Need-returns-2
 returns-2 c =
@@ -55,6 +59,7 @@ of-event-spec =
     (tie.spec
     (λ c κs. search needs)
     (λ c κs. search needs)
+    refused-requires
     (λ c. reached-no _ (happens (to-asked (c .before .before))) (refusal-is (c .before .before)) (c .if1 .taken))
     (λ c κs. search needs)
     row-of-requires

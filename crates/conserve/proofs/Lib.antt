@@ -1,0 +1,7 @@
+pub mod Count
+pub mod Held
+pub mod Sends
+pub mod Step
+pub mod Events
+pub mod Conserve
+pub mod Samples

@@ -1,0 +1,29 @@
+-- A history of plan S (Rule 11.1) in which all of it happens to units of AS 0: the statement is about something.
+-- Assumes nothing.
+use mathlib.Core.Path.{_≡_}
+use mathlib.Core.List.{List, [], _∷_, _++_, map}
+use Prim.Native.Nat.{ℕ}
+use lib.ListN.{replicate}
+use Rattle.rules.specs.Event.{EventKind, message, recovery, linkMessage}
+use Rattle.rules.specs.Effect.{holdBytes}
+use Rattle.rules.specs.Calls.{Board, Call, events, Calls}
+use Rattle.rules.specs.Samples.{fresh, event, bare, unit}
+use Rattle.conserve.specs.Conserve.{Tally, tally, holds}
+
+-- ASP 0 takes AS 0 over, and leaves it pending
+unfoldable pub leaves : List EventKind
+leaves = message 0 (bare 4 1) ∷ message 0 (bare 4 2) ∷ []
+
+-- ASP 0 comes up; nine units come in, the ninth is turned away, eight go out; one comes in and is discarded; one comes in and is held
+unfoldable pub day : List EventKind
+day =
+    message 0 (bare 3 1) ∷ leaves
+    ++ (replicate 9 (linkMessage unit) ++ (leaves ++ (linkMessage unit ∷ recovery 0 ∷ leaves ++ (linkMessage unit ∷ []))))
+
+pub record Day : Type 0 where
+  pub calls : List Call
+  pub end : Board
+  pub are : Calls (record { gateway = fresh; hold = replicate holdBytes 0 }) calls end
+  pub of : events calls ≡ map event day
+  pub counts : tally 0 0 fresh calls ≡ record { came = 11; sent = 8; discarded = 1; turned = 1 }
+  pub left : holds (end .gateway) 0 ≡ 1

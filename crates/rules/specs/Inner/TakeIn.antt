@@ -1,0 +1,221 @@
+-- Where an event takes a unit in (Rule 7.24): it is Data of the link side, for an AS of the plan that waits and has room.
+-- Assumes nothing.
+use Prim.Native.Nat.{ℕ, zero, suc, _<_, _≤_, _-_}
+use mathlib.Core.Path.{_≡_, refl, subst}
+use mathlib.Core.Bool.{Bool, true, false, _||_, _&&_, cond}
+use mathlib.Core.List.{List}
+use native.Mathlib.Omega.{arith}
+use lib.Dec.{eqb, ltb}
+use borrow.Author.Tests.{ltb-true, eqb-true, eq-eqb}
+use Rattle.laws.specs.Inner.Below.{any-in}
+use Rattle.laws.specs.Inner.Every.{and-left, and-right, and-both}
+use Rattle.laws.specs.Columns.{isSet, numberAt}
+use Rattle.wire.specs.Walk.{Par}
+use Rattle.message.specs.Verdict.{verdict}
+use Rattle.message.specs.Meaning.{readingOf}
+use Rattle.message.specs.declared.Reading.{Reading}
+use Rattle.message.specs.Inner.GoodUnit.{GoodUnit}
+use Rattle.message.proofs.GoodUnit.{good-unit, correlation-marked}
+use Rattle.gateway.specs.Sound.{isSound, isLinkOf}
+use Rattle.gateway.specs.Inner.Laws.{counts-within, owner-within}
+use Rattle.gateway.specs.declared.Gateway.{Gateway}
+use Rattle.lookup.specs.Links.{indexOf, known}
+use Rattle.lookup.specs.Inner.Links.{index-is}
+use Rattle.server.specs.declared.Arrival.{Arrival}
+use Rattle.server.specs.Record.{some, recordFrom, recordOf, stateIn}
+use Rattle.rules.specs.Event.{EventKind, message, lost, recovery, linkUp, linkDown, linkMessage, Event}
+use Rattle.rules.specs.Identifiers.{isKnown, linkOf, ownerAt}
+use Rattle.rules.specs.Effect.{Effect, send, setLink, changeIn, takeIn}
+use Rattle.rules.specs.Asp.{upEffect, downEffect, lostEffect, activeEffect, inactiveEffect, trafficEffect}
+use Rattle.rules.specs.Link.{establish, release, dataEffect, linkEffect, classSixEffect, linkUpEffect, linkDownEffect, isPending, arrival, holdEffect, linkMessageEffect}
+use Rattle.rules.specs.Rules.{readEffect, messageEffect, effectOf, fromLink, inPlan, refusal}
+use Rattle.rules.specs.Inner.Accepted.{accepted}
+
+-- ---- whatever the state is
+
+-- the effect takes no unit in
+unfoldable pub TakesNone : Effect → Type 0
+TakesNone (send os) = Unit {0}
+TakesNone (setLink l v os) = Unit {0}
+TakesNone (changeIn os k named) = Unit {0}
+TakesNone (takeIn a x) = ⊥
+
+by-none : (u : Bool) (x y : Effect) → TakesNone x → TakesNone y → TakesNone (cond u x y)
+by-none true x y a b = a
+by-none false x y a b = b
+
+say-none : (os : _) → TakesNone (send os)
+unfolding TakesNone
+say-none os = tt
+
+turn-none : (l v : ℕ) (os : _) → TakesNone (setLink l v os)
+unfolding TakesNone
+turn-none l v os = tt
+
+change-none : (os : _) (k : _) (named : List Bool) → TakesNone (changeIn os k named)
+unfolding TakesNone
+change-none os k named = tt
+
+ruleset nones = (by-none, say-none, turn-none, change-none)
+
+traffic-none : (g : Gateway) (p : ℕ) (r : Reading) (ps : List Par) (act : List Bool → Effect) → ((named : List Bool) → TakesNone (act named)) → TakesNone (trafficEffect g p r ps act)
+unfolding trafficEffect
+traffic-none g p r ps act h = search (nones, h) depth 12
+
+active-none : (g : Gateway) (p mode : ℕ) (named : List Bool) → TakesNone (activeEffect g p mode named)
+unfolding activeEffect
+active-none g p mode named = search nones depth 6
+
+inactive-none : (p : ℕ) (named : List Bool) → TakesNone (inactiveEffect p named)
+unfolding inactiveEffect
+inactive-none p named = search nones depth 6
+
+six-none : (g : Gateway) (p : ℕ) (r : Reading) → TakesNone (classSixEffect g p r)
+unfolding classSixEffect linkEffect establish release dataEffect
+six-none g p r = search nones depth 16
+
+read-none : (g : Gateway) (p : ℕ) (s : List ℕ) (r : Reading) → TakesNone (readEffect g p s r)
+unfolding readEffect upEffect downEffect
+read-none g p s r = search (nones, traffic-none, active-none, inactive-none, six-none) depth 16
+
+-- a message of an ASP never does
+message-none : (g : Gateway) (p : ℕ) (s : List ℕ) → TakesNone (messageEffect g p s)
+unfolding messageEffect
+message-none g p s = search (nones, read-none) depth 6
+
+-- ---- a message of the link side
+
+-- what the unit is, and for whom
+pub record Takes (g : Gateway) (s : List ℕ) (a : ℕ) (x : Arrival) : Type 0 where
+  pub owner : a ≡ ownerAt g (linkOf g (readingOf s .id))
+  pub unit : x ≡ arrival s (readingOf s)
+  pub is-data : readingOf s .msgtype ≡ 1
+  pub pending : isPending g a ≡ true
+  pub room : numberAt (g .held .count) a < 8
+
+abbrev TakesIn : Gateway → List ℕ → Effect → Type 0
+TakesIn g s (send os) = Unit {0}
+TakesIn g s (setLink l v os) = Unit {0}
+TakesIn g s (changeIn os k named) = Unit {0}
+TakesIn g s (takeIn a x) = Takes g s a x
+
+by-take : (u : Bool) (F : Effect → Type 0) {x y : Effect} → (u ≡ true → F x) → F y → F (cond u x y)
+by-take true F hx hy = hx refl
+by-take false F hx hy = hy
+
+link-takes : (g : Gateway) (s : List ℕ) → TakesIn g s (linkMessageEffect g s (readingOf s))
+unfolding linkMessageEffect holdEffect
+link-takes g s =
+    let a = ownerAt g (linkOf g (readingOf s .id)) in
+    let m = eqb (readingOf s .msgtype) 1 in
+    by-take (m && isPending g a) (TakesIn g s)
+    (λ t. by-take (ltb (numberAt (g .held .count) a) 8) (TakesIn g s)
+    (λ u.
+    record {
+      owner = refl;
+      unit = refl;
+      is-data = eqb-true (readingOf s .msgtype) 1 (and-left m (isPending g a) t);
+      pending = and-right m (isPending g a) t;
+      room = ltb-true (numberAt (g .held .count) a) 8 u;
+    })
+    tt)
+    tt
+
+-- ---- the laws
+
+-- pending is waiting
+pub pending-waits : (g : Gateway) (a : ℕ) → isPending g a ≡ true → isSet (g .waiting) a ≡ true
+unfolding isPending stateIn recordFrom
+pending-waits g a h = go (some (recordOf g a .acts)) (isSet (g .waiting) a) (some (recordOf g a .ups)) (eqb-true (stateIn (recordOf g a)) 4 h)
+  where
+    go : (u v w : Bool) → _≡_ {A = ℕ} (cond u 3 (cond v 4 (cond w 2 0))) 4 → v ≡ true
+    go true v w e = let z : ⊥ = omega (arith, e) in absurd z
+    go false true w e = refl
+    go false false true e = let z : ⊥ = omega (arith, e) in absurd z
+    go false false false e = let z : ⊥ = omega (arith, e) in absurd z
+
+-- an effect that takes a unit in is that of a message of the link side
+pub record TakenFrom (g : Gateway) (k : EventKind) (a : ℕ) (x : Arrival) : Type 0 where
+  pub from : List ℕ
+  pub kind : k ≡ linkMessage from
+  pub takes : Takes g from a x
+
+pub taken-from : (g : Gateway) (k : EventKind) (a : ℕ) (x : Arrival) → effectOf g k ≡ takeIn a x → TakenFrom g k a x
+unfolding TakesNone lostEffect linkUpEffect linkDownEffect
+taken-from g (message p s) a x e = absurd (subst TakesNone e (message-none g p s))
+taken-from g (lost p) a x e = absurd (subst TakesNone e tt)
+taken-from g (recovery c) a x e = absurd (subst TakesNone e tt)
+taken-from g (linkUp l) a x e = absurd (subst TakesNone e (search nones depth 6))
+taken-from g (linkDown l) a x e = absurd (subst TakesNone e (search nones depth 6))
+taken-from g (linkMessage s) a x e = record { from = s; kind = refl; takes = subst (TakesIn g s) e (link-takes g s) }
+
+-- a message of the link side that the plan knows, in a sound state: it reads, and its unit is one of an AS of the plan, with its link and its bytes
+pub record TakenIn (g : Gateway) (s : List ℕ) (a : ℕ) (x : Arrival) : Type 0 where
+  pub takes : Takes g s a x
+  pub reads : verdict s ≡ 0
+  pub class-6 : readingOf s .class ≡ 6
+  pub is-known : isKnown g (readingOf s .id) ≡ true
+  pub link-below : linkOf g (readingOf s .id) < g .links
+  pub as-below : a < g .ases
+  pub as-16 : a < 16
+  pub waits : isSet (g .waiting) a ≡ true
+  pub of-link : isLinkOf (g .iid) (g .owner) (g .links) a (x .id) ≡ true
+  pub good : GoodUnit s
+  pub most : x .length - 4 ≤ 273
+  -- the unit, as a sound state asks for it (Rule 5.21)
+  pub tagged : (eqb (x .tag) 0x300 || eqb (x .tag) 0x301) ≡ true
+  pub least : 5 ≤ x .length
+  pub longest : x .length ≤ 277
+  pub marks : (eqb (x .marked) 1 || (eqb (x .marked) 0 && eqb (x .correlation) 0)) ≡ true
+
+-- a mark is 0 or 1, and without one there is no correlation id
+marked : (m n : ℕ) → m ≤ 1 → (m ≡ 0 → n ≡ 0) → (eqb m 1 || (eqb m 0 && eqb n 0)) ≡ true
+marked zero n b h = eq-eqb n 0 (h refl)
+marked (suc zero) n b h = refl
+marked (suc (suc m)) n b h = let z : ⊥ = omega arith in absurd z
+
+pub taken-in : (g : Gateway) (s : List ℕ) (a : ℕ) (x : Arrival) → isSound g ≡ true → inPlan g (linkMessage s) ≡ true → Takes g s a x → TakenIn g s a x
+unfolding isKnown linkOf known arrival isLinkOf
+taken-in g s a x ok i t =
+    let r = readingOf s in
+    let l = indexOf (g .iid) (g .links) (r .id) in
+    let v = eqb-true (verdict s) 0 (and-left (eqb (verdict s) 0) _ i) in
+    let i₂ = and-right (eqb (verdict s) 0) _ i in
+    let c = eqb-true (r .class) 6 (and-left (eqb (r .class) 6) _ i₂) in
+    let y = and-right (fromLink (r .msgtype)) (isKnown g (r .id)) (and-right (eqb (r .class) 6) _ i₂) in
+    let b : l < g .links = ltb-true l (g .links) y in
+    let o : a < g .ases = rw (t .owner) (owner-within g ok l b) in
+    let u = good-unit s v c (t .is-data) in
+    let k = correlation-marked s in
+    record {
+      takes = t;
+      reads = v;
+      class-6 = c;
+      is-known = y;
+      link-below = b;
+      as-below = o;
+      as-16 = omega (arith, counts-within g ok .ases);
+      waits = pending-waits g a (t .pending);
+      of-link =
+          rw (t .unit, t .owner)
+          (any-in (λ m. eqb (numberAt (g .iid) m) (r .id) && eqb (numberAt (g .owner) m) (numberAt (g .owner) l)) (g .links) l b
+          (and-both _ _ (eq-eqb (numberAt (g .iid) l) (r .id) (index-is (g .iid) (g .links) (r .id) b)) (eq-eqb (numberAt (g .owner) l) (numberAt (g .owner) l) refl)));
+      good = u;
+      most = rw (t .unit) (omega (arith, u .most));
+      tagged = rw (t .unit) (u .tagged);
+      least = rw (t .unit) (omega (arith, u .least));
+      longest = rw (t .unit) (omega (arith, u .most));
+      marks = rw (t .unit) (marked (r .correlated) (r .correlation) (k .0) (k .1));
+    }
+
+-- an accepted event that takes a unit in
+pub record TakeIn (g : Gateway) (k : EventKind) (a : ℕ) (x : Arrival) : Type 0 where
+  pub from : List ℕ
+  pub kind : k ≡ linkMessage from
+  pub taken : TakenIn g from a x
+
+pub take-in : (g : Gateway) (e : Event) (a : ℕ) (x : Arrival) → refusal g e ≡ 0 → effectOf g (e .kind) ≡ takeIn a x → TakeIn g (e .kind) a x
+take-in g e a x h d =
+    let t = taken-from g (e .kind) a x d in
+    let z = accepted (isSound g) (inPlan g (e .kind)) (e .hold) (e .room) h in
+    record { from = t .from; kind = t .kind; taken = taken-in g (t .from) a x (z .sound-yes) (subst (λ (k : EventKind). inPlan g k ≡ true) (t .kind) (z .known-yes)) (t .takes) }
