@@ -10,6 +10,7 @@ use lib.Seq.{getD-set-other}
 use lib.Dec.{eqb, ltb}
 use borrow.Author.Tests.{eq-eqb, ne-eqb, eqb-true, lt-ltb, ltb-true}
 use Rattle.laws.specs.Inner.Every.{and-right, same-truth}
+use Rattle.laws.specs.Inner.Choice.{by-cond}
 use Rattle.laws.specs.Columns.{flagAt, tabulate}
 use Rattle.laws.specs.Inner.Columns.{getD-tabulate}
 use Rattle.wire.specs.Walk.{Par}
@@ -27,7 +28,7 @@ use Rattle.server.specs.declared.Change.the-variants.{AspUp, AspDown, Deactivat
 use Rattle.server.specs.Inner.Change.{fits}
 use Rattle.servers.specs.Changed.{withUnit}
 use Rattle.keeps.specs.Inner.Units.{joined-with, sizes}
-use Rattle.keeps.proofs.Next.{by-cond, known-in, known-below, next-sound}
+use Rattle.keeps.proofs.Next.{known-in, known-below, next-sound}
 use Rattle.rules.specs.Event.{EventKind, message, lost, recovery, linkUp, linkDown, linkMessage, Event}
 use Rattle.rules.specs.Identifiers.{isKnown, linkOf, ownerAt}
 use Rattle.rules.specs.Reach.{ownsId}

@@ -9,6 +9,7 @@ use native.Mathlib.Decide.{decLt}
 use lib.Dec.{eqb, ltb}
 use borrow.Author.Tests.{lt-ltb, le-ltb}
 use Rattle.laws.specs.Below.{one}
+use Rattle.laws.specs.Inner.Every.{clash}
 use Rattle.laws.specs.Columns.{flagAt, numberAt, isSet}
 use Rattle.gateway.specs.Sound.{isSound}
 use Rattle.gateway.specs.declared.Gateway.{Gateway}
@@ -20,7 +21,6 @@ use Rattle.server.specs.Inner.Change.{fits}
 use Rattle.servers.specs.Changed.{letsGo, withChange, allActions}
 use Rattle.servers.specs.Inner.Records.{waiting-at, on-one}
 use Rattle.servers.specs.Inner.Units.{cleared-at}
-use Rattle.keeps.proofs.Named.{clash}
 use Rattle.rules.specs.Link.{isPending}
 use Rattle.conserve.specs.Conserve.{holds}
 use Rattle.conserve.proofs.Count.{dataIn, data-append, and-yes, and-no}

@@ -9,6 +9,7 @@ use lib.Dec.{eqb, ltb}
 use borrow.Author.Tests.{ltb-true, eqb-true, eq-eqb}
 use Rattle.laws.specs.Inner.Below.{any-in}
 use Rattle.laws.specs.Inner.Every.{and-left, and-right, and-both}
+use Rattle.laws.specs.Inner.Choice.{by-cond}
 use Rattle.laws.specs.Columns.{isSet, numberAt}
 use Rattle.wire.specs.Walk.{Par}
 use Rattle.message.specs.Verdict.{verdict}
@@ -16,6 +17,7 @@ use Rattle.message.specs.Meaning.{readingOf}
 use Rattle.message.specs.declared.Reading.{Reading}
 use Rattle.message.specs.Inner.GoodUnit.{GoodUnit}
 use Rattle.message.proofs.GoodUnit.{good-unit, correlation-marked}
+use Rattle.action.specs.declared.Action.{Action}
 use Rattle.gateway.specs.Sound.{isSound, isLinkOf}
 use Rattle.gateway.specs.Inner.Laws.{counts-within, owner-within}
 use Rattle.gateway.specs.declared.Gateway.{Gateway}
@@ -41,8 +43,7 @@ TakesNone (changeIn os k named) = Unit {0}
 TakesNone (takeIn a x) = ⊥
 
 by-none : (u : Bool) (x y : Effect) → TakesNone x → TakesNone y → TakesNone (cond u x y)
-by-none true x y a b = a
-by-none false x y a b = b
+by-none u x y a b = by-cond u TakesNone (λ _. a) (λ _. b)
 
 say-none : (os : _) → TakesNone (send os)
 unfolding TakesNone
@@ -93,33 +94,31 @@ pub record Takes (g : Gateway) (s : List ℕ) (a : ℕ) (x : Arrival) : Type 0 w
   pub pending : isPending g a ≡ true
   pub room : numberAt (g .held .count) a < 8
 
-abbrev TakesIn : Gateway → List ℕ → Effect → Type 0
-TakesIn g s (send os) = Unit {0}
-TakesIn g s (setLink l v os) = Unit {0}
-TakesIn g s (changeIn os k named) = Unit {0}
-TakesIn g s (takeIn a x) = Takes g s a x
-
-by-take : (u : Bool) (F : Effect → Type 0) {x y : Effect} → (u ≡ true → F x) → F y → F (cond u x y)
-by-take true F hx hy = hx refl
-by-take false F hx hy = hy
-
-link-takes : (g : Gateway) (s : List ℕ) → TakesIn g s (linkMessageEffect g s (readingOf s))
+-- it is taken in, or all else is a list of actions: what holds of both holds of whatever the link side sends
+pub link-cases : (g : Gateway) (s : List ℕ) (F : Effect → Type 0) → ((os : List Action) → F (send os)) → ((a : ℕ) (x : Arrival) → Takes g s a x → F (takeIn a x)) → F (linkMessageEffect g s (readingOf s))
 unfolding linkMessageEffect holdEffect
-link-takes g s =
+link-cases g s F say take =
     let a = ownerAt g (linkOf g (readingOf s .id)) in
     let m = eqb (readingOf s .msgtype) 1 in
-    by-take (m && isPending g a) (TakesIn g s)
-    (λ t. by-take (ltb (numberAt (g .held .count) a) 8) (TakesIn g s)
+    by-cond (m && isPending g a) F
+    (λ t. by-cond (ltb (numberAt (g .held .count) a) 8) F
     (λ u.
-    record {
+    take a (arrival s (readingOf s))
+    (record {
       owner = refl;
       unit = refl;
       is-data = eqb-true (readingOf s .msgtype) 1 (and-left m (isPending g a) t);
       pending = and-right m (isPending g a) t;
       room = ltb-true (numberAt (g .held .count) a) 8 u;
-    })
-    tt)
-    tt
+    }))
+    (λ _. say _))
+    (λ _. say _)
+
+abbrev TakesIn : Gateway → List ℕ → Effect → Type 0
+TakesIn g s (send os) = Unit {0}
+TakesIn g s (setLink l v os) = Unit {0}
+TakesIn g s (changeIn os k named) = Unit {0}
+TakesIn g s (takeIn a x) = Takes g s a x
 
 -- ---- the laws
 
@@ -147,7 +146,7 @@ taken-from g (lost p) a x e = absurd (subst TakesNone e tt)
 taken-from g (recovery c) a x e = absurd (subst TakesNone e tt)
 taken-from g (linkUp l) a x e = absurd (subst TakesNone e (search nones depth 6))
 taken-from g (linkDown l) a x e = absurd (subst TakesNone e (search nones depth 6))
-taken-from g (linkMessage s) a x e = record { from = s; kind = refl; takes = subst (TakesIn g s) e (link-takes g s) }
+taken-from g (linkMessage s) a x e = record { from = s; kind = refl; takes = subst (TakesIn g s) e (link-cases g s (TakesIn g s) (λ os. tt) (λ c y h. h)) }
 
 -- a message of the link side that the plan knows, in a sound state: it reads, and its unit is one of an AS of the plan, with its link and its bytes
 pub record TakenIn (g : Gateway) (s : List ℕ) (a : ℕ) (x : Arrival) : Type 0 where
