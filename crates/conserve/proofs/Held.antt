@@ -22,17 +22,11 @@ use Rattle.server.specs.Inner.Change.{fits, some-some, some-at, some-turned}
 use Rattle.keeps.specs.Inner.Keeps.{sound}
 use Rattle.keeps.specs.Inner.Units.{Held, held}
 use Rattle.rules.specs.Link.{isPending}
+use Rattle.rules.specs.Inner.Shapes.{isOver}
 use Rattle.rules.specs.Inner.TakeIn.{pending-waits}
 use Rattle.conserve.specs.Conserve.{holds}
 
--- whether a change ends a recovery time, and how many of n units it sends out
-abbrev pub isOver : Change → Bool
-isOver (AspUp p) = false
-isOver (AspDown p) = false
-isOver (Deactivate p) = false
-isOver (Activate p) = false
-isOver Recover = true
-
+-- how many of n units a change sends out
 abbrev pub out : Change → ℕ → ℕ
 out (AspUp p) n = 0
 out (AspDown p) n = 0

@@ -22,9 +22,10 @@ use Rattle.servers.specs.Changed.{letsGo, withChange, allActions}
 use Rattle.servers.specs.Inner.Records.{waiting-at, on-one}
 use Rattle.servers.specs.Inner.Units.{cleared-at}
 use Rattle.rules.specs.Link.{isPending}
+use Rattle.rules.specs.Inner.Shapes.{isOver}
 use Rattle.conserve.specs.Conserve.{holds}
 use Rattle.conserve.proofs.Count.{dataIn, data-append, and-yes, and-no}
-use Rattle.conserve.proofs.Held.{isOver, out, if-some, pending-is, has-waits, release}
+use Rattle.conserve.proofs.Held.{out, if-some, pending-is, has-waits, release}
 use Rattle.conserve.proofs.Sends.{change-data}
 
 -- From g to h: `came` says whether a unit came in for AS a, `over` whether its recovery time is over, `sent` how many went out. Units stay while it is pending.
