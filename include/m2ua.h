@@ -357,6 +357,12 @@ enum {
     M2UA_LINK_MESSAGE = 5 /* a message of the link side (6.1, 6.8, 6.9, 6.11 to 6.14), which names its link itself: any */
 };
 
+/* The function behind all events. `size` is the length of the gateway's hold (M2UA_HOLD_BYTES, else M2UA_REFUSED_HOLD). Where `hold_bytes` is the same, it is m2ua_event
+ * (below). Where it is not, the answer is the same and no byte of `hold` is written: a dry run, which shows what an event would do, with `hold_bytes` 0 and `hold` any
+ * pointer that is not null. Do not keep the next state of one: if it took a unit in, the bytes of that unit are nowhere. */
+m2ua_outcome m2ua_run(m2ua_gateway g, uint32_t kind, size_t index, const uint8_t *msg, size_t len, uint8_t *hold, size_t hold_bytes, size_t size, uint32_t *words,
+                      size_t count);
+
 /* An event on a state. `msg` is read in kinds 0 and 5. `hold` is the gateway's hold: Data of the link side for an AS that is pending is put there and gives no
  * order (Rule 7.24); it goes out as an order as soon as an ASP is active in the AS (Rule 7.25). The orders are written to `words`, of which there are `count`,
  * four words each (Rule 8.1): the addressee (the number of an ASP, or M2UA_LINK_SIDE); M2UA_ORDER_..; subject; value. In class 6 the subject is an interface
@@ -367,8 +373,10 @@ enum {
  * an unknown identifier), M2UA_REFUSED_HOLD (`hold_bytes` is not M2UA_HOLD_BYTES), M2UA_REFUSED_LIST (`count` below M2UA_LIST_WORDS). Refused: count 0, the
  * state given, no word and no byte of the hold changed.
  * A message of an ASP that does not read is no refusal: it is answered by an Error order (Rule 6.8). */
-m2ua_outcome m2ua_event(m2ua_gateway g, uint32_t kind, size_t index, const uint8_t *msg, size_t len, uint8_t *hold, size_t hold_bytes, uint32_t *words,
-                        size_t count);
+static inline m2ua_outcome m2ua_event(m2ua_gateway g, uint32_t kind, size_t index, const uint8_t *msg, size_t len, uint8_t *hold, size_t hold_bytes, uint32_t *words,
+                                      size_t count) {
+    return m2ua_run(g, kind, index, msg, len, hold, hold_bytes, hold_bytes, words, count);
+}
 
 /* The six kinds by name: m2ua_event with the kind filled in. */
 static inline m2ua_outcome m2ua_message(m2ua_gateway g, size_t asp, const uint8_t *msg, size_t len, uint8_t *hold, size_t hold_bytes, uint32_t *words, size_t count) {

@@ -44,7 +44,7 @@ extern "C" {
         out_bytes: usize,
     ) -> Written;
     fn m2ua_load(file: *const u8, len: usize) -> Loaded;
-    fn m2ua_event(
+    fn m2ua_run(
         g: Gateway,
         kind: u32,
         index: usize,
@@ -52,6 +52,7 @@ extern "C" {
         len: usize,
         hold: *mut u8,
         hold_bytes: usize,
+        size: usize,
         words: *mut u32,
         count: usize,
     ) -> Outcome;
@@ -130,13 +131,14 @@ macro_rules! event {
         let (msg, hold, words): (&[u8], &mut [u8], &mut [u32]) = ($msg, $hold, $words);
         // SAFETY: each pointer and length are those of one slice, any bytes are a state, and the entry has no `requires`.
         unsafe {
-            m2ua_event(
+            m2ua_run(
                 $g,
                 $kind,
                 $index,
                 msg.as_ptr(),
                 msg.len(),
                 hold.as_mut_ptr(),
+                hold.len(),
                 hold.len(),
                 words.as_mut_ptr(),
                 words.len(),

@@ -37,7 +37,8 @@ use Rattle.rules.specs.Link.{establish, release, dataEffect, linkEffect, classS
 use Rattle.rules.specs.Rules.{readEffect, messageEffect, effectOf, inPlan, refusal}
 use Rattle.rules.specs.Entry.{actions, next}
 use Rattle.rules.specs.Inner.Accepted.{accepted}
-use Rattle.conserve.specs.Conserve.{isArrival, isRecovery, isOfLinkSide, holds}
+use Rattle.conserve.specs.Conserve.{isArrival, isRecovery, holds}
+use Rattle.rules.specs.Sent.{isPassed}
 use Rattle.conserve.proofs.Count.{sum-none, dataIn, data-concat, no-data, and-yes, and-no, zero-either}
 use Rattle.conserve.proofs.Step.{Step, still, joins, changed}
 
@@ -193,7 +194,7 @@ module _ (g : Gateway) (a : ℕ) where
     of-down l = search (fairs, not-data) depth 8
 
     of-kind : (k : EventKind) → inPlan g k ≡ true → isSound (stateAfter g (effectOf g k)) ≡ true
-        → Step g a (isArrival g k a) (isRecovery k a) (cond (isOfLinkSide k) 0 (dataIn g a (actionsOf g (effectOf g k)))) (stateAfter g (effectOf g k))
+        → Step g a (isArrival g k a) (isRecovery k a) (cond (isPassed k) 0 (dataIn g a (actionsOf g (effectOf g k)))) (stateAfter g (effectOf g k))
     unfolding Fair lostEffect
     of-kind (message p s) i = of-asp p (lt-ltb p 16 (omega (arith, counts-within g ok .asps, ltb-true p (g .asps) i))) s
     of-kind (lost p) i = down-change p [] _ none
@@ -203,11 +204,11 @@ module _ (g : Gateway) (a : ℕ) where
     of-kind (linkMessage s) i = λ _. linked s i
 
     pub event-step : (e : Event)
-        → Step g a (eqb (refusal g e) 0 && isArrival g (e .kind) a) (eqb (refusal g e) 0 && isRecovery (e .kind) a) (cond (isOfLinkSide (e .kind)) 0 (dataIn g a (actions g e))) (next g e)
+        → Step g a (eqb (refusal g e) 0 && isArrival g (e .kind) a) (eqb (refusal g e) 0 && isRecovery (e .kind) a) (cond (isPassed (e .kind)) 0 (dataIn g a (actions g e))) (next g e)
     unfolding actions next
     event-step e = go (eqb (refusal g e) 0) refl (next-sound g ok e)
       where
         go : (t : Bool) → eqb (refusal g e) 0 ≡ t → isSound (cond t (stateAfter g (effectOf g (e .kind))) g) ≡ true
-            → Step g a (t && isArrival g (e .kind) a) (t && isRecovery (e .kind) a) (cond (isOfLinkSide (e .kind)) 0 (dataIn g a (cond t (actionsOf g (effectOf g (e .kind))) []))) (cond t (stateAfter g (effectOf g (e .kind))) g)
+            → Step g a (t && isArrival g (e .kind) a) (t && isRecovery (e .kind) a) (cond (isPassed (e .kind)) 0 (dataIn g a (cond t (actionsOf g (effectOf g (e .kind))) []))) (cond t (stateAfter g (effectOf g (e .kind))) g)
         go true h s = of-kind (e .kind) (accepted (isSound g) (inPlan g (e .kind)) (e .hold) (e .room) (eqb-true (refusal g e) 0 h) .known-yes) s
-        go false h s = rw (none, ← zero-either (isOfLinkSide (e .kind))) (still g ok a b refl refl)
+        go false h s = rw (none, ← zero-either (isPassed (e .kind))) (still g ok a b refl refl)

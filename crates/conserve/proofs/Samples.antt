@@ -1,59 +1,43 @@
 -- The sample history, computed from the rules: every definition is unfolded.
 -- Assumes nothing.
-use mathlib.Core.Path.{_≡_, refl}
+use mathlib.Core.Path.{_≡_, refl, ap, _∙_}
+use mathlib.Core.List.{List, [], _∷_, _++_, map}
+use Prim.Native.Nat.{ℕ, _*_}
+use lib.Dec.{eqb}
+use lib.ListN.{length, drop, replicate, length-replicate}
 use Rattle.laws.specs.Below.{anyBelow, allBelow, concatBelow, firstBelow, countBelow}
 use Rattle.laws.specs.Columns.{tabulate}
 use Rattle.wire.specs.Number.{be}
 use Rattle.wire.specs.Walk.{stepAt, walkF, walk, partOf}
 use Rattle.parameter.specs.Check.{textCode, allowedCode, parCode}
-use Rattle.parameter.specs.Inner.Slot.{slot, tagAt, infoOf, allMet, allAsked, rowBits}
 use Rattle.parameter.specs.Table.{table, among, hasClass, rowIn, entriesIn, useIn, usage}
-use Rattle.parameter.specs.Value.{limitsOf, wordCode, plainCode, idCode, rangeCode, bodyCode}
+use Rattle.parameter.specs.Value.{limitsOf, wordCode, plainCode, idCode, bodyCode}
 use Rattle.message.specs.Meaning.{meaning, outcome, readingOf, bodyIn, tagIn, placeIn, dataOf, dataTag, dataAt}
-use Rattle.message.specs.Samples.{active, up}
-use Rattle.message.specs.Inner.Seen.{there, word, sequenceAt, endAt, meaningAt, outcomeAt, rowOutcome, checksOutcome}
 use Rattle.message.specs.Verdict.{has, head, number, isNone, inTurn, allThere, sequenceCode, parsCode, lastChecks, verdict}
-use Rattle.gateway.specs.Sound.{countsIn, blankFrom, differs, upAt, soundAsps, memberAt, activeAt, soundRow, activeIn, modeAt, waitingAt, overrideAt, soundAs, soundAses, ascends, allUnder, soundLinks, isLinkOf, unitAt, blankAt, unitsOk, sized, allUnits, soundUnits, soundTables, isSound, zeros}
+use Rattle.gateway.specs.Sound.{countsIn, blankFrom, differs, upAt, soundAsps, memberAt, activeAt, soundRow, activeIn, modeAt, waitingAt, overrideAt, soundAs, soundAses, ascends, allUnder, soundLinks, isLinkOf, unitAt, blankAt, unitsOk, sized, allUnits, soundUnits, soundTables, isSound}
 use Rattle.config.specs.Plan.{offset, count, follow, layoutOk, column, aspIds, masks, spares, modes, linkIds, owners, modesOk, masksOk, sparesOk, rowsOk, members, fresh, built, loadOf}
 use Rattle.lookup.specs.Links.{indexOf, known}
-use Rattle.lookup.specs.Inner.Links.{rank}
-use Rattle.lookup.specs.Servers.{before, receives}
-use Rattle.lookup.specs.Inner.Servers.{stateOf}
-use Rattle.ranges.specs.Named.{ownerOf, isRefused, isOwnedBy, firstIn, someIn, startAt, stopAt, entries, firstOf, refusedIn, refusedEntry, someOf, someEntry}
-use Rattle.action.specs.Words.{wordsOf, toEach, toAll}
-use Rattle.action.specs.Inner.Words.{putAt, place}
+use Rattle.action.specs.Words.{wordsOf}
 use Rattle.server.specs.Change.{without, joined, activated, overtaken, nobody, recordWith}
 use Rattle.server.specs.Notify.{isNotified, notifiesTo, notifies, actionsIn}
 use Rattle.server.specs.Units.{unitOut, unitsOut, letOut}
-use Rattle.server.specs.Inner.Notify.{announced, spoken}
 use Rattle.server.specs.Record.{row, membersUp, recordFrom, some, stateIn}
-use Rattle.server.specs.Inner.Record.{withRow}
 use Rattle.servers.specs.Changed.{columnOf, withFlag, actionsAt, newActive, newWaiting, clearedFrom, letsGo, withChange, allActions}
-use Rattle.rules.specs.Asp.{upEffect, downEffect, lostEffect, otherMode, activeEffect, inactiveEffect, trafficEffect}
-use Rattle.rules.specs.Entry.{actions, next}
-use Rattle.rules.specs.Identifiers.{firstRefused, ownsNamed, ownersNamed, isKnown, linkOf}
-use Rattle.rules.specs.Link.{establish, release, dataEffect, linkEffect, classSixEffect, recipientsOf, toRecipients, linkUpEffect, linkDownEffect, isPending, arrival, holdEffect, linkMessageEffect}
-use Rattle.rules.specs.Reach.{ownsId, readReach, messageReach, reach}
-use Rattle.rules.specs.Rules.{isError, fromAsp, readEffect, messageEffect, fromLink, refusalOf}
-use Rattle.rules.specs.Samples.{planS, fresh as fresh-rules, bare, m, g₁, g₂, g₃, g₄, g₅, unit, g₆, takes, comesUp}
-use Rattle.rules.specs.Inner.Decision.{firstActions, spread, effectIn}
-use mathlib.Core.Path.{sym, ap, _∙_}
-use mathlib.Core.Bool.{Bool, true, false, cond}
-use mathlib.Core.List.{List, [], _∷_, _++_, map}
-use Prim.Native.Nat.{ℕ, _*_}
-use lib.Dec.{eqb}
-use lib.ListN.{length, drop, replicate, length-replicate}
 use Rattle.put.proofs.Sets.{length-over}
 use Rattle.gateway.specs.declared.Gateway.{Gateway}
-use Rattle.rules.specs.Samples.{event}
+use Rattle.rules.specs.Asp.{upEffect, downEffect, otherMode, activeEffect, inactiveEffect, trafficEffect}
+use Rattle.rules.specs.Entry.{actions, next, nextHold}
+use Rattle.rules.specs.Identifiers.{isKnown, linkOf}
+use Rattle.rules.specs.Link.{isPending, arrival, holdEffect, linkMessageEffect}
+use Rattle.rules.specs.Reach.{ownsId}
+use Rattle.rules.specs.Rules.{isError, fromAsp, readEffect, messageEffect, fromLink, refusalOf, effectOf, refusal}
+use Rattle.rules.specs.Samples.{planS, fresh as fresh-rules, bare, unit, event}
 use Rattle.rules.specs.Event.{EventKind, Event, messageOf}
 use Rattle.rules.specs.Effect.{Effect, send, setLink, changeIn, takeIn, holdBytes, holdAfter}
-use Rattle.rules.specs.Rules.{effectOf, refusal}
-use Rattle.rules.specs.Entry.{nextHold, MeetsRules}
 use Rattle.rules.specs.Inner.Few.{few-actions}
 use Rattle.rules.specs.Calls.{Board, nextBoard, Call, events, Calls, none, call}
 use Rattle.keeps.proofs.Next.{by-cond}
-use Rattle.conserve.specs.Conserve.{cameIn, isDataAt, sentOut, since, Tally, tally, sumBelow, holds}
+use Rattle.conserve.specs.Conserve.{cameIn, isDataAt, sentOut, since, tally, holds}
 use Rattle.conserve.specs.Samples.{leaves, day, Day}
 
 -- ---- calls for events
@@ -117,7 +101,7 @@ abbrev first : Board
 first = record { gateway = fresh-rules; hold = replicate holdBytes 0 }
 
 computed : (tally 0 0 fresh-rules (callsOf first day) ≡ record { came = 11; sent = 8; discarded = 1; turned = 1 }) × (holds (endOf first day .gateway) 0 ≡ 1)
-unfolding anyBelow allBelow concatBelow firstBelow countBelow tabulate be stepAt walkF walk partOf textCode allowedCode parCode slot tagAt infoOf allMet allAsked rowBits table among hasClass rowIn entriesIn useIn usage limitsOf wordCode plainCode idCode rangeCode bodyCode meaning outcome readingOf bodyIn tagIn placeIn dataOf dataTag dataAt active up there word sequenceAt endAt meaningAt outcomeAt rowOutcome checksOutcome has head number isNone inTurn allThere sequenceCode parsCode lastChecks verdict countsIn blankFrom differs upAt soundAsps memberAt activeAt soundRow activeIn modeAt waitingAt overrideAt soundAs ascends allUnder soundLinks isLinkOf unitAt blankAt unitsOk sized allUnits soundUnits soundTables isSound soundAses zeros offset count follow layoutOk column aspIds masks spares modes linkIds owners modesOk masksOk sparesOk rowsOk members fresh built loadOf indexOf known rank stateOf before receives ownerOf isRefused isOwnedBy firstIn someIn startAt stopAt entries firstOf refusedIn refusedEntry someOf someEntry wordsOf toEach toAll putAt place without joined activated overtaken nobody recordWith isNotified notifiesTo notifies actionsIn unitOut unitsOut letOut announced spoken row membersUp recordFrom some stateIn withRow columnOf withFlag actionsAt newActive newWaiting clearedFrom letsGo withChange allActions upEffect downEffect lostEffect otherMode activeEffect inactiveEffect trafficEffect actions next firstRefused ownsNamed ownersNamed isKnown linkOf establish release dataEffect linkEffect classSixEffect recipientsOf toRecipients linkUpEffect linkDownEffect isPending arrival holdEffect linkMessageEffect ownsId readReach messageReach reach isError fromAsp readEffect messageEffect fromLink refusalOf planS fresh-rules bare m g₁ g₂ g₃ g₄ g₅ unit g₆ takes comesUp firstActions spread effectIn cameIn isDataAt sentOut since tally sumBelow callsOf endOf leaves day
+unfolding anyBelow allBelow concatBelow firstBelow countBelow tabulate be stepAt walkF walk partOf textCode allowedCode parCode table among hasClass rowIn entriesIn useIn usage limitsOf wordCode plainCode idCode bodyCode meaning outcome readingOf bodyIn tagIn placeIn dataOf dataTag dataAt has head number isNone inTurn allThere sequenceCode parsCode lastChecks verdict countsIn blankFrom differs upAt soundAsps memberAt activeAt soundRow activeIn modeAt waitingAt overrideAt soundAs ascends allUnder soundLinks isLinkOf unitAt blankAt unitsOk sized allUnits soundUnits soundTables isSound soundAses offset count follow layoutOk column aspIds masks spares modes linkIds owners modesOk masksOk sparesOk rowsOk members fresh built loadOf indexOf known wordsOf without joined activated overtaken nobody recordWith isNotified notifiesTo notifies actionsIn unitOut unitsOut letOut row membersUp recordFrom some stateIn columnOf withFlag actionsAt newActive newWaiting clearedFrom letsGo withChange allActions upEffect downEffect otherMode activeEffect inactiveEffect trafficEffect actions next isKnown linkOf isPending arrival holdEffect linkMessageEffect ownsId isError fromAsp readEffect messageEffect fromLink refusalOf planS fresh-rules bare unit cameIn isDataAt sentOut since tally callsOf endOf leaves day
 computed = (refl, refl)
 
 pub sample-day : Day

@@ -18,6 +18,7 @@ use Rattle.rules.specs.Event.{EventKind, message, lost, recovery, linkUp, linkD
 use Rattle.rules.specs.Link.{isPending}
 use Rattle.rules.specs.Reach.{ownsId}
 use Rattle.rules.specs.Calls.{Board, Call, Calls}
+use Rattle.rules.specs.Sent.{isPassed}
 
 -- ---- one call, for AS a: g is the state before it
 
@@ -39,14 +40,6 @@ isRecovery (linkUp l) a = false
 isRecovery (linkDown l) a = false
 isRecovery (linkMessage s) a = false
 
-abbrev pub isOfLinkSide : EventKind → Bool
-isOfLinkSide (message p s) = false
-isOfLinkSide (lost p) = false
-isOfLinkSide (recovery c) = false
-isOfLinkSide (linkUp l) = false
-isOfLinkSide (linkDown l) = false
-isOfLinkSide (linkMessage s) = true
-
 -- it is not refused
 abbrev pub done : Call → Bool
 done d = eqb (d .outcome .refusal) 0
@@ -64,7 +57,7 @@ isDataAt g a ws i = isData g a (numberAt ws (i * 4)) (numberAt ws (i * 4 + 1)) (
 
 -- how many are; what the link side sends goes on at once, and was not held
 unfoldable pub sentOut : Gateway → Call → ℕ → ℕ
-sentOut g d a = cond (isOfLinkSide (d .event .kind)) 0 (countBelow (isDataAt g a (d .left)) (d .outcome .count))
+sentOut g d a = cond (isPassed (d .event .kind)) 0 (countBelow (isDataAt g a (d .left)) (d .outcome .count))
 
 -- ---- a history, for AS a
 

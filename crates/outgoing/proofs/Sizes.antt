@@ -8,13 +8,13 @@ use native.Mathlib.Omega.{arith}
 use lib.ListN.{length}
 use Rattle.laws.specs.Below.{when, one}
 use Rattle.wire.specs.Walk.{Par}
-use Rattle.put.specs.Bytes.{parsBytes}
+use Rattle.put.specs.Bytes.{par, parsBytes}
 use Rattle.encode.specs.Encode.{sizeOf}
 use Rattle.select.specs.Only.{only}
 use Rattle.select.specs.Inner.Picks.{picks}
 use Rattle.select.proofs.Runs.{pars-length, one-length, none-length}
 use Rattle.outgoing.specs.Message.{numberPar}
-use Rattle.outgoing.specs.Inner.Form.{numberPars, listedPars, copiedPars, formPars, listedSize}
+use Rattle.outgoing.specs.Inner.Form.{heldPars, saidPars, listedPars, copiedPars, formPars, dataSize, listedSize}
 use Rattle.outgoing.specs.declared.Form.{Form}
 use Rattle.outgoing.proofs.Owned.{listed-length}
 
@@ -26,17 +26,24 @@ number-length : (b : Bool) (t n : ℕ) → length (parsBytes (when b (numberPar 
 number-length true t n = one-length (numberPar t n)
 number-length false t n = none-length
 
-pub form-size : (iid owner : List ℕ) (n : ℕ) (ps : List Par) (f : Form)
-    → sizeOf (formPars iid owner n ps f)
-    ≡ 8 + (8 * one (f .one) + 8 * one (f .two)) + listedSize owner n (f .listed) (f .owned) + length (parsBytes (only (picks (f .first)) ps)) + length (parsBytes (only (picks (f .after)) ps))
-unfolding formPars numberPars copiedPars
-form-size iid owner n ps f =
-    let a = size-is (formPars iid owner n ps f) in
-    let b = pars-length (numberPars f) (listedPars iid owner n f ++ copiedPars ps f) in
+data-length : (b : Bool) (t : ℕ) (body : List ℕ) → length (parsBytes (when b (par t body))) ≡ dataSize b (length body)
+unfolding dataSize
+data-length true t body = one-length (par t body)
+data-length false t body = none-length
+
+pub form-size : (iid owner : List ℕ) (n : ℕ) (ps : List Par) (body : List ℕ) (f : Form)
+    → sizeOf (formPars iid owner n ps body f)
+    ≡ 8 + (8 * one (f .one) + dataSize (f .held) (length body) + 8 * one (f .two)) + listedSize owner n (f .listed) (f .owned) + length (parsBytes (only (picks (f .first)) ps)) + length (parsBytes (only (picks (f .after)) ps))
+unfolding formPars saidPars heldPars copiedPars
+form-size iid owner n ps body f =
+    let a = size-is (formPars iid owner n ps body f) in
+    let b = pars-length (saidPars body f) (listedPars iid owner n f ++ copiedPars ps f) in
     let c = pars-length (listedPars iid owner n f) (copiedPars ps f) in
-    let d = pars-length (when (f .one) (numberPar (f .tag) (f .number))) (when (f .two) (numberPar (f .tag2) (f .number2))) in
+    let d = pars-length (when (f .one) (numberPar (f .tag) (f .number))) (heldPars body f) in
+    let j = pars-length (when (f .held) (par (f .heldtag) body)) (when (f .two) (numberPar (f .tag2) (f .number2))) in
     let e = pars-length (only (picks (f .first)) ps) (only (picks (f .after)) ps) in
     let g = number-length (f .one) (f .tag) (f .number) in
+    let k = data-length (f .held) (f .heldtag) body in
     let h = number-length (f .two) (f .tag2) (f .number2) in
     let i = listed-length iid owner n f in
     omega arith

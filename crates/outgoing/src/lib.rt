@@ -8,6 +8,7 @@ use action::BEAT_ACK;
 use action::DATA_ACK;
 use action::MGMT_ERROR;
 use action::MGMT_NOTIFY;
+use action::USER_DATA;
 use select::Which;
 use wire::HEADER;
 ghost use mathlib.Core.Path.{_≡_};
@@ -17,11 +18,11 @@ ghost use Prim.Native.Nat.{_+_, _≤_};
 ghost use lib.ListN.{length};
 ghost use Rattle.laws.specs.Below.{when, countBelow};
 ghost use Rattle.wire.specs.Walk.{walk};
-ghost use Rattle.put.specs.Bytes.{overlay, bytes32, parsBytes};
+ghost use Rattle.put.specs.Bytes.{overlay, bytes32, par, parsBytes};
 ghost use Rattle.encode.specs.Encode.{sizeOf, encode};
 ghost use Rattle.select.specs.Inner.Picks.{PutBytes, PutPars};
 ghost use Rattle.outgoing.specs.Message.{numberPar};
-ghost use Rattle.outgoing.specs.Inner.Form.{owns, idsIn, numberPars, listedPars, copiedPars, formPars, listedSize, FormFits, saying, listing, copying, formOf};
+ghost use Rattle.outgoing.specs.Inner.Form.{owns, idsIn, heldPars, saidPars, listedPars, copiedPars, formPars, dataSize, listedSize, FormFits, saying, releasing, listing, copying, formOf};
 
 // What a call did that writes many actions: 0, how many actions it went through, and the bytes of their messages; or the number of the refusal and zeros.
 #[repr(C)]
@@ -43,14 +44,23 @@ const CORRELATION: u16 = 0x13;
 // The code of an Error that says which identifier was refused (Rule 8.9).
 const REFUSED_IDENTIFIER: u32 = 2;
 
-// What the message of an action is made of: a parameter of one number, another one, the identifiers of an AS, and the received parameters of two selections, each
-// of them or not.
+// A unit that was held, but for its bytes: the tag of its data, and its correlation id where it is marked (Rule 5.21).
+pub struct Unit {
+    pub tag: u16,
+    pub marked: bool,
+    pub correlation: u32,
+}
+
+// What the message of an action is made of: a parameter of one number, the data of a unit, another number, the identifiers of an AS, and the received parameters
+// of two selections, each of them or not.
 pub struct Form {
     pub class: u8,
     pub msgtype: u8,
     pub one: bool,
     pub tag: u16,
     pub number: u32,
+    pub held: bool,
+    pub heldtag: u16,
     pub two: bool,
     pub tag2: u16,
     pub number2: u32,
@@ -72,9 +82,33 @@ fn say(classtype: u32, tag: u16, number: u32, two: bool, tag2: u16, number2: u32
         one: true,
         tag,
         number,
+        held: false,
+        heldtag: 0,
         two,
         tag2,
         number2,
+        listed: false,
+        owned: 0,
+        first: Which::Nothing,
+        after: Which::Nothing,
+    }
+}
+
+// The identifier of a link, a unit of that link that was held, and its correlation id where it has one (Rule 8.18).
+fn release(classtype: u32, link: u32, u: Unit) -> Form
+    ensures { λ r. ⌜ r ≡ releasing classtype link u ⌝ }
+{
+    Form {
+        class: (classtype / 256 % 256) as u8,
+        msgtype: (classtype % 256) as u8,
+        one: true,
+        tag: IDS,
+        number: link,
+        held: true,
+        heldtag: u.tag,
+        two: u.marked,
+        tag2: CORRELATION,
+        number2: u.correlation,
         listed: false,
         owned: 0,
         first: Which::Nothing,
@@ -92,6 +126,8 @@ fn list(classtype: u32, tag: u16, number: u32, owned: u32) -> Form
         one: true,
         tag,
         number,
+        held: false,
+        heldtag: 0,
         two: false,
         tag2: 0,
         number2: 0,
@@ -112,6 +148,8 @@ fn copy(classtype: u32, first: Which, after: Which) -> Form
         one: false,
         tag: 0,
         number: 0,
+        held: false,
+        heldtag: 0,
         two: false,
         tag2: 0,
         number2: 0,
@@ -122,9 +160,9 @@ fn copy(classtype: u32, first: Which, after: Which) -> Form
     }
 }
 
-// The form of an action that passes a message on, or of one that the gateway makes.
-pub fn form_of(passed: bool, o: Action) -> Form
-    ensures { λ r. ⌜ r ≡ formOf passed o ⌝ }
+// The form of an action that passes a message on, or of one that the gateway makes; u is the unit that it sends, if it sends one.
+pub fn form_of(passed: bool, o: Action, u: Unit) -> Form
+    ensures { λ r. ⌜ r ≡ formOf passed o u ⌝ }
 {
     let ct = o.classtype;
     let subject = o.subject;
@@ -153,6 +191,9 @@ pub fn form_of(passed: bool, o: Action) -> Form
     }
     if (ct == ASP_ACTIVE_ACK) | (ct == ASP_INACTIVE_ACK) {
         return copy(ct, Which::Mode, Which::Ids);
+    }
+    if ct == USER_DATA {
+        return release(ct, subject, u);
     }
     say(ct, IDS, subject, ct == DATA_ACK, CORRELATION, value)
 }
@@ -186,20 +227,34 @@ fn listed_size(owner: &[u8; 128], links: usize, listed: bool, a: usize) -> usize
     0
 }
 
-// The length of the message of a form.
+// The bytes of the parameter of a unit's data, whose value has n.
+fn data_size(held: bool, n: usize) -> usize
+    requires { ⌜ n ≤ 65531 ⌝ }
+    ensures { λ r. ⌜ (r ≡ dataSize held n) × (r ≤ 65536) ⌝ }
+{
+    if held {
+        return (n + 7) / 4 * 4;
+    }
+    0
+}
+
+// The length of the message of a form; `body` is the data of a unit.
 pub fn size_of<'a>(
     f: Form,
     msg: &[u8],
+    body: &[u8],
     iid: &'a [u32; 128],
     owner: &'a [u8; 128],
     links: usize,
 ) -> usize
-    requires { ⌜ (links ≤ 128) × (sizeOf (formPars (now iid) (now owner) links (walk (now msg) 8 .pars) f) ≤ 2048) ⌝ }
-    ensures { λ r. ⌜ r ≡ sizeOf (formPars (now (iid .entry)) (now (owner .entry)) links (walk (now (msg .entry)) 8 .pars) f) ⌝ }
+    requires { ⌜ (links ≤ 128) × (length (now body) ≤ 65531) × (sizeOf (formPars (now iid) (now owner) links (walk (now msg) 8 .pars) (now body) f) ≤ 2048) ⌝ }
+    ensures { λ r. ⌜ r ≡ sizeOf (formPars (now (iid .entry)) (now (owner .entry)) links (walk (now (msg .entry)) 8 .pars) (now (body .entry)) f) ⌝ }
 {
     let first = f.first;
     let after = f.after;
-    let numbers = 8 * gateway::unit(f.one) + 8 * gateway::unit(f.two);
+    let numbers = 8 * gateway::unit(f.one)
+        + data_size(f.held, body.len())
+        + 8 * gateway::unit(f.two);
     let ids = listed_size(owner, links, f.listed, f.owned);
     let copies = select::picked_size(msg, first);
     HEADER + numbers + ids + copies + select::picked_size(msg, after)
@@ -218,13 +273,33 @@ fn put_number_if(out: &mut [u8], at: usize, yes: bool, tag: u16, n: u32) -> usiz
     at
 }
 
-// The parameters of one number each.
-fn put_numbers(out: &mut [u8], at: usize, f: Form) -> usize
-    requires { ⌜ at + length (parsBytes (numberPars f)) ≤ length (now out) ⌝ }
-    ensures { λ r. ⌜ PutPars (now (out .entry)) at (numberPars f) r (now (out .exit)) ⌝ }
+// The data of a unit where it is wanted; the position after it.
+fn put_data_if(out: &mut [u8], at: usize, yes: bool, tag: u16, body: &[u8]) -> usize
+    requires { ⌜ (length (now body) ≤ 65531) × (at + length (parsBytes (when yes (par tag (now body)))) ≤ length (now out)) ⌝ }
+    ensures { λ r. ⌜ PutPars (now (out .entry)) at (when yes (par tag (now (body .entry)))) r (now (out .exit)) ⌝ }
+{
+    if yes {
+        return put::put_param(out, at, tag, body);
+    }
+    at
+}
+
+// The data of a unit and the second number.
+fn put_unit(out: &mut [u8], at: usize, body: &[u8], f: Form) -> usize
+    requires { ⌜ (length (now body) ≤ 65531) × (at + length (parsBytes (heldPars (now body) f)) ≤ length (now out)) ⌝ }
+    ensures { λ r. ⌜ PutPars (now (out .entry)) at (heldPars (now (body .entry)) f) r (now (out .exit)) ⌝ }
+{
+    let next = put_data_if(out, at, f.held, f.heldtag, body);
+    put_number_if(out, next, f.two, f.tag2, f.number2)
+}
+
+// The parameters of one number each, with the data of a unit between them.
+fn put_said(out: &mut [u8], at: usize, body: &[u8], f: Form) -> usize
+    requires { ⌜ (length (now body) ≤ 65531) × (at + length (parsBytes (saidPars (now body) f)) ≤ length (now out)) ⌝ }
+    ensures { λ r. ⌜ PutPars (now (out .entry)) at (saidPars (now (body .entry)) f) r (now (out .exit)) ⌝ }
 {
     let next = put_number_if(out, at, f.one, f.tag, f.number);
-    put_number_if(out, next, f.two, f.tag2, f.number2)
+    put_unit(out, next, body, f)
 }
 
 // An identifier where it is wanted; the position after it.
@@ -312,32 +387,35 @@ fn put_pars<'a>(
     out: &mut [u8],
     at: usize,
     msg: &[u8],
+    body: &[u8],
     iid: &'a [u32; 128],
     owner: &'a [u8; 128],
     links: usize,
     f: Form,
 ) -> usize
-    requires { ⌜ (links ≤ 128) × (at + length (parsBytes (formPars (now iid) (now owner) links (walk (now msg) 8 .pars) f)) ≤ length (now out)) ⌝ }
-    ensures { λ r. ⌜ PutPars (now (out .entry)) at (formPars (now (iid .entry)) (now (owner .entry)) links (walk (now (msg .entry)) 8 .pars) f) r (now (out .exit)) ⌝ }
+    requires { ⌜ (links ≤ 128) × (length (now body) ≤ 65531) × (at + length (parsBytes (formPars (now iid) (now owner) links (walk (now msg) 8 .pars) (now body) f)) ≤ length (now out)) ⌝ }
+    ensures { λ r. ⌜ PutPars (now (out .entry)) at (formPars (now (iid .entry)) (now (owner .entry)) links (walk (now (msg .entry)) 8 .pars) (now (body .entry)) f) r (now (out .exit)) ⌝ }
 {
-    let next = put_numbers(out, at, f);
+    let next = put_said(out, at, body, f);
     put_rest(out, next, msg, iid, owner, links, f)
 }
 
-// The message of a form, whose length the caller has, written at a position; the position after it. `msg` is the received message whose parameters it repeats.
+// The message of a form, whose length the caller has, written at a position; the position after it. `msg` is the received message whose parameters it repeats,
+// `body` the data of the unit that it sends.
 pub fn put_form<'a>(
     f: Form,
     size: usize,
     msg: &[u8],
+    body: &[u8],
     iid: &'a [u32; 128],
     owner: &'a [u8; 128],
     links: usize,
     out: &mut [u8],
     at: usize,
 ) -> usize
-    requires { ⌜ FormFits (now iid) (now owner) links (walk (now msg) 8 .pars) f size at (now out) ⌝ }
-    ensures { λ r. ⌜ (r ≡ at + size) × (now (out .exit) ≡ overlay (now (out .entry)) at (encode (f .class) (f .msgtype) (formPars (now (iid .entry)) (now (owner .entry)) links (walk (now (msg .entry)) 8 .pars) f))) ⌝ }
+    requires { ⌜ FormFits (now iid) (now owner) links (walk (now msg) 8 .pars) (now body) f size at (now out) ⌝ }
+    ensures { λ r. ⌜ (r ≡ at + size) × (now (out .exit) ≡ overlay (now (out .entry)) at (encode (f .class) (f .msgtype) (formPars (now (iid .entry)) (now (owner .entry)) links (walk (now (msg .entry)) 8 .pars) (now (body .entry)) f))) ⌝ }
 {
     put::put_header(out, at, f.class, f.msgtype, size as u32);
-    put_pars(out, at + HEADER, msg, iid, owner, links, f)
+    put_pars(out, at + HEADER, msg, body, iid, owner, links, f)
 }

@@ -9,5 +9,6 @@ pub mod Good
 pub mod Effects
 pub mod Events
 pub mod Passed
+pub mod Held
 pub mod Readable
 pub mod Samples

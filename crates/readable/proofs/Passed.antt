@@ -1,10 +1,11 @@
 -- What the link side sent is passed on as a message that the reader accepts, since it accepted what was sent.
 -- Assumes nothing.
 use mathlib.Core.Path.{_≡_, ap}
-use mathlib.Core.List.{List}
-use mathlib.Core.Logic.{inr}
+use mathlib.Core.Bool.{Bool, true, false, cond, _&&_}
+use mathlib.Core.List.{List, []}
 use Prim.Native.Nat.{ℕ, _+_, _*_, _/_, _%_}
 use native.Mathlib.Omega.{arith}
+use lib.Dec.{eqb, ltb}
 use lib.ListN.{getD}
 use borrow.Author.Tests.{le-ltb}
 use Rattle.wire.specs.Walk.{walk}
@@ -14,14 +15,17 @@ use Rattle.message.specs.declared.Reading.{Reading}
 use Rattle.encode.specs.Encode.{sizeOf}
 use Rattle.encode.proofs.Verdicts.{listCode}
 use Rattle.encode.proofs.RoundTrip.{Accepted, accepted, size-accepted}
+use Rattle.laws.specs.Columns.{numberAt}
+use Rattle.gateway.specs.Sound.{mostHeld}
 use Rattle.gateway.specs.declared.Gateway.{Gateway}
+use Rattle.action.specs.declared.Action.{Action}
 use Rattle.action.specs.Words.{action}
-use Rattle.rules.specs.Effect.{actionsOf}
-use Rattle.rules.specs.Link.{toRecipients, linkMessageEffect}
+use Rattle.rules.specs.Effect.{send, takeIn, actionsOf}
+use Rattle.rules.specs.Identifiers.{linkOf, ownerAt}
+use Rattle.rules.specs.Link.{recipientsOf, toRecipients, isPending, arrival, holdEffect, linkMessageEffect}
 use Rattle.rules.specs.Rules.{classTypeOf}
-use Rattle.readable.proofs.Each.{Each}
+use Rattle.readable.proofs.Each.{Each, each-none}
 use Rattle.readable.proofs.Header.{type-small, reading-is}
-use Rattle.readable.proofs.Good.{Good}
 use Rattle.readable.proofs.Effects.{each-all}
 
 -- the list of an accepted message
@@ -32,16 +36,31 @@ list-again s a =
     let m = a .small in
     rw (le-ltb most (sizeOf (walk s 8 .pars)) (omega arith), a .listed, a .known, a .pars-ok)
 
-good-passed : (s : List ℕ) → Accepted s → (k : ℕ) → k ≡ getD s 2 0 * 256 + getD s 3 0 → (p x v : ℕ) → Good (λ o. walk s 8 .pars) (action p k x v)
-unfolding Good
-good-passed s a k e p x v =
+-- an action that passes it on
+abbrev Read : List ℕ → Action → Type 0
+Read s o = listCode (o .classtype / 256) (o .classtype % 256) (walk s 8 .pars) ≡ 0
+
+read-again : (s : List ℕ) → Accepted s → (k : ℕ) → k ≡ getD s 2 0 * 256 + getD s 3 0 → (p x v : ℕ) → Read s (action p k x v)
+read-again s a k e p x v =
     let q = type-small s a in
     let ec : k / 256 ≡ getD s 2 0 = omega arith in
     let et : k % 256 ≡ getD s 3 0 = omega arith in
-    inr (rw (ec, et) (list-again s a))
+    rw (ec, et) (list-again s a)
 
-pub each-passed : (g : Gateway) (s : List ℕ) → verdict s ≡ 0 → Each (Good (λ o. walk s 8 .pars)) (actionsOf g (linkMessageEffect g (readingOf s)))
-unfolding linkMessageEffect toRecipients meaning
-each-passed g s e =
-    each-all (λ o. walk s 8 .pars) _ _ _ 0
-    (λ p. good-passed s (accepted s e) (classTypeOf (readingOf s)) (ap (λ (r : Reading). classTypeOf r) (reading-is s e)) p _ 0)
+-- what is held, or turned away, gives none
+pub each-passed : (g : Gateway) (s : List ℕ) → verdict s ≡ 0 → Each (Read s) (actionsOf g (linkMessageEffect g s (readingOf s)))
+unfolding linkMessageEffect holdEffect toRecipients meaning
+each-passed g s e = go (eqb (readingOf s .msgtype) 1 && isPending g a) (ltb (numberAt (g .held .count) a) mostHeld)
+  where
+    l : ℕ
+    l = linkOf g (readingOf s .id)
+
+    a : ℕ
+    a = ownerAt g l
+
+    go : (u v : Bool) → Each (Read s) (actionsOf g (cond u (cond v (takeIn a (arrival s (readingOf s))) (send [])) (send (toRecipients g l (classTypeOf (readingOf s))))))
+    go true true = each-none
+    go true false = each-none
+    go false v =
+        each-all (recipientsOf g l) (classTypeOf (readingOf s)) (numberAt (g .iid) l) 0
+        (λ p. read-again s (accepted s e) (classTypeOf (readingOf s)) (ap (λ (r : Reading). classTypeOf r) (reading-is s e)) p (numberAt (g .iid) l) 0)

@@ -1,11 +1,12 @@
 -- The Ack that message M gets (Rules 11.2, 11.4), as bytes: what goes out, and that the law speaks of it.
 -- Assumes nothing.
-use mathlib.Core.Path.{_≡_, refl, ap, subst}
-use mathlib.Core.Bool.{Bool, true, false, cond}
+use mathlib.Core.Path.{_≡_, refl, sym, ap, _∙_, subst}
+use mathlib.Core.Bool.{Bool, true, false, cond, false≢true}
 use mathlib.Core.List.{List, [], _∷_}
 use Prim.Native.Nat.{ℕ}
 use native.Mathlib.Omega.{arith}
 use lib.Dec.{eqb}
+use lib.ListN.{length}
 use borrow.Author.Tests.{eqb-true}
 use Rattle.wire.specs.Number.{be}
 use Rattle.wire.specs.Walk.{stepAt, walkF, walk}
@@ -16,13 +17,15 @@ use Rattle.select.specs.Only.{only}
 use Rattle.action.specs.declared.Action.{Action}
 use Rattle.action.specs.Words.{action}
 use Rattle.rules.specs.Event.{message}
+use Rattle.rules.specs.Effect.{holdBytes}
 use Rattle.rules.specs.Rules.{inPlan, refusal}
+use Rattle.rules.specs.Sent.{actionsOn, actionAt, isSent, isData, unitFor}
 use Rattle.rules.specs.Inner.Accepted.{accepted}
 use Rattle.rules.specs.Entry.{actions}
 use Rattle.rules.specs.Samples.{event, m, g₁}
 use Rattle.rules.proofs.Samples.{samples}
 use Rattle.outgoing.specs.Message.{trafficAckPars, replyPars, sentBytes}
-use Rattle.outgoing.specs.Send.{actionsOn, actionAt, isSent, messageAt}
+use Rattle.outgoing.specs.Send.{messageAt}
 use Rattle.gateway.specs.Sound.{isSound}
 use Rattle.readable.specs.Readable.{Reads}
 use Rattle.readable.proofs.Readable.{every-reads}
@@ -40,16 +43,18 @@ acts = go (eqb (refusal g₁ (event (message 0 m))) 0) refl (samples .takes-over
     go true h e = record { accepted-is = h; actions-are = e }
     go false h e = let z : _≡_ {A = ℕ} 0 1 = cc in absurd (omega arith)
 
--- the Ack repeats mode and range
-ack : messageAt g₁ (message 0 m) 0
+-- the Ack repeats mode and range, whatever is held
+ack : (h : List ℕ) → messageAt g₁ h (message 0 m) 0
     ≡ 1 ∷ 0 ∷ 4 ∷ 3 ∷ 0 ∷ 0 ∷ 0 ∷ 0x1c ∷ 0 ∷ 0xb ∷ 0 ∷ 8 ∷ 0 ∷ 0 ∷ 0 ∷ 1 ∷ 0 ∷ 8 ∷ 0 ∷ 0xc ∷ 0 ∷ 0 ∷ 0 ∷ 0x64 ∷ 0 ∷ 0 ∷ 0 ∷ 0x73 ∷ []
 unfolding messageAt actionAt sentBytes replyPars trafficAckPars only encode sizeOf parsBytes parBytes walk walkF stepAt be m active
-ack = ap (λ (os : List Action). sentBytes g₁ (message 0 m) (actionAt os 0)) (acts .actions-are)
+ack h = ap (λ (os : List Action). sentBytes g₁ h (message 0 m) (unitFor g₁ (message 0 m) 0) (actionAt os 0)) (acts .actions-are)
 
 -- and reads: the law's premises are met
-ack-reads : Reads g₁ (message 0 m) (action 0 1027 0 0) (messageAt g₁ (message 0 m) 0)
-unfolding messageAt actionAt isSent
-ack-reads =
-    let t = accepted (isSound g₁) (inPlan g₁ (message 0 m)) 1032 (eqb-true _ _ (acts .accepted-is)) in
-    let r = every-reads g₁ (message 0 m) 0 (t .sound-yes) (t .known-yes) (ap (λ (os : List Action). isSent os 0) (acts .actions-are)) in
-    subst (λ (o : Action). Reads g₁ (message 0 m) o (messageAt g₁ (message 0 m) 0)) (ap (λ (os : List Action). actionAt os 0) (acts .actions-are)) r
+ack-reads : (h : List ℕ) → length h ≡ holdBytes → Reads g₁ h (message 0 m) (unitFor g₁ (message 0 m) 0) (action 0 1027 0 0) (messageAt g₁ h (message 0 m) 0)
+unfolding messageAt actionAt isSent isData
+ack-reads h e =
+    let t = accepted (isSound g₁) (inPlan g₁ (message 0 m)) 34944 1544 (eqb-true _ _ (acts .accepted-is)) in
+    let r =
+    every-reads g₁ h (message 0 m) 0 (t .sound-yes) e (t .known-yes) (ap (λ (os : List Action). isSent os 0) (acts .actions-are))
+    (λ d. absurd (false≢true (sym (ap (λ (os : List Action). isData (actionAt os 0)) (acts .actions-are)) ∙ d))) in
+    subst (λ (o : Action). Reads g₁ h (message 0 m) (unitFor g₁ (message 0 m) 0) o (messageAt g₁ h (message 0 m) 0)) (ap (λ (os : List Action). actionAt os 0) (acts .actions-are)) r

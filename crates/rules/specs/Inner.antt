@@ -1,4 +1,5 @@
 pub mod Accepted
+pub mod Shapes
 pub mod Few
 pub mod Decision
 pub mod Samples

@@ -1,21 +1,19 @@
 -- The actions of an event, place by place, and the unit held that each Data to an ASP sends (Rules 8.15, 8.18).
 -- Assumes nothing.
-use mathlib.Core.Path.{_≡_}
 use mathlib.Core.Bool.{Bool, true, false, _&&_, not}
 use mathlib.Core.List.{List}
-use Prim.Native.Nat.{ℕ, _/_, _%_, _<_}
+use Prim.Native.Nat.{ℕ, _/_, _%_}
 use lib.Dec.{eqb, ltb}
 use lib.ListN.{length, getD}
 use Rattle.laws.specs.Below.{concatBelow, countBelow, when}
 use Rattle.laws.specs.Columns.{numberAt}
-use Rattle.gateway.specs.Sound.{isSound}
 use Rattle.gateway.specs.declared.Gateway.{Gateway}
 use Rattle.action.specs.declared.Action.{Action}
 use Rattle.action.specs.Types.{userData}
 use Rattle.action.specs.Words.{action, linkSide}
 use Rattle.rules.specs.Event.{EventKind, message, lost, recovery, linkUp, linkDown, linkMessage}
 use Rattle.rules.specs.Effect.{actionsOf, stateAfter}
-use Rattle.rules.specs.Rules.{effectOf, inPlan}
+use Rattle.rules.specs.Rules.{effectOf}
 
 -- the actions of an event, whatever is lent
 abbrev pub actionsOn : Gateway → EventKind → List Action
@@ -53,15 +51,3 @@ isPassed (recovery a) = false
 isPassed (linkUp l) = false
 isPassed (linkDown l) = false
 isPassed (linkMessage s) = true
-
--- the action at place n sends that unit: it is held, and of the link that the action names
-pub record SendsUnit (g : Gateway) (k : EventKind) (n : ℕ) : Type 0 where
-  pub place : unitFor g k n < 128
-  pub held : unitFor g k n % 8 < numberAt (g .held .count) (unitFor g k n / 8)
-  pub link : numberAt (g .held .id) (unitFor g k n) ≡ actionAt (actionsOn g k) n .subject
-
--- of every sound state, every event that its plan allows and is not of the link side, and every place of a Data to an ASP
-abbrev pub EveryUnit : Type 0
-EveryUnit =
-    (g : Gateway) (k : EventKind) (n : ℕ) → isSound g ≡ true → inPlan g k ≡ true → isPassed k ≡ false → ltb n (length (actionsOn g k)) ≡ true → isData (actionAt (actionsOn g k) n) ≡ true
-    → SendsUnit g k n

@@ -329,7 +329,7 @@ extern "C" {
     ) -> Written;
     pub fn m2ua_load(file: *const u8, len: usize) -> Loaded;
     pub fn m2ua_is_sound(g: Gateway) -> u32;
-    pub fn m2ua_event(
+    pub fn m2ua_run(
         g: Gateway,
         kind: u32,
         index: usize,
@@ -337,6 +337,7 @@ extern "C" {
         len: usize,
         hold: *mut u8,
         hold_bytes: usize,
+        size: usize,
         words: *mut u32,
         count: usize,
     ) -> Outcome;
@@ -450,13 +451,14 @@ pub fn event(
 ) -> Outcome {
     // SAFETY: as in `write` and `is_sound`; the two `&mut` slices do not overlap. A hold of any length is answered.
     unsafe {
-        m2ua_event(
+        m2ua_run(
             *g,
             kind,
             index,
             msg.as_ptr(),
             msg.len(),
             hold.as_mut_ptr(),
+            hold.len(),
             hold.len(),
             words.as_mut_ptr(),
             words.len(),

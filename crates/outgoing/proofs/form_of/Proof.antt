@@ -11,4 +11,4 @@ form-of-spec =
     (tie.spec
     (λ c κs. search needs) (λ c. search choices depth 30) (λ c κs. search needs) (λ c. search choices depth 30) (λ c κs. search needs)
     (λ c. search choices depth 30) (λ c κs. search needs) (λ c. search choices depth 30) (λ c κs. search needs) (λ c. search choices depth 30)
-    (λ c κs. search needs) (λ c. search choices depth 30) (λ c κs. search needs) (λ c. search choices depth 30))
+    (λ c κs. search needs) (λ c. search choices depth 30) (λ c κs. search needs) (λ c. search choices depth 30) (λ c κs. search needs) (λ c. search choices depth 30))

@@ -12,22 +12,22 @@ use Rattle.outgoing.proofs.put_form.Statement.{statement}
 use Rattle.outgoing.proofs.put_form.Tie as tie
 
 put-header-requires : tie.Need-put-header-requires
-put-header-requires c κs = let a = c .before .before .before .args in
-    let p = c .before .before .before .pre in
-    let e = size-is (formPars (a .iid .now) (a .owner .now) (a .links) (walk (a .msg .now) 8 .pars) (a .f)) in
+put-header-requires c κs = let a = c .before .before .before .before .args in
+    let p = c .before .before .before .before .pre in
+    let e = size-is (formPars (a .iid .now) (a .owner .now) (a .links) (walk (a .msg .now) 8 .pars) (a .body .now) (a .f)) in
     omega arith
 
 put-pars-requires : tie.Need-put-pars-requires
-put-pars-requires c κs = let a = c .before .before .before .before .before .before .before .args in
-    let p = c .before .before .before .before .before .before .before .pre in
-    let e = size-is (formPars (a .iid .now) (a .owner .now) (a .links) (walk (a .msg .now) 8 .pars) (a .f)) in
+put-pars-requires c κs = let a = c .before .before .before .before .before .before .before .before .args in
+    let p = c .before .before .before .before .before .before .before .before .pre in
+    let e = size-is (formPars (a .iid .now) (a .owner .now) (a .links) (walk (a .msg .now) 8 .pars) (a .body .now) (a .f)) in
     let l = ap length (c .before .before .before .put-header .ensures) ∙ length-over _ _ _ in
-    (omega arith, omega arith)
+    (omega arith, p .short, omega arith)
 
 returns : tie.Need-returns
-returns c = let a = c .before .before .before .before .before .before .before .before .before .before .args in
-    let p = c .before .before .before .before .before .before .before .before .before .before .pre in
-    let ps = formPars (a .iid .now) (a .owner .now) (a .links) (walk (a .msg .now) 8 .pars) (a .f) in
+returns c = let a = c .before .before .before .before .before .before .before .before .before .before .before .args in
+    let p = c .before .before .before .before .before .before .before .before .before .before .before .pre in
+    let ps = formPars (a .iid .now) (a .owner .now) (a .links) (walk (a .msg .now) 8 .pars) (a .body .now) (a .f) in
     let e = size-is ps in
     let w = c .before .before .put-pars .ensures in
     let n = w .next in (

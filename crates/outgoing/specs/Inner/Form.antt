@@ -2,7 +2,7 @@
 -- Assumes nothing.
 use mathlib.Core.Path.{_≡_, refl, sym, ap, _∙_}
 use Prim.Native.Nat.{ℕ, _+_, _*_, _/_, _%_, _<_, _≤_}
-use mathlib.Core.Bool.{Bool, true, false, cond, _||_}
+use mathlib.Core.Bool.{Bool, true, false, cond, _||_, _&&_, not}
 use mathlib.Core.List.{List, [], _∷_, _++_, append-nil}
 use native.Mathlib.Omega.{arith}
 use lib.ListN.{length}
@@ -10,7 +10,7 @@ use lib.Dec.{eqb}
 use Rattle.laws.specs.Below.{concatBelow, countBelow, when}
 use Rattle.laws.specs.Columns.{numberAt}
 use Rattle.wire.specs.Walk.{Par, stepAt, walkF, walk}
-use Rattle.put.specs.Bytes.{par, bytes32}
+use Rattle.put.specs.Bytes.{par, parSize, bytes32}
 use Rattle.encode.specs.Encode.{sizeOf}
 use Rattle.select.specs.Only.{only}
 use Rattle.select.specs.Inner.Picks.{picks, only-none, only-all}
@@ -18,10 +18,12 @@ use Rattle.select.specs.declared.Which.{Which}
 use Rattle.select.specs.declared.Which.the-variants.{Nothing, All, Mode, Ids, Heartbeat}
 use Rattle.gateway.specs.declared.Gateway.{Gateway}
 use Rattle.action.specs.declared.Action.{Action}
-use Rattle.action.specs.Types.{mgmtError, mgmtNotify, beatAck, aspUpAck, aspDownAck, aspActiveAck, aspInactiveAck, dataAck}
-use Rattle.rules.specs.Event.{EventKind, message, lost, recovery, linkUp, linkDown, linkMessage}
-use Rattle.outgoing.specs.Message.{numberPar, idsOf, idsPar, errorPars, notifyPars, trafficAckPars, beatAckPars, linkPars, replyPars, sentPars}
+use Rattle.action.specs.Types.{mgmtError, mgmtNotify, beatAck, aspUpAck, aspDownAck, aspActiveAck, aspInactiveAck, userData, dataAck}
+use Rattle.rules.specs.Event.{EventKind, message, lost, recovery, linkUp, linkDown, linkMessage, messageOf}
+use Rattle.rules.specs.Sent.{isPassed}
+use Rattle.outgoing.specs.Message.{numberPar, idsOf, idsPar, errorPars, notifyPars, trafficAckPars, beatAckPars, linkPars, heldBody, unitPars, replyPars, sentPars}
 use Rattle.outgoing.specs.declared.Form.{Form}
+use Rattle.outgoing.specs.declared.Unit.{Unit}
 
 -- ---- the parameters of a form
 
@@ -39,8 +41,12 @@ idsIn iid owner n a = concatBelow (idAt iid owner a) n
 unfoldable pub idsParIn : List ℕ → List ℕ → ℕ → ℕ → List Par
 idsParIn iid owner n a = cond (eqb (length (idsIn iid owner n a)) 0) [] (par 0x1 (idsIn iid owner n a) ∷ [])
 
-unfoldable pub numberPars : Form → List Par
-numberPars f = when (f .one) (numberPar (f .tag) (f .number)) ++ when (f .two) (numberPar (f .tag2) (f .number2))
+-- the data of a unit, whose body is lent, and the second number
+unfoldable pub heldPars : List ℕ → Form → List Par
+heldPars body f = when (f .held) (par (f .heldtag) body) ++ when (f .two) (numberPar (f .tag2) (f .number2))
+
+unfoldable pub saidPars : List ℕ → Form → List Par
+saidPars body f = when (f .one) (numberPar (f .tag) (f .number)) ++ heldPars body f
 
 unfoldable pub listedPars : List ℕ → List ℕ → ℕ → Form → List Par
 listedPars iid owner n f = cond (f .listed) (idsParIn iid owner n (f .owned)) []
@@ -48,15 +54,20 @@ listedPars iid owner n f = cond (f .listed) (idsParIn iid owner n (f .owned)) []
 unfoldable pub copiedPars : List Par → Form → List Par
 copiedPars ps f = only (picks (f .first)) ps ++ only (picks (f .after)) ps
 
-unfoldable pub formPars : List ℕ → List ℕ → ℕ → List Par → Form → List Par
-formPars iid owner n ps f = numberPars f ++ (listedPars iid owner n f ++ copiedPars ps f)
+unfoldable pub formPars : List ℕ → List ℕ → ℕ → List Par → List ℕ → Form → List Par
+formPars iid owner n ps body f = saidPars body f ++ (listedPars iid owner n f ++ copiedPars ps f)
 
 -- the message of a form goes into a buffer at a position
-pub record FormFits (iid owner : List ℕ) (n : ℕ) (ps : List Par) (f : Form) (size at : ℕ) (out : List ℕ) : Type 0 where
+pub record FormFits (iid owner : List ℕ) (n : ℕ) (ps : List Par) (body : List ℕ) (f : Form) (size at : ℕ) (out : List ℕ) : Type 0 where
   pub links : n ≤ 128
-  pub size-is : size ≡ sizeOf (formPars iid owner n ps f)
+  pub short : length body ≤ 65531
+  pub size-is : size ≡ sizeOf (formPars iid owner n ps body f)
   pub small : size ≤ 2048
   pub room : at + size ≤ length out
+
+-- the bytes that a unit's data take in their parameter
+unfoldable pub dataSize : Bool → ℕ → ℕ
+dataSize held n = cond held (parSize n) 0
 
 -- the bytes that the identifiers take in their parameter, from how many there are
 unfoldable pub listedSize : List ℕ → ℕ → Bool → ℕ → ℕ
@@ -79,9 +90,31 @@ saying ct tag number two tag2 number2 =
       one = true;
       tag = tag;
       number = number;
+      held = false;
+      heldtag = 0;
       two = two;
       tag2 = tag2;
       number2 = number2;
+      listed = false;
+      owned = 0;
+      first = Nothing;
+      after = Nothing;
+    }
+
+-- the identifier of a link, and a unit of it
+abbrev pub releasing : ℕ → ℕ → Unit → Form
+releasing ct link u =
+    record {
+      class = classOf ct;
+      msgtype = typeOf ct;
+      one = true;
+      tag = 0x1;
+      number = link;
+      held = true;
+      heldtag = u .tag;
+      two = u .marked;
+      tag2 = 0x13;
+      number2 = u .correlation;
       listed = false;
       owned = 0;
       first = Nothing;
@@ -97,6 +130,8 @@ listing ct tag number a =
       one = true;
       tag = tag;
       number = number;
+      held = false;
+      heldtag = 0;
       two = false;
       tag2 = 0;
       number2 = 0;
@@ -115,6 +150,8 @@ copying ct first after =
       one = false;
       tag = 0;
       number = 0;
+      held = false;
+      heldtag = 0;
       two = false;
       tag2 = 0;
       number2 = 0;
@@ -124,16 +161,21 @@ copying ct first after =
       after = after;
     }
 
--- of an action that passes a message on, or of one that the gateway makes
-unfoldable pub formOf : Bool → Action → Form
-formOf passed o =
+-- of an action that passes a message on, or of one that the gateway makes; u is the unit that it sends, if it sends one
+unfoldable pub formOf : Bool → Action → Unit → Form
+formOf passed o u =
     cond passed (copying (o .classtype) All Nothing)
     (cond (eqb (o .classtype) mgmtError) (saying (o .classtype) 0xc (o .value) (eqb (o .value) 2) 0x1 (o .subject))
     (cond (eqb (o .classtype) mgmtNotify) (listing (o .classtype) 0xd (o .value) (o .subject))
     (cond (eqb (o .classtype) aspUpAck || eqb (o .classtype) aspDownAck) (copying (o .classtype) Nothing Nothing)
     (cond (eqb (o .classtype) beatAck) (copying (o .classtype) Heartbeat Nothing)
     (cond (eqb (o .classtype) aspActiveAck || eqb (o .classtype) aspInactiveAck) (copying (o .classtype) Mode Ids)
-    (saying (o .classtype) 0x1 (o .subject) (eqb (o .classtype) dataAck) 0x13 (o .value)))))))
+    (cond (eqb (o .classtype) userData) (releasing (o .classtype) (o .subject) u)
+    (saying (o .classtype) 0x1 (o .subject) (eqb (o .classtype) dataAck) 0x13 (o .value))))))))
+
+-- the unit at an index
+unfoldable pub unitOf : Gateway → ℕ → Unit
+unitOf g i = record { tag = numberAt (g .held .tag) i; marked = eqb (numberAt (g .held .marked) i) 1; correlation = numberAt (g .held .correlation) i }
 
 -- ---- it says what the message has
 
@@ -144,108 +186,131 @@ none-twice ps = rw (only-none ps)
 none-after : (ps qs : List Par) → qs ++ only (picks Nothing) ps ≡ qs
 none-after ps qs = rw (only-none ps) (append-nil qs)
 
-module _ (iid owner : List ℕ) (n : ℕ) (ps : List Par) where
+module _ (iid owner : List ℕ) (n : ℕ) (ps : List Par) (body : List ℕ) where
   abbrev pars : Form → List Par
-  pars f = formPars iid owner n ps f
+  pars f = formPars iid owner n ps body f
 
   pub copying-pars : (ct : ℕ) (a b : Which) → pars (copying ct a b) ≡ only (picks a) ps ++ only (picks b) ps
-  unfolding formPars numberPars listedPars copiedPars
+  unfolding formPars saidPars heldPars listedPars copiedPars
   copying-pars ct a b = refl
 
   pub saying-pars : (ct t m : ℕ) (two : Bool) (t2 m2 : ℕ) → pars (saying ct t m two t2 m2) ≡ numberPar t m ∷ when two (numberPar t2 m2)
-  unfolding formPars numberPars listedPars copiedPars
+  unfolding formPars saidPars heldPars listedPars copiedPars
   saying-pars ct t m two t2 m2 = rw (none-twice ps) (ap (λ (x : List Par). numberPar t m ∷ x) (append-nil (when two (numberPar t2 m2))))
 
+  pub releasing-pars : (ct m : ℕ) (u : Unit) → pars (releasing ct m u) ≡ numberPar 0x1 m ∷ par (u .tag) body ∷ when (u .marked) (numberPar 0x13 (u .correlation))
+  unfolding formPars saidPars heldPars listedPars copiedPars
+  releasing-pars ct m u = rw (none-twice ps) (ap (λ (x : List Par). numberPar 0x1 m ∷ par (u .tag) body ∷ x) (append-nil (when (u .marked) (numberPar 0x13 (u .correlation)))))
+
   pub listing-pars : (ct t m a : ℕ) → pars (listing ct t m a) ≡ numberPar t m ∷ idsParIn iid owner n a
-  unfolding formPars numberPars listedPars copiedPars
+  unfolding formPars saidPars heldPars listedPars copiedPars
   listing-pars ct t m a = rw (none-twice ps) (ap (λ (x : List Par). numberPar t m ∷ x) (append-nil (idsParIn iid owner n a)))
 
-pub form-passed : (g : Gateway) (ps : List Par) (o : Action) → formPars (g .iid) (g .owner) (g .links) ps (formOf true o) ≡ ps
+pub form-passed : (g : Gateway) (ps : List Par) (body : List ℕ) (o : Action) (u : Unit) → formPars (g .iid) (g .owner) (g .links) ps body (formOf true o u) ≡ ps
 unfolding formOf
-form-passed g ps o = copying-pars (g .iid) (g .owner) (g .links) ps (o .classtype) All Nothing ∙ none-after ps (only (picks All) ps) ∙ only-all ps
+form-passed g ps body o u = copying-pars (g .iid) (g .owner) (g .links) ps body (o .classtype) All Nothing ∙ none-after ps (only (picks All) ps) ∙ only-all ps
 
--- each answer of the gateway, by its message
-module _ (g : Gateway) (ps : List Par) (o : Action) where
+-- each answer of the gateway, by its message; i is the index of the unit that it sends
+module _ (g : Gateway) (h : List ℕ) (ps : List Par) (i : ℕ) (o : Action) where
   abbrev on : Form → List Par
-  on f = formPars (g .iid) (g .owner) (g .links) ps f
+  on f = formPars (g .iid) (g .owner) (g .links) ps (heldBody g h i) f
 
   error-is : on (saying (o .classtype) 0xc (o .value) (eqb (o .value) 2) 0x1 (o .subject)) ≡ errorPars o
   unfolding errorPars
-  error-is = saying-pars (g .iid) (g .owner) (g .links) ps (o .classtype) 0xc (o .value) (eqb (o .value) 2) 0x1 (o .subject)
+  error-is = saying-pars (g .iid) (g .owner) (g .links) ps (heldBody g h i) (o .classtype) 0xc (o .value) (eqb (o .value) 2) 0x1 (o .subject)
 
   notify-is : on (listing (o .classtype) 0xd (o .value) (o .subject)) ≡ notifyPars g o
   unfolding notifyPars idsPar idsOf idsParIn idsIn
-  notify-is = listing-pars (g .iid) (g .owner) (g .links) ps (o .classtype) 0xd (o .value) (o .subject)
+  notify-is = listing-pars (g .iid) (g .owner) (g .links) ps (heldBody g h i) (o .classtype) 0xd (o .value) (o .subject)
 
   none-is : on (copying (o .classtype) Nothing Nothing) ≡ []
-  none-is = copying-pars (g .iid) (g .owner) (g .links) ps (o .classtype) Nothing Nothing ∙ none-twice ps
+  none-is = copying-pars (g .iid) (g .owner) (g .links) ps (heldBody g h i) (o .classtype) Nothing Nothing ∙ none-twice ps
 
   beat-is : on (copying (o .classtype) Heartbeat Nothing) ≡ beatAckPars ps
   unfolding beatAckPars
-  beat-is = copying-pars (g .iid) (g .owner) (g .links) ps (o .classtype) Heartbeat Nothing ∙ none-after ps (only (picks Heartbeat) ps)
+  beat-is = copying-pars (g .iid) (g .owner) (g .links) ps (heldBody g h i) (o .classtype) Heartbeat Nothing ∙ none-after ps (only (picks Heartbeat) ps)
 
   traffic-is : on (copying (o .classtype) Mode Ids) ≡ trafficAckPars ps
   unfolding trafficAckPars
-  traffic-is = copying-pars (g .iid) (g .owner) (g .links) ps (o .classtype) Mode Ids
+  traffic-is = copying-pars (g .iid) (g .owner) (g .links) ps (heldBody g h i) (o .classtype) Mode Ids
+
+  unit-is : on (releasing (o .classtype) (o .subject) (unitOf g i)) ≡ unitPars g h i o
+  unfolding unitPars unitOf
+  unit-is = releasing-pars (g .iid) (g .owner) (g .links) ps (heldBody g h i) (o .classtype) (o .subject) (unitOf g i)
 
   link-is : on (saying (o .classtype) 0x1 (o .subject) (eqb (o .classtype) dataAck) 0x13 (o .value)) ≡ linkPars o
   unfolding linkPars
-  link-is = saying-pars (g .iid) (g .owner) (g .links) ps (o .classtype) 0x1 (o .subject) (eqb (o .classtype) dataAck) 0x13 (o .value)
+  link-is = saying-pars (g .iid) (g .owner) (g .links) ps (heldBody g h i) (o .classtype) 0x1 (o .subject) (eqb (o .classtype) dataAck) 0x13 (o .value)
 
-  pub form-reply : formPars (g .iid) (g .owner) (g .links) ps (formOf false o) ≡ replyPars g ps o
+  pub form-reply : formPars (g .iid) (g .owner) (g .links) ps (heldBody g h i) (formOf false o (unitOf g i)) ≡ replyPars g h ps i o
   unfolding formOf replyPars
-  form-reply = go (eqb (o .classtype) mgmtError) (eqb (o .classtype) mgmtNotify) (eqb (o .classtype) aspUpAck || eqb (o .classtype) aspDownAck) (eqb (o .classtype) beatAck) (eqb (o .classtype) aspActiveAck || eqb (o .classtype) aspInactiveAck)
+  form-reply = go (eqb (o .classtype) mgmtError) (eqb (o .classtype) mgmtNotify) (eqb (o .classtype) aspUpAck || eqb (o .classtype) aspDownAck) (eqb (o .classtype) beatAck) (eqb (o .classtype) aspActiveAck || eqb (o .classtype) aspInactiveAck) (eqb (o .classtype) userData)
     where
-      go : (e n u b a : Bool)
+      go : (e n u b a d : Bool)
           → on
           (cond e (saying (o .classtype) 0xc (o .value) (eqb (o .value) 2) 0x1 (o .subject))
           (cond n (listing (o .classtype) 0xd (o .value) (o .subject))
           (cond u (copying (o .classtype) Nothing Nothing)
           (cond b (copying (o .classtype) Heartbeat Nothing)
           (cond a (copying (o .classtype) Mode Ids)
-          (saying (o .classtype) 0x1 (o .subject) (eqb (o .classtype) dataAck) 0x13 (o .value)))))))
-          ≡ cond e (errorPars o) (cond n (notifyPars g o) (cond u [] (cond b (beatAckPars ps) (cond a (trafficAckPars ps) (linkPars o)))))
-      go true n u b a = error-is
-      go false true u b a = notify-is
-      go false false true b a = none-is
-      go false false false true a = beat-is
-      go false false false false true = traffic-is
-      go false false false false false = link-is
+          (cond d (releasing (o .classtype) (o .subject) (unitOf g i))
+          (saying (o .classtype) 0x1 (o .subject) (eqb (o .classtype) dataAck) 0x13 (o .value))))))))
+          ≡ cond e (errorPars o) (cond n (notifyPars g o) (cond u [] (cond b (beatAckPars ps) (cond a (trafficAckPars ps) (cond d (unitPars g h i o) (linkPars o))))))
+      go true n u b a d = error-is
+      go false true u b a d = notify-is
+      go false false true b a d = none-is
+      go false false false true a d = beat-is
+      go false false false false true d = traffic-is
+      go false false false false false true = unit-is
+      go false false false false false false = link-is
 
--- ---- of an event: the message whose parameters are repeated, and whether it is passed on
+-- ---- the body lent
 
-unfoldable pub lentTo : EventKind → List ℕ
-lentTo (message p s) = s
-lentTo (lost p) = []
-lentTo (recovery a) = []
-lentTo (linkUp l) = []
-lentTo (linkDown l) = []
-lentTo (linkMessage s) = s
+-- only a form that has the data of a unit shows it
+pub no-data : (iid owner : List ℕ) (n : ℕ) (ps : List Par) (b c : List ℕ) (f : Form) → f .held ≡ false → formPars iid owner n ps b f ≡ formPars iid owner n ps c f
+unfolding formPars saidPars heldPars
+no-data iid owner n ps b c f e = rw e
 
-unfoldable pub isPassed : EventKind → Bool
-isPassed (message p s) = false
-isPassed (lost p) = false
-isPassed (recovery a) = false
-isPassed (linkUp l) = false
-isPassed (linkDown l) = false
-isPassed (linkMessage s) = true
+-- that of Data which is not passed on
+pub has-data : (passed : Bool) (o : Action) (u : Unit) → (eqb (o .classtype) userData && not passed) ≡ false → formOf passed o u .held ≡ false
+unfolding formOf
+has-data true o u h = refl
+has-data false o u h = go (eqb (o .classtype) mgmtError) (eqb (o .classtype) mgmtNotify) (eqb (o .classtype) aspUpAck || eqb (o .classtype) aspDownAck) (eqb (o .classtype) beatAck) (eqb (o .classtype) aspActiveAck || eqb (o .classtype) aspInactiveAck) (eqb (o .classtype) userData) h
+  where
+    go : (e n v b a d : Bool) → (d && true) ≡ false
+        → cond e (saying (o .classtype) 0xc (o .value) (eqb (o .value) 2) 0x1 (o .subject))
+        (cond n (listing (o .classtype) 0xd (o .value) (o .subject))
+        (cond v (copying (o .classtype) Nothing Nothing)
+        (cond b (copying (o .classtype) Heartbeat Nothing)
+        (cond a (copying (o .classtype) Mode Ids)
+        (cond d (releasing (o .classtype) (o .subject) u)
+        (saying (o .classtype) 0x1 (o .subject) (eqb (o .classtype) dataAck) 0x13 (o .value)))))))
+        .held ≡ false
+    go true n v b a d q = refl
+    go false true v b a d q = refl
+    go false false true b a d q = refl
+    go false false false true a d q = refl
+    go false false false false true d q = refl
+    go false false false false false true q = q
+    go false false false false false false q = refl
+
+-- ---- of an event: the message whose parameters are repeated
 
 pub no-pars : walk [] 8 .pars ≡ []
 unfolding walk walkF stepAt
 no-pars = refl
 
-module _ (g : Gateway) (o : Action) where
-  no-message : replyPars g [] o ≡ formPars (g .iid) (g .owner) (g .links) (walk [] 8 .pars) (formOf false o)
-  no-message = rw no-pars (sym (form-reply g [] o))
+module _ (g : Gateway) (h : List ℕ) (i : ℕ) (o : Action) where
+  no-message : replyPars g h [] i o ≡ formPars (g .iid) (g .owner) (g .links) (walk [] 8 .pars) (heldBody g h i) (formOf false o (unitOf g i))
+  no-message = rw no-pars (sym (form-reply g h [] i o))
 
-  pub sent-form : (k : EventKind) → sentPars g k o ≡ formPars (g .iid) (g .owner) (g .links) (walk (lentTo k) 8 .pars) (formOf (isPassed k) o)
-  unfolding lentTo isPassed
-  sent-form (message p s) = sym (form-reply g (walk s 8 .pars) o)
+  pub sent-form : (k : EventKind) → sentPars g h k i o ≡ formPars (g .iid) (g .owner) (g .links) (walk (messageOf k) 8 .pars) (heldBody g h i) (formOf (isPassed k) o (unitOf g i))
+  sent-form (message p s) = sym (form-reply g h (walk s 8 .pars) i o)
   sent-form (lost p) = no-message
   sent-form (recovery a) = no-message
   sent-form (linkUp l) = no-message
   sent-form (linkDown l) = no-message
-  sent-form (linkMessage s) = sym (form-passed g (walk s 8 .pars) o)
+  sent-form (linkMessage s) = sym (form-passed g (walk s 8 .pars) (heldBody g h i) o (unitOf g i))
 
 -- the class of a form is the action's, whose classes are below 256
 pub form-class : (ct : ℕ) → ct < 65536 → classOf ct ≡ ct / 256

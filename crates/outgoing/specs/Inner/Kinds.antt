@@ -11,19 +11,21 @@ use Rattle.wire.specs.Walk.{walk}
 use Rattle.gateway.specs.declared.Gateway.{Gateway}
 use Rattle.action.specs.declared.Action.{Action}
 use Rattle.ask.specs.Happened.{messageKind, lostKind, recoveryKind, linkUpKind, linkDownKind, linkMessageKind, happened}
-use Rattle.outgoing.specs.Message.{sentPars}
-use Rattle.outgoing.specs.Inner.Form.{formPars, formOf, lentTo, isPassed, sent-form}
+use Rattle.rules.specs.Event.{messageOf}
+use Rattle.rules.specs.Sent.{isPassed}
+use Rattle.outgoing.specs.Message.{heldBody, sentPars}
+use Rattle.outgoing.specs.Inner.Form.{formPars, formOf, unitOf, sent-form}
 
 -- the message of a call of the kind k that is lent a message s: s where the event is a message
 unfoldable pub lentBy : ℕ → List ℕ → List ℕ
 lentBy k s = cond (eqb k messageKind) s (cond (eqb k linkMessageKind) s [])
 
 module _ (k i : ℕ) (s : List ℕ) where
-  pub kinds : (lentTo (happened k i s) ≡ lentBy k s) × (isPassed (happened k i s) ≡ eqb k linkMessageKind)
-  unfolding lentTo isPassed lentBy
+  pub kinds : (messageOf (happened k i s) ≡ lentBy k s) × (isPassed (happened k i s) ≡ eqb k linkMessageKind)
+  unfolding lentBy
   kinds = go (ℕ-discrete k 0) (ℕ-discrete k 1) (ℕ-discrete k 2) (ℕ-discrete k 3) (ℕ-discrete k 4) (ℕ-discrete k 5)
     where
-      go : Dec (k ≡ 0) → Dec (k ≡ 1) → Dec (k ≡ 2) → Dec (k ≡ 3) → Dec (k ≡ 4) → Dec (k ≡ 5) → (lentTo (happened k i s) ≡ lentBy k s) × (isPassed (happened k i s) ≡ eqb k linkMessageKind)
+      go : Dec (k ≡ 0) → Dec (k ≡ 1) → Dec (k ≡ 2) → Dec (k ≡ 3) → Dec (k ≡ 4) → Dec (k ≡ 5) → (messageOf (happened k i s) ≡ lentBy k s) × (isPassed (happened k i s) ≡ eqb k linkMessageKind)
       go (yes z) a b c d e = rw z (refl, refl)
       go (no x) (yes z) b c d e = rw z (refl, refl)
       go (no x) (no y) (yes z) c d e = rw z (refl, refl)
@@ -32,9 +34,10 @@ module _ (k i : ℕ) (s : List ℕ) where
       go (no x) (no y) (no u) (no v) (no w) (yes z) = rw z (refl, refl)
       go (no x) (no y) (no u) (no v) (no w) (no q) = rw (ne-eqb k 0 x, ne-eqb k 1 y, ne-eqb k 2 u, ne-eqb k 3 v, ne-eqb k 4 w, ne-eqb k 5 q) (refl, refl)
 
-  -- what is sent of an action of the event
-  pub sent-by : (g : Gateway) (o : Action) → sentPars g (happened k i s) o ≡ formPars (g .iid) (g .owner) (g .links) (walk (lentBy k s) 8 .pars) (formOf (eqb k linkMessageKind) o)
-  sent-by g o =
-      sent-form g o (happened k i s)
-      ∙ ap (λ (x : List ℕ). formPars (g .iid) (g .owner) (g .links) (walk x 8 .pars) (formOf (isPassed (happened k i s)) o)) (kinds .0)
-      ∙ ap (λ (b : Bool). formPars (g .iid) (g .owner) (g .links) (walk (lentBy k s) 8 .pars) (formOf b o)) (kinds .1)
+  -- what is sent of an action of the event; j is the index of the unit that it sends
+  pub sent-by : (g : Gateway) (h : List ℕ) (j : ℕ) (o : Action)
+      → sentPars g h (happened k i s) j o ≡ formPars (g .iid) (g .owner) (g .links) (walk (lentBy k s) 8 .pars) (heldBody g h j) (formOf (eqb k linkMessageKind) o (unitOf g j))
+  sent-by g h j o =
+      sent-form g h j o (happened k i s)
+      ∙ ap (λ (x : List ℕ). formPars (g .iid) (g .owner) (g .links) (walk x 8 .pars) (heldBody g h j) (formOf (isPassed (happened k i s)) o (unitOf g j))) (kinds .0)
+      ∙ ap (λ (b : Bool). formPars (g .iid) (g .owner) (g .links) (walk (lentBy k s) 8 .pars) (heldBody g h j) (formOf b o (unitOf g j))) (kinds .1)

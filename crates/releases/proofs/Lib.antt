@@ -1,0 +1,4 @@
+pub mod Tags
+pub mod Units
+pub mod Effects
+pub mod Releases

@@ -1,0 +1,121 @@
+-- The effects of every event but a message of the link side, case by case: what holds of each shape of effect holds of them all.
+-- Assumes nothing.
+use Prim.Native.Nat.{ℕ, _<_}
+use mathlib.Core.Path.{_≡_, refl, sym}
+use mathlib.Core.Bool.{Bool, true, false, cond, _&&_, false≢true}
+use mathlib.Core.List.{List, [], _∷_}
+use native.Mathlib.Omega.{arith}
+use lib.Dec.{eqb}
+use borrow.Author.Tests.{lt-ltb, ltb-true}
+use Rattle.wire.specs.Walk.{Par}
+use Rattle.message.specs.declared.Reading.{Reading}
+use Rattle.action.specs.declared.Action.{Action}
+use Rattle.action.specs.Types.{userData, releaseConfirm, releaseIndication}
+use Rattle.action.specs.Words.{action, linkSide, toAll}
+use Rattle.gateway.specs.Inner.Laws.{counts-within}
+use Rattle.gateway.specs.Sound.{isSound}
+use Rattle.gateway.specs.declared.Gateway.{Gateway}
+use Rattle.server.specs.declared.Change.{Change}
+use Rattle.server.specs.declared.Change.the-variants.{AspDown, Activate, Recover}
+use Rattle.server.specs.Inner.Change.{fits}
+use Rattle.rules.specs.Event.{EventKind, message, lost, recovery, linkUp, linkDown, linkMessage}
+use Rattle.rules.specs.Effect.{Effect, send, setLink, changeIn}
+use Rattle.rules.specs.Asp.{upEffect, downEffect, lostEffect, activeEffect, inactiveEffect, trafficEffect}
+use Rattle.rules.specs.Link.{establish, release, dataEffect, linkEffect, classSixEffect, toRecipients, linkUpEffect, linkDownEffect}
+use Rattle.rules.specs.Rules.{readEffect, messageEffect, effectOf, inPlan}
+use Rattle.rules.specs.Sent.{isData, isPassed}
+
+-- Q holds of each shape. No action of its own is Data to an ASP, and who becomes active is an ASP.
+pub record Shapes (Q : Effect → Type 0) : Type 0 where
+  pub say-none : Q (send [])
+  pub say-one : (x : Action) → isData x ≡ false → Q (send (x ∷ []))
+  -- a second one under a condition
+  pub say-two : (x y : Action) (u : Bool) → isData x ≡ false → isData y ≡ false → Q (send (x ∷ cond u (y ∷ []) []))
+  pub turn-one : (l n : ℕ) (x : Action) → isData x ≡ false → Q (setLink l n (x ∷ []))
+  pub turn-all : (l n : ℕ) (who : List Bool) (k s v : ℕ) → eqb k userData ≡ false → Q (setLink l n (toAll who k s v))
+  pub change-none : (k : Change) (named : List Bool) → fits k ≡ true → Q (changeIn [] k named)
+  pub change-one : (x : Action) (k : Change) (named : List Bool) → isData x ≡ false → fits k ≡ true → Q (changeIn (x ∷ []) k named)
+  pub change-two : (x y : Action) (u : Bool) (k : Change) (named : List Bool) → isData x ≡ false → isData y ≡ false → fits k ≡ true → Q (changeIn (x ∷ cond u (y ∷ []) []) k named)
+
+-- ---- no Data to an ASP
+
+plain : (q k s v : ℕ) → eqb k userData ≡ false → isData (action q k s v) ≡ false
+unfolding isData
+plain q k s v e = rw e
+
+to-link : (k s v : ℕ) → isData (action linkSide k s v) ≡ false
+unfolding isData
+to-link k s v = go (eqb k userData)
+  where
+    go : (u : Bool) → (u && false) ≡ false
+    go true = refl
+    go false = refl
+
+-- a link goes down by either of two types
+by-type : (u : Bool) → eqb (cond u releaseConfirm releaseIndication) userData ≡ false
+by-type true = refl
+by-type false = refl
+
+-- ---- the effects
+
+module _ {Q : Effect → Type 0} (f : Shapes Q) where
+  by-test : (u : Bool) (x y : Effect) → Q x → Q y → Q (cond u x y)
+  by-test true x y a b = a
+  by-test false x y a b = b
+
+  -- each as `search` takes it
+  none : Q (send [])
+  none = f .say-none
+
+  one : (x : Action) → isData x ≡ false → Q (send (x ∷ []))
+  one = f .say-one
+
+  two : (x y : Action) (u : Bool) → isData x ≡ false → isData y ≡ false → Q (send (x ∷ cond u (y ∷ []) []))
+  two = f .say-two
+
+  ruleset shapes = (by-test, none, one, two, plain, to-link, refl)
+
+  module _ (g : Gateway) (p : ℕ) (b : p < 16) where
+    traffic : (r : Reading) (ps : List Par) (act : List Bool → Effect) → ((named : List Bool) → Q (act named)) → Q (trafficEffect g p r ps act)
+    unfolding trafficEffect
+    traffic r ps act h = search (shapes, h) depth 12
+
+    on : fits (Activate p) ≡ true
+    on = lt-ltb p 16 b
+
+    active : (mode : ℕ) (named : List Bool) → Q (activeEffect g p mode named)
+    unfolding activeEffect
+    active mode named = search (shapes, f .change-one, on) depth 8
+
+    inactive : (named : List Bool) → Q (inactiveEffect p named)
+    unfolding inactiveEffect
+    inactive named = search (shapes, f .change-one) depth 8
+
+    up : (r : Reading) → Q (upEffect g p r)
+    unfolding upEffect
+    up r = search (shapes, f .change-two) depth 8
+
+    down : Q (downEffect g p)
+    unfolding downEffect
+    down = search (shapes, f .change-one) depth 8
+
+    six : (r : Reading) → Q (classSixEffect g p r)
+    unfolding classSixEffect linkEffect establish release dataEffect
+    six r = search (shapes, f .turn-one) depth 16
+
+    read : (s : List ℕ) (r : Reading) → Q (readEffect g p s r)
+    unfolding readEffect
+    read s r = search (shapes, up, down, traffic, active, inactive, six) depth 16
+
+    of-message : (s : List ℕ) → Q (messageEffect g p s)
+    unfolding messageEffect
+    of-message s = search (shapes, read) depth 8
+
+  pub effect-by : (g : Gateway) (k : EventKind) → isSound g ≡ true → inPlan g k ≡ true → isPassed k ≡ false → Q (effectOf g k)
+  unfolding lostEffect linkUpEffect linkDownEffect toRecipients
+  effect-by g (message p s) c i n = of-message g p (omega (arith, counts-within g c .asps, ltb-true p (g .asps) i)) s
+  effect-by g (lost p) c i n = f .change-none (AspDown p) _ refl
+  effect-by g (recovery a) c i n = f .change-none Recover _ refl
+  effect-by g (linkUp l) c i n = search (shapes, f .turn-all) depth 8
+  effect-by g (linkDown l) c i n = search (shapes, f .turn-all, by-type) depth 8
+  effect-by g (linkMessage s) c i n = absurd (false≢true (sym n))
