@@ -24,13 +24,13 @@ use Rattle.readable.proofs.Numbers.{largest}
 use Rattle.readable.proofs.Lists.{unit-size, unit-list}
 
 -- what a sound state says of its protocol data
-record Kept (g : Gateway) (i : ℕ) : Type 0 where
-  tagged : (eqb (numberAt (g .held .tag) i) 0x300 || eqb (numberAt (g .held .tag) i) 0x301) ≡ true
-  least : 5 ≤ numberAt (g .held .length) i
-  most-bytes : numberAt (g .held .length) i ≤ 277
+pub record Kept (g : Gateway) (i : ℕ) : Type 0 where
+  pub tagged : (eqb (numberAt (g .held .tag) i) 0x300 || eqb (numberAt (g .held .tag) i) 0x301) ≡ true
+  pub least : 5 ≤ numberAt (g .held .length) i
+  pub most-bytes : numberAt (g .held .length) i ≤ 277
 
 module _ (g : Gateway) (sound : isSound g ≡ true) (i : ℕ) (b : i < 128) (h : i % 8 < numberAt (g .held .count) (i / 8)) where
-  kept : Kept g i
+  pub kept : Kept g i
   unfolding unitAt
   kept =
       let p = held (g .held) (g .waiting) (g .iid) (g .owner) (g .links) (parts g sound .inUnits) (i / 8) (omega arith) .places (i % 8) (omega arith) in

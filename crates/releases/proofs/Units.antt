@@ -67,10 +67,10 @@ quiet-change g k named h = untagged-below _ 16 (λ a b. go a (flagAt named a))
 -- ---- the units gone, AS by AS
 
 -- the unit in place k of AS a; c is the state after
-abbrev goneAt : Gateway → Gateway → ℕ → ℕ → List ℕ
+abbrev pub goneAt : Gateway → Gateway → ℕ → ℕ → List ℕ
 goneAt g c a k = when (ltb k (numberAt (g .held .count) a) && eqb (numberAt (c .held .count) a) 0) (unitIndex a k)
 
-gone-rows : (g c : Gateway) → gone g c ≡ concatBelow (λ a. concatBelow (goneAt g c a) 8) 16
+pub gone-rows : (g c : Gateway) → gone g c ≡ concatBelow (λ a. concatBelow (goneAt g c a) 8) 16
 unfolding gone
 gone-rows g c =
     concat-rows _ 16

@@ -1,7 +1,9 @@
 pub mod Words
-pub mod Refusals
+pub mod Units
 pub mod Part
+pub mod There
 pub mod Alike
 pub mod Batch
+pub mod Refusals
 pub mod Ran
 pub mod Many

@@ -1,21 +1,28 @@
-// Actions as bytes (Rules 8.15 and 8.16): the event is run, and the message of the action at a place written, or those of as many actions as go in.
+// Actions as bytes (Rules 8.15, 8.16 and 8.18): the event is run, and the message of the action at a place written, or those of as many actions as go in.
 use action::Action;
+use action::USER_DATA;
 use encode::Written;
-use events::m2ua_event;
+use events::m2ua_run;
 use gateway::Gateway;
 use outgoing::Batch;
+use outgoing::Unit;
 ghost use mathlib.Core.Path.{_≡_};
-ghost use mathlib.Core.Bool.{true};
-ghost use Prim.Native.Nat.{ℕ, _+_, _-_, _<_, _≤_};
+ghost use mathlib.Core.Bool.{true, cond, not, _&&_};
+ghost use Prim.Native.Nat.{ℕ, _+_, _-_, _*_, _<_, _≤_};
 ghost use lib.Dec.{leb};
 ghost use lib.ListN.{length, take, drop};
+ghost use Rattle.laws.specs.Below.{when};
+ghost use Rattle.laws.specs.Columns.{numberAt};
 ghost use Rattle.put.specs.Bytes.{overlay};
+ghost use Rattle.select.specs.Inner.Picks.{PutBytes};
+ghost use Rattle.rules.specs.Sent.{isData};
 ghost use Rattle.ask.specs.Happened.{happened};
 ghost use Rattle.outgoing.specs.Send.{Sends, SendsMany};
 ghost use Rattle.outgoing.specs.Inner.Kinds.{lentBy};
-ghost use Rattle.sending.specs.Inner.Words.{actionIn};
+ghost use Rattle.sending.specs.Inner.Words.{actionIn, dataIn};
+ghost use Rattle.sending.specs.Inner.Units.{goneRow, goneList};
+ghost use Rattle.sending.specs.Inner.Part.{heldOf, sentOf, partOf, lentOf, partIn, Ready};
 ghost use Rattle.sending.specs.Inner.Alike.{areAlike, repeatsIn};
-ghost use Rattle.sending.specs.Inner.Part.{partOf, partIn};
 ghost use Rattle.sending.specs.Inner.Batch.{Ended, StandsBefore};
 ghost use Rattle.sending.specs.Inner.Many.{batchOf};
 
@@ -26,9 +33,12 @@ const NO_SUCH_ACTION: u32 = 104;
 
 const LINK_SIDE: u32 = 255;
 
+// The bytes that the hold has for a unit (Rule 5.22).
+const PLACE: usize = 273;
+
 // The action at a place of a list of words.
-fn action_at(words: &[u32; 1032], n: usize) -> Action
-    requires { ⌜ n < 258 ⌝ }
+fn action_at(words: &[u32; 1544], n: usize) -> Action
+    requires { ⌜ n < 386 ⌝ }
     ensures { λ r. ⌜ r ≡ actionIn (now (words .entry)) n ⌝ }
 {
     let at = n * 4;
@@ -39,6 +49,162 @@ fn action_at(words: &[u32; 1032], n: usize) -> Action
         value: words[at + 3],
     }
 }
+
+// ---- the unit that an action sends
+
+// Data to an ASP.
+fn is_data(o: Action) -> bool
+    ensures { λ r. ⌜ r ≡ isData o ⌝ }
+{
+    (o.classtype == USER_DATA) & (o.to != LINK_SIDE)
+}
+
+// How many of the first n actions are that.
+fn data_before(words: &[u32; 1544], n: usize) -> usize
+    requires { ⌜ n ≤ 386 ⌝ }
+    ensures { λ r. ⌜ r ≡ dataIn (now (words .entry)) n ⌝ }
+{
+    let mut d: usize = 0;
+    for m in 0..n {
+        d = d + gateway::unit(is_data(action_at(words, m)));
+    }
+    d
+}
+
+// The index of a unit in a list, where it is wanted; the place after it.
+fn add_if(list: &mut [u8], n: usize, yes: bool, i: usize) -> usize
+    requires { ⌜ (n < length (now list)) × (i < 256) ⌝ }
+    ensures { λ r. ⌜ PutBytes (now (list .entry)) n (when yes i) r (now (list .exit)) ⌝ }
+{
+    if yes {
+        list[n] = i as u8;
+        return n + 1;
+    }
+    n
+}
+
+// Those of the units that AS a has let go, which had so many before and has so many after.
+fn add_row(list: &mut [u8], n: usize, a: usize, before: u8, after: u8) -> usize
+    requires { ⌜ (a < 16) × (n + 8 ≤ length (now list)) ⌝ }
+    ensures { λ r. ⌜ PutBytes (now (list .entry)) n (goneRow before after a) r (now (list .exit)) ⌝ }
+{
+    if before == 0 {
+        return n;
+    }
+    if after != 0 {
+        return n;
+    }
+    let mut at = n;
+    for k in 0..8usize {
+        at = add_if(list, at, k < gateway::wide(before), a * 8 + k);
+    }
+    at
+}
+
+// Those of all ASes, in the sequence in which the units go out; zeros behind them.
+fn gone<'a>(before: &'a [u8; 16], after: &'a [u8; 16]) -> [u8; 128]
+    ensures { λ r. ⌜ r ≡ goneList (now (before .entry)) (now (after .entry)) ⌝ }
+{
+    let mut list = [0u8; 128];
+    let mut n: usize = 0;
+    for a in 0..16usize {
+        n = add_row(&mut list, n, a, before[a], after[a]);
+    }
+    list
+}
+
+// The index at a place of that list; beyond it 0.
+fn index_at(list: &[u8], d: usize) -> usize
+    ensures { λ r. ⌜ r ≡ numberAt (now (list .entry)) d ⌝ }
+{
+    if d < list.len() {
+        return gateway::wide(list[d]);
+    }
+    0
+}
+
+// The index of the unit that the action at place n sends, where it sends one.
+fn unit_for<'a>(
+    held: bool,
+    words: &[u32; 1544],
+    n: usize,
+    before: &'a [u8; 16],
+    after: &'a [u8; 16],
+) -> usize
+    requires { ⌜ n ≤ 386 ⌝ }
+    ensures { λ r. ⌜ r ≡ cond held (numberAt (goneList (now (before .entry)) (now (after .entry))) (dataIn (now (words .entry)) n)) 0 ⌝ }
+{
+    if held {
+        let list = gone(before, after);
+        return index_at(&list, data_before(words, n));
+    }
+    0
+}
+
+// An action, and what its message is made of: whether it passes the received message on; and whether it sends a unit, from where to where that lies in the
+// hold, and the unit.
+pub struct Sent {
+    pub o: Action,
+    pub passed: bool,
+    pub held: bool,
+    pub from: usize,
+    pub to: usize,
+    pub unit: Unit,
+}
+
+// Where the bytes of the unit at index i begin; 0 where none is wanted.
+fn start_if(held: bool, i: usize) -> usize
+    requires { ⌜ i < 128 ⌝ }
+    ensures { λ r. ⌜ (r ≡ cond held (i * 273) 0) × (r ≤ 34671) ⌝ }
+{
+    if held {
+        return i * PLACE;
+    }
+    0
+}
+
+// Where they end, of a parameter of so many bytes.
+fn stop_if(held: bool, from: usize, len: u16) -> usize
+    requires { ⌜ (from ≤ 34671) × (held ≡ true → 4 ≤ len) ⌝ }
+    ensures { λ r. ⌜ r ≡ cond held (from + len - 4) from ⌝ }
+{
+    if held {
+        return from + len as usize - 4;
+    }
+    from
+}
+
+// An action with all that; i is the index of the unit that it sends, if it sends one.
+fn sent_at<'a>(
+    o: Action,
+    passed: bool,
+    i: usize,
+    tags: &'a [u16; 128],
+    lengths: &'a [u16; 128],
+    marks: &'a [u16; 128],
+    correlations: &'a [u32; 128],
+) -> Sent
+    requires { ⌜ (i < 128) × (heldOf passed o ≡ true → 4 ≤ numberAt (now lengths) i) ⌝ }
+    ensures { λ r. ⌜ r ≡ sentOf (now (tags .entry)) (now (lengths .entry)) (now (marks .entry)) (now (correlations .entry)) passed i o ⌝ }
+{
+    let held = is_data(o) & !passed;
+    let from = start_if(held, i);
+    let to = stop_if(held, from, lengths[i]);
+    Sent {
+        o,
+        passed,
+        held,
+        from,
+        to,
+        unit: Unit {
+            tag: tags[i],
+            marked: marks[i] == 1,
+            correlation: correlations[i],
+        },
+    }
+}
+
+// ---- what is written for an action
 
 // The message whose parameters go out again: none where the event has none.
 fn received(kind: u32, msg: &[u8]) -> &[u8]
@@ -53,46 +219,69 @@ fn received(kind: u32, msg: &[u8]) -> &[u8]
     &msg[..0]
 }
 
+// The data that its message shows: a part of the hold where the unit was held, else of the received message.
+fn body<'a>(msg: &'a [u8], hold: &'a [u8], held: bool, from: usize, to: usize) -> &'a [u8]
+    requires { ⌜ (from ≤ to) × (to ≤ length (cond held (now hold) (now msg))) ⌝ }
+    ensures { λ r. ⌜ now r ≡ cond held (take (to - from) (drop from (now (hold .entry)))) (take (to - from) (drop from (now (msg .entry)))) ⌝ }
+{
+    if held {
+        return &hold[from..to];
+    }
+    &msg[from..to]
+}
+
 // How many bytes are written for an action: none where it goes to the link side.
 fn part_size<'a>(
-    o: Action,
-    passed: bool,
+    x: Sent,
     msg: &[u8],
+    body: &[u8],
     iid: &'a [u32; 128],
     owner: &'a [u8; 128],
     links: usize,
 ) -> usize
-    requires { ⌜ (links ≤ 128) × (length (partOf (now iid) (now owner) links (now msg) passed o) ≤ 2048) ⌝ }
-    ensures { λ r. ⌜ r ≡ length (partOf (now (iid .entry)) (now (owner .entry)) links (now (msg .entry)) passed o) ⌝ }
+    requires { ⌜ (links ≤ 128) × (length (now body) ≤ 273) × (length (partOf (now iid) (now owner) links (now msg) (now body) x) ≤ 2048) ⌝ }
+    ensures { λ r. ⌜ r ≡ length (partOf (now (iid .entry)) (now (owner .entry)) links (now (msg .entry)) (now (body .entry)) x) ⌝ }
 {
+    let o = x.o;
     if o.to == LINK_SIDE {
         return 0;
     }
-    outgoing::size_of(outgoing::form_of(passed, o), msg, iid, owner, links)
+    let u = x.unit;
+    outgoing::size_of(
+        outgoing::form_of(x.passed, o, u),
+        msg,
+        body,
+        iid,
+        owner,
+        links,
+    )
 }
 
 // What is written for an action, at a position; its size is known.
 fn put_part<'a>(
-    o: Action,
+    x: Sent,
     size: usize,
-    passed: bool,
     msg: &[u8],
+    body: &[u8],
     iid: &'a [u32; 128],
     owner: &'a [u8; 128],
     links: usize,
     out: &mut [u8],
     at: usize,
 )
-    requires { ⌜ (links ≤ 128) × (size ≡ length (partOf (now iid) (now owner) links (now msg) passed o)) × (size ≤ 2048) × (at + size ≤ length (now out)) ⌝ }
-    ensures { λ _. ⌜ now (out .exit) ≡ overlay (now (out .entry)) at (partOf (now (iid .entry)) (now (owner .entry)) links (now (msg .entry)) passed o) ⌝ }
+    requires { ⌜ (links ≤ 128) × (length (now body) ≤ 273) × (size ≡ length (partOf (now iid) (now owner) links (now msg) (now body) x)) × (size ≤ 2048) × (at + size ≤ length (now out)) ⌝ }
+    ensures { λ _. ⌜ now (out .exit) ≡ overlay (now (out .entry)) at (partOf (now (iid .entry)) (now (owner .entry)) links (now (msg .entry)) (now (body .entry)) x) ⌝ }
 {
+    let o = x.o;
     if o.to == LINK_SIDE {
         return;
     }
+    let u = x.unit;
     outgoing::put_form(
-        outgoing::form_of(passed, o),
+        outgoing::form_of(x.passed, o, u),
         size,
         msg,
+        body,
         iid,
         owner,
         links,
@@ -101,20 +290,23 @@ fn put_part<'a>(
     );
 }
 
-// The message of the action at a place of an event's actions, written at a buffer's start (Rule 8.15). The event is run with a list of words of its own.
+// The message of the action at a place of an event's actions, written at a buffer's start (Rule 8.15). The event is run with a list of words of its own; of the hold,
+// which only a unit that comes in changes, it is lent nothing.
 #[no_mangle]
-pub extern "C" fn m2ua_order(
+pub extern "C" fn m2ua_order<'a>(
     g: Gateway,
     kind: u32,
     i: usize,
-    msg: &[u8],
+    msg: &'a [u8],
+    hold: &'a [u8],
     place: usize,
     out: &mut [u8],
 ) -> Written
-    ensures { λ r. ⌜ Sends g (happened kind i (now (msg .entry))) place (now (out .entry)) r (now (out .exit)) ⌝ }
+    ensures { λ r. ⌜ Sends g (now (hold .entry)) (happened kind i (now (msg .entry))) place (now (out .entry)) r (now (out .exit)) ⌝ }
 {
-    let mut words = [0u32; 1032];
-    let done = m2ua_event(g, kind, i, msg, &mut words);
+    let mut words = [0u32; 1544];
+    let mut none = [0u8; 0];
+    let done = m2ua_run(g, kind, i, msg, &mut none, hold.len(), &mut words);
     if done.refusal != 0 {
         return Written {
             code: done.refusal,
@@ -134,17 +326,29 @@ pub extern "C" fn m2ua_order(
             length: 0,
         };
     }
+    let passed = kind == ask::LINK_MESSAGE;
+    let after = done.gateway.held.count;
+    let u = unit_for(is_data(o) & !passed, &words, place, &g.held.count, &after);
+    let x = sent_at(
+        o,
+        passed,
+        u,
+        &g.held.tag,
+        &g.held.length,
+        &g.held.marked,
+        &g.held.correlation,
+    );
     let links = gateway::wide(g.links);
     let lent = received(kind, msg);
-    let passed = kind == ask::LINK_MESSAGE;
-    let size = part_size(o, passed, lent, &g.iid, &g.owner, links);
+    let shown = body(lent, hold, x.held, x.from, x.to);
+    let size = part_size(x, lent, shown, &g.iid, &g.owner, links);
     if out.len() < size {
         return Written {
             code: SHORT_BUFFER,
             length: 0,
         };
     }
-    put_part(o, size, passed, lent, &g.iid, &g.owner, links, out, 0);
+    put_part(x, size, lent, shown, &g.iid, &g.owner, links, out, 0);
     Written {
         code: 0,
         length: size,
@@ -157,26 +361,39 @@ struct Reached {
     length: usize,
 }
 
-// Whether two actions have the same message: both go to an ASP, and nothing but the ASP differs.
-fn alike(o: Action, last: Action) -> bool
-    ensures { λ r. ⌜ r ≡ areAlike o last ⌝ }
+// What a batch goes through: so many actions, from a place on, whether they pass the received message on, and how many links there are.
+pub struct Run {
+    pub count: usize,
+    pub place: usize,
+    pub passed: bool,
+    pub links: usize,
+}
+
+// Whether two actions have the same message: both go to an ASP, nothing but the ASP differs, and neither sends a unit.
+fn alike(o: Action, last: Action, passed: bool) -> bool
+    ensures { λ r. ⌜ r ≡ areAlike passed o last ⌝ }
 {
     (o.to != LINK_SIDE)
         & (last.to != LINK_SIDE)
         & (o.classtype == last.classtype)
         & (o.subject == last.subject)
         & (o.value == last.value)
+        & (passed | (o.classtype != USER_DATA))
 }
 
 // Whether the action n places on has the message of the one before it. The first has none before it.
-fn repeats(words: &[u32; 1032], place: usize, n: usize) -> bool
-    requires { ⌜ place + n < 258 ⌝ }
-    ensures { λ r. ⌜ r ≡ repeatsIn (now (words .entry)) place n ⌝ }
+fn repeats(words: &[u32; 1544], place: usize, n: usize, passed: bool) -> bool
+    requires { ⌜ place + n < 386 ⌝ }
+    ensures { λ r. ⌜ r ≡ repeatsIn passed (now (words .entry)) place n ⌝ }
 {
     if n == 0 {
         return false;
     }
-    alike(action_at(words, place + n), action_at(words, place + n - 1))
+    alike(
+        action_at(words, place + n),
+        action_at(words, place + n - 1),
+        passed,
+    )
 }
 
 // The size bytes before a position, at most 2,048, written from there on again. They go through a block, as in put_block of crate put.
@@ -202,63 +419,70 @@ fn again(out: &mut [u8], at: usize, size: usize)
 fn next_size<'a>(
     same: bool,
     last: usize,
-    o: Action,
-    passed: bool,
+    x: Sent,
     msg: &[u8],
+    body: &[u8],
     iid: &'a [u32; 128],
     owner: &'a [u8; 128],
     links: usize,
 ) -> usize
-    requires { ⌜ (links ≤ 128) × (length (partOf (now iid) (now owner) links (now msg) passed o) ≤ 2048) × (same ≡ true → last ≡ length (partOf (now iid) (now owner) links (now msg) passed o)) ⌝ }
-    ensures { λ r. ⌜ r ≡ length (partOf (now (iid .entry)) (now (owner .entry)) links (now (msg .entry)) passed o) ⌝ }
+    requires { ⌜ (links ≤ 128) × (length (now body) ≤ 273) × (length (partOf (now iid) (now owner) links (now msg) (now body) x) ≤ 2048) × (same ≡ true → last ≡ length (partOf (now iid) (now owner) links (now msg) (now body) x)) ⌝ }
+    ensures { λ r. ⌜ r ≡ length (partOf (now (iid .entry)) (now (owner .entry)) links (now (msg .entry)) (now (body .entry)) x) ⌝ }
 {
     if same {
         return last;
     }
-    part_size(o, passed, msg, iid, owner, links)
+    part_size(x, msg, body, iid, owner, links)
 }
 
 // What is written for an action, at a position: where it has the same message as the last time, the bytes before.
 fn put_next<'a>(
     same: bool,
-    o: Action,
+    x: Sent,
     size: usize,
-    passed: bool,
     msg: &[u8],
+    body: &[u8],
     iid: &'a [u32; 128],
     owner: &'a [u8; 128],
     links: usize,
     out: &mut [u8],
     at: usize,
 )
-    requires { ⌜ (links ≤ 128) × (size ≡ length (partOf (now iid) (now owner) links (now msg) passed o)) × (size ≤ 2048) × (at + size ≤ length (now out)) × (same ≡ true → StandsBefore (now out) at (partOf (now iid) (now owner) links (now msg) passed o)) ⌝ }
-    ensures { λ _. ⌜ now (out .exit) ≡ overlay (now (out .entry)) at (partOf (now (iid .entry)) (now (owner .entry)) links (now (msg .entry)) passed o) ⌝ }
+    requires { ⌜ (links ≤ 128) × (length (now body) ≤ 273) × (size ≡ length (partOf (now iid) (now owner) links (now msg) (now body) x)) × (size ≤ 2048) × (at + size ≤ length (now out)) × (same ≡ true → StandsBefore (now out) at (partOf (now iid) (now owner) links (now msg) (now body) x)) ⌝ }
+    ensures { λ _. ⌜ now (out .exit) ≡ overlay (now (out .entry)) at (partOf (now (iid .entry)) (now (owner .entry)) links (now (msg .entry)) (now (body .entry)) x) ⌝ }
 {
     if same {
         again(out, at, size);
         return;
     }
-    put_part(o, size, passed, msg, iid, owner, links, out, at);
+    put_part(x, size, msg, body, iid, owner, links, out, at);
 }
 
 // From a place on what is written for each action, one behind the other, and its length: up to the last action, the last length of the list, or the first message
-// that does not go in. Where an action differs from the one before it in the ASP alone, the bytes are copied and not made anew.
-fn put_many<'a>(
-    words: &[u32; 1032],
-    count: usize,
-    place: usize,
-    passed: bool,
-    msg: &[u8],
+// that does not go in. Where an action differs from the one before it in the ASP alone, the bytes are copied and not made anew. `list` has the indices of the units
+// that go out, of which d are out.
+fn put_many<'a, 'b>(
+    run: Run,
+    words: &[u32; 1544],
+    list: &[u8],
+    msg: &'b [u8],
+    hold: &'b [u8],
     iid: &'a [u32; 128],
     owner: &'a [u8; 128],
-    links: usize,
+    tags: &'a [u16; 128],
+    lengths: &'a [u16; 128],
+    marks: &'a [u16; 128],
+    correlations: &'a [u32; 128],
     lens: &mut [u32],
     out: &mut [u8],
 ) -> Reached
-    requires { ⌜ (count ≤ 258) × (place < count) × (links ≤ 128) × ((j : ℕ) → length (partIn (now iid) (now owner) links (now msg) passed (now words) count j) ≤ 2048) ⌝ }
-    ensures few { λ r. ⌜ place + r .count ≤ count ⌝ }
-    ensures ended { λ r. ⌜ Ended (λ j. partIn (now (iid .entry)) (now (owner .entry)) links (now (msg .entry)) passed (now (words .entry)) count (place + j)) (λ m. leb count (place + m)) (now (lens .entry)) (now (out .entry)) (r .count) (r .length) (now (lens .exit)) (now (out .exit)) ⌝ }
+    requires { ⌜ Ready (lentOf run (now words) (now list) (now msg) (now hold) (now iid) (now owner) (now tags) (now lengths) (now marks) (now correlations)) ⌝ }
+    ensures few { λ r. ⌜ run .place + r .count ≤ run .count ⌝ }
+    ensures ended { λ r. ⌜ Ended (λ j. partIn (lentOf run (now (words .entry)) (now (list .entry)) (now (msg .entry)) (now (hold .entry)) (now (iid .entry)) (now (owner .entry)) (now (tags .entry)) (now (lengths .entry)) (now (marks .entry)) (now (correlations .entry))) (run .place + j)) (λ m. leb (run .count) (run .place + m)) (now (lens .entry)) (now (out .entry)) (r .count) (r .length) (now (lens .exit)) (now (out .exit)) ⌝ }
 {
+    let count = run.count;
+    let place = run.place;
+    let mut d = data_before(words, place);
     let mut n: usize = 0;
     let mut at: usize = 0;
     let mut size: usize = 0;
@@ -276,16 +500,20 @@ fn put_many<'a>(
             };
         }
         let o = action_at(words, place + n);
-        let same = repeats(words, place, n);
-        size = next_size(same, size, o, passed, msg, iid, owner, links);
+        let i = index_at(list, d);
+        let x = sent_at(o, run.passed, i, tags, lengths, marks, correlations);
+        let shown = body(msg, hold, x.held, x.from, x.to);
+        let same = repeats(words, place, n, run.passed);
+        size = next_size(same, size, x, msg, shown, iid, owner, run.links);
         if out.len() - at < size {
             return Reached {
                 count: n,
                 length: at,
             };
         }
-        put_next(same, o, size, passed, msg, iid, owner, links, out, at);
+        put_next(same, x, size, msg, shown, iid, owner, run.links, out, at);
         lens[n] = size as u32;
+        d += gateway::unit(is_data(o));
         at += size;
         n += 1;
     }
@@ -311,19 +539,21 @@ fn batch_of(r: Reached) -> Batch
 
 // From a place of an event's actions on, the messages of as many as go into a buffer, and the length of each (Rule 8.16): the event is run once.
 #[no_mangle]
-pub extern "C" fn m2ua_orders(
+pub extern "C" fn m2ua_orders<'a>(
     g: Gateway,
     kind: u32,
     i: usize,
-    msg: &[u8],
+    msg: &'a [u8],
+    hold: &'a [u8],
     place: usize,
     lens: &mut [u32],
     out: &mut [u8],
 ) -> Batch
-    ensures { λ r. ⌜ SendsMany g (happened kind i (now (msg .entry))) place (now (lens .entry)) (now (out .entry)) r (now (lens .exit)) (now (out .exit)) ⌝ }
+    ensures { λ r. ⌜ SendsMany g (now (hold .entry)) (happened kind i (now (msg .entry))) place (now (lens .entry)) (now (out .entry)) r (now (lens .exit)) (now (out .exit)) ⌝ }
 {
-    let mut words = [0u32; 1032];
-    let done = m2ua_event(g, kind, i, msg, &mut words);
+    let mut words = [0u32; 1544];
+    let mut none = [0u8; 0];
+    let done = m2ua_run(g, kind, i, msg, &mut none, hold.len(), &mut words);
     if done.refusal != 0 {
         return Batch {
             code: done.refusal,
@@ -338,18 +568,27 @@ pub extern "C" fn m2ua_orders(
             length: 0,
         };
     }
-    let links = gateway::wide(g.links);
-    let lent = received(kind, msg);
-    let passed = kind == ask::LINK_MESSAGE;
-    let reached = put_many(
-        &words,
-        done.count,
+    let run = Run {
+        count: done.count,
         place,
-        passed,
+        passed: kind == ask::LINK_MESSAGE,
+        links: gateway::wide(g.links),
+    };
+    let after = done.gateway.held.count;
+    let list = gone(&g.held.count, &after);
+    let lent = received(kind, msg);
+    let reached = put_many(
+        run,
+        &words,
+        &list,
         lent,
+        hold,
         &g.iid,
         &g.owner,
-        links,
+        &g.held.tag,
+        &g.held.length,
+        &g.held.marked,
+        &g.held.correlation,
         lens,
         out,
     );

@@ -2,7 +2,7 @@
 -- Assumes nothing.
 use mathlib.Core.Path.{_≡_, refl, sym, ap, _∙_}
 use Prim.Native.Nat.{ℕ, _+_, _*_, _/_, _%_, _<_, _≤_}
-use mathlib.Core.Bool.{Bool, true, false, cond, _||_, _&&_, not}
+use mathlib.Core.Bool.{Bool, true, false, cond, _||_, _&&_, not, false≢true}
 use mathlib.Core.List.{List, [], _∷_, _++_, append-nil}
 use native.Mathlib.Omega.{arith}
 use lib.ListN.{length}
@@ -264,35 +264,53 @@ module _ (g : Gateway) (h : List ℕ) (ps : List Par) (i : ℕ) (o : Action) whe
       go false false false false false true = unit-is
       go false false false false false false = link-is
 
--- ---- the body lent
+-- ---- each form that an action may have, and what it depends on
 
--- only a form that has the data of a unit shows it
-pub no-data : (iid owner : List ℕ) (n : ℕ) (ps : List Par) (b c : List ℕ) (f : Form) → f .held ≡ false → formPars iid owner n ps b f ≡ formPars iid owner n ps c f
-unfolding formPars saidPars heldPars
-no-data iid owner n ps b c f e = rw e
+module _ (P : Form → Type 0) (passed : Bool) (o : Action) (u : Unit) where
+  pub form-cases : ((a b : Which) → P (copying (o .classtype) a b)) → ((t m : ℕ) (two : Bool) (t2 m2 : ℕ) → P (saying (o .classtype) t m two t2 m2)) → ((t m a : ℕ) → P (listing (o .classtype) t m a))
+      → ((eqb (o .classtype) userData && not passed) ≡ true → P (releasing (o .classtype) (o .subject) u)) → P (formOf passed o u)
+  unfolding formOf
+  form-cases c s l r = go passed (eqb (o .classtype) mgmtError) (eqb (o .classtype) mgmtNotify) (eqb (o .classtype) aspUpAck || eqb (o .classtype) aspDownAck) (eqb (o .classtype) beatAck) (eqb (o .classtype) aspActiveAck || eqb (o .classtype) aspInactiveAck) (eqb (o .classtype) userData) r
+    where
+      go : (p e n v b a d : Bool) → ((d && not p) ≡ true → P (releasing (o .classtype) (o .subject) u))
+          → P
+          (cond p (copying (o .classtype) All Nothing)
+          (cond e (saying (o .classtype) 0xc (o .value) (eqb (o .value) 2) 0x1 (o .subject))
+          (cond n (listing (o .classtype) 0xd (o .value) (o .subject))
+          (cond v (copying (o .classtype) Nothing Nothing)
+          (cond b (copying (o .classtype) Heartbeat Nothing)
+          (cond a (copying (o .classtype) Mode Ids)
+          (cond d (releasing (o .classtype) (o .subject) u)
+          (saying (o .classtype) 0x1 (o .subject) (eqb (o .classtype) dataAck) 0x13 (o .value)))))))))
+      go true e n v b a d q = c _ _
+      go false true n v b a d q = s _ _ _ _ _
+      go false false true v b a d q = l _ _ _
+      go false false false true b a d q = c _ _
+      go false false false false true a d q = c _ _
+      go false false false false false true d q = c _ _
+      go false false false false false false true q = q refl
+      go false false false false false false false q = s _ _ _ _ _
 
--- that of Data which is not passed on
-pub has-data : (passed : Bool) (o : Action) (u : Unit) → (eqb (o .classtype) userData && not passed) ≡ false → formOf passed o u .held ≡ false
-unfolding formOf
-has-data true o u h = refl
-has-data false o u h = go (eqb (o .classtype) mgmtError) (eqb (o .classtype) mgmtNotify) (eqb (o .classtype) aspUpAck || eqb (o .classtype) aspDownAck) (eqb (o .classtype) beatAck) (eqb (o .classtype) aspActiveAck || eqb (o .classtype) aspInactiveAck) (eqb (o .classtype) userData) h
-  where
-    go : (e n v b a d : Bool) → (d && true) ≡ false
-        → cond e (saying (o .classtype) 0xc (o .value) (eqb (o .value) 2) 0x1 (o .subject))
-        (cond n (listing (o .classtype) 0xd (o .value) (o .subject))
-        (cond v (copying (o .classtype) Nothing Nothing)
-        (cond b (copying (o .classtype) Heartbeat Nothing)
-        (cond a (copying (o .classtype) Mode Ids)
-        (cond d (releasing (o .classtype) (o .subject) u)
-        (saying (o .classtype) 0x1 (o .subject) (eqb (o .classtype) dataAck) 0x13 (o .value)))))))
-        .held ≡ false
-    go true n v b a d q = refl
-    go false true v b a d q = refl
-    go false false true b a d q = refl
-    go false false false true a d q = refl
-    go false false false false true d q = refl
-    go false false false false false true q = q
-    go false false false false false false q = refl
+and-true : (b : Bool) → (b && true) ≡ false → b ≡ false
+and-true true e = e
+and-true false e = e
+
+-- the unit and its bytes are in the message of Data that is not passed on, and in no other
+module _ (passed : Bool) (o : Action) (h : (eqb (o .classtype) userData && not passed) ≡ false) where
+  no-unit : (u : Unit) → formOf passed o u .held ≡ false
+  no-unit u = form-cases (λ f. f .held ≡ false) passed o u (λ a b. refl) (λ t m two t2 m2. refl) (λ t m a. refl) (λ e. absurd (false≢true (sym h ∙ e)))
+
+  pub other-form : (u v : Unit) → formOf passed o u ≡ formOf passed o v
+  unfolding formOf
+  other-form u v = go passed h
+    where
+      go : (p : Bool) → (eqb (o .classtype) userData && not p) ≡ false → formOf p o u ≡ formOf p o v
+      go true q = refl
+      go false q = rw (and-true (eqb (o .classtype) userData) q)
+
+  pub other-pars : (iid owner : List ℕ) (n : ℕ) (ps : List Par) (b c : List ℕ) (u : Unit) → formPars iid owner n ps b (formOf passed o u) ≡ formPars iid owner n ps c (formOf passed o u)
+  unfolding formPars saidPars heldPars
+  other-pars iid owner n ps b c u = rw (no-unit u)
 
 -- ---- of an event: the message whose parameters are repeated
 

@@ -4,7 +4,7 @@ use Rattle.sending.proofs.next_size.Statement.{statement}
 use Rattle.sending.proofs.next_size.Tie as tie
 
 returns : tie.Need-returns
-returns c = c .before .before .pre .2 (c .if1 .taken)
+returns c = c .before .before .before .pre .3 (c .if1 .taken)
 
 part-size-requires : tie.Need-part-size-requires
 part-size-requires c κs = search needs

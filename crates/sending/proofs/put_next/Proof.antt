@@ -9,18 +9,18 @@ use Rattle.sending.proofs.put_next.Statement.{statement}
 use Rattle.sending.proofs.put_next.Tie as tie
 
 again-requires : tie.Need-again-requires
-again-requires c κs = let p = c .before .before .before .before .pre in
-    let q = p .4 (c .before .if1 .taken) in
-    (p .2, omega (arith, p .1, q .far), p .3)
+again-requires c κs = let p = c .before .before .before .before .before .pre in
+    let q = p .5 (c .before .if1 .taken) in
+    (p .3, omega (arith, p .2, q .far), p .4)
 
 same-length : tie.Need-same-length
 same-length c = search needs
 
 returns : tie.Need-returns
-returns c = let a = c .before .before .before .before .before .before .before .args in
-    let p = c .before .before .before .before .before .before .before .pre in
-    let q = p .4 (c .before .before .before .before .if1 .taken) in
-    c .before .before .again .ensures ∙ ap (overlay (a .out .now) (a .at)) ((λ i. take (p .1 i) (drop (a .at - p .1 i) (a .out .now))) ∙ q .stand)
+returns c = let a = c .before .before .before .before .before .before .before .before .args in
+    let p = c .before .before .before .before .before .before .before .before .pre in
+    let q = p .5 (c .before .before .before .before .if1 .taken) in
+    c .before .before .again .ensures ∙ ap (overlay (a .out .now) (a .at)) ((λ i. take (p .2 i) (drop (a .at - p .2 i) (a .out .now))) ∙ q .stand)
 
 put-part-requires : tie.Need-put-part-requires
 put-part-requires c κs = search needs

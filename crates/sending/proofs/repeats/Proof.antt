@@ -30,7 +30,7 @@ alike-requires c κs = search needs
 
 returns-2 : tie.Need-returns-2
 unfolding repeatsIn
-returns-2 c = rw (ne-eqb (c .before .before .before .before .args .n) 0 (c .before .before .before .if1 .left)) (c .alike .ensures ∙ (λ i. areAlike (c .before .before .action-at .ensures i) (c .before .action-at2 .ensures i)))
+returns-2 c = rw (ne-eqb (c .before .before .before .before .args .n) 0 (c .before .before .before .if1 .left)) (c .alike .ensures ∙ (λ i. areAlike (c .before .before .before .before .args .passed) (c .before .before .action-at .ensures i) (c .before .action-at2 .ensures i)))
 
 pub repeats-spec : {M : Type 1} → statement M
 repeats-spec =

@@ -1,152 +1,234 @@
 -- What is written for an action, in the code's words; and that it is what specs/Send.antt of crate outgoing says.
 -- Assumes nothing.
-use Prim.Native.Nat.{ℕ, _+_, _*_, _/_, _%_, _<_, _≤_}
+use Prim.Native.Nat.{ℕ, _+_, _-_, _*_, _/_, _%_, _<_, _≤_}
 use mathlib.Core.Path.{_≡_, refl, sym, ap, _∙_}
-use mathlib.Core.Bool.{Bool, true, false, cond, not, _&&_, _||_, false≢true}
-use mathlib.Core.List.{List, [], _++_}
+use mathlib.Core.Bool.{Bool, true, false, cond, not, _&&_, false≢true}
+use mathlib.Core.List.{List, []}
 use native.Mathlib.Omega.{arith}
-use native.Mathlib.Decide.{decLt}
 use lib.Dec.{eqb, ltb}
-use lib.ListN.{length}
-use borrow.Author.Tests.{eq-eqb, ne-eqb, lt-ltb, le-ltb}
-use Rattle.wire.specs.Walk.{walk}
-use Rattle.parameter.specs.Table.{table, hasClass}
-use Rattle.message.specs.Verdict.{verdict}
+use lib.ListN.{length, take, drop, length-drop}
+use lib.Seq.{length-take-le}
+use borrow.Author.Tests.{eq-eqb, ne-eqb, lt-ltb}
+use Rattle.laws.specs.Columns.{numberAt}
+use Rattle.wire.specs.Walk.{Par, walk}
 use Rattle.put.specs.Bytes.{overlay}
 use Rattle.encode.specs.Encode.{sizeOf, encode}
 use Rattle.encode.proofs.Verdicts.{length-encode}
-use Rattle.encode.proofs.RoundTrip.{accepted}
-use Rattle.gateway.specs.Sound.{isSound}
 use Rattle.gateway.specs.declared.Gateway.{Gateway}
 use Rattle.action.specs.declared.Action.{Action}
-use Rattle.action.specs.Words.{linkSide, wordsOf}
-use Rattle.rules.specs.Event.{EventKind}
-use Rattle.rules.specs.Rules.{inPlan}
-use Rattle.outgoing.specs.Message.{sentPars, sentBytes}
-use Rattle.outgoing.specs.Send.{actionsOn, actionAt, isSent, messageAt, partAt}
-use Rattle.action.specs.Types.{mgmtError, mgmtNotify, beatAck, aspUpAck, aspDownAck, aspActiveAck, aspInactiveAck, dataAck}
-use Rattle.select.specs.declared.Which.the-variants.{Nothing, All, Mode, Ids, Heartbeat}
-use Rattle.outgoing.specs.Inner.Form.{formPars, classOf, typeOf, saying, listing, copying, formOf, lentTo, isPassed, sent-form, form-class}
+use Rattle.action.specs.Types.{userData}
+use Rattle.action.specs.Words.{linkSide}
+use Rattle.rules.specs.Event.{EventKind, messageOf}
+use Rattle.rules.specs.Sent.{isData, isPassed}
+use Rattle.outgoing.specs.Message.{heldBody, sentPars, sentBytes}
+use Rattle.outgoing.specs.Inner.Form.{formPars, classOf, typeOf, formOf, unitOf, sent-form, form-cases, form-class, other-form, other-pars}
 use Rattle.outgoing.specs.declared.Form.{Form}
-use Rattle.readable.specs.Readable.{Reads}
-use Rattle.readable.proofs.Readable.{every-reads}
-use Rattle.sending.specs.Inner.Words.{actionIn, action-in}
+use Rattle.sending.specs.declared.Run.{Run}
+use Rattle.sending.specs.declared.Sent.{Sent}
+use Rattle.sending.specs.Inner.Words.{actionIn, dataIn}
 
 -- ---- what is written for an action
 
-unfoldable pub partOf : List ℕ → List ℕ → ℕ → List ℕ → Bool → Action → List ℕ
-partOf iid owner n s passed o =
-    cond (eqb (o .to) linkSide) [] (encode (formOf passed o .class) (formOf passed o .msgtype) (formPars iid owner n (walk s 8 .pars) (formOf passed o)))
+-- it sends a unit held
+abbrev pub heldOf : Bool → Action → Bool
+heldOf passed o = isData o && not passed
 
--- for the action at a place of a list of words that has so many
-unfoldable pub partIn : List ℕ → List ℕ → ℕ → List ℕ → Bool → List ℕ → ℕ → ℕ → List ℕ
-partIn iid owner n s passed ws count j = cond (ltb j count) (partOf iid owner n s passed (actionIn ws j)) []
+-- the action with the unit at index i, of the columns of units
+abbrev pub sentOf : List ℕ → List ℕ → List ℕ → List ℕ → Bool → ℕ → Action → Sent
+sentOf tags lengths marks correlations passed i o =
+    record {
+      o = o;
+      passed = passed;
+      held = heldOf passed o;
+      from = cond (heldOf passed o) (i * 273) 0;
+      to = cond (heldOf passed o) (cond (heldOf passed o) (i * 273) 0 + numberAt lengths i - 4) (cond (heldOf passed o) (i * 273) 0);
+      unit = record { tag = numberAt tags i; marked = eqb (numberAt marks i) 1; correlation = numberAt correlations i };
+    }
 
-pub part-of : (iid owner : List ℕ) (n : ℕ) (s : List ℕ) (passed : Bool) (ws : List ℕ) (count j : ℕ) (o : Action) → j < count → o ≡ actionIn ws j → partOf iid owner n s passed o ≡ partIn iid owner n s passed ws count j
+pub sent-is : (tags lengths marks correlations : List ℕ) (passed : Bool) (i : ℕ) (o : Action) (b : Bool) (from to : ℕ) → b ≡ heldOf passed o → from ≡ cond b (i * 273) 0 → to ≡ cond b (from + numberAt lengths i - 4) from
+    → _≡_ {A = Sent}
+    (record { o = o; passed = passed; held = b; from = from; to = to; unit = record { tag = numberAt tags i; marked = eqb (numberAt marks i) 1; correlation = numberAt correlations i } })
+    (sentOf tags lengths marks correlations passed i o)
+sent-is tags lengths marks correlations passed i o b from to e f t =
+    (λ y. record { o = o; passed = passed; held = b; from = from; to = t y; unit = record { tag = numberAt tags i; marked = eqb (numberAt marks i) 1; correlation = numberAt correlations i } })
+    ∙ (λ y. record { o = o; passed = passed; held = b; from = f y; to = cond b (f y + numberAt lengths i - 4) (f y); unit = record { tag = numberAt tags i; marked = eqb (numberAt marks i) 1; correlation = numberAt correlations i } })
+    ∙ (λ y. record { o = o; passed = passed; held = e y; from = cond (e y) (i * 273) 0; to = cond (e y) (cond (e y) (i * 273) 0 + numberAt lengths i - 4) (cond (e y) (i * 273) 0); unit = record { tag = numberAt tags i; marked = eqb (numberAt marks i) 1; correlation = numberAt correlations i } })
+
+-- the data that its message shows, of the hold h or of the message s
+unfoldable pub shown : List ℕ → List ℕ → Sent → List ℕ
+shown s h x = cond (x .held) (take (x .to - x .from) (drop (x .from) h)) (take (x .to - x .from) (drop (x .from) s))
+
+abbrev pub formIn : Sent → Form
+formIn x = formOf (x .passed) (x .o) (x .unit)
+
+unfoldable pub partOf : List ℕ → List ℕ → ℕ → List ℕ → List ℕ → Sent → List ℕ
+partOf iid owner n s body x =
+    cond (eqb (x .o .to) linkSide) [] (encode (formIn x .class) (formIn x .msgtype) (formPars iid owner n (walk s 8 .pars) body (formIn x)))
+
+-- of the state g with the hold h: n links, the message s, and the action o with the unit at index i
+abbrev pub sentFrom : Gateway → Bool → ℕ → Action → Sent
+sentFrom g passed i o = sentOf (g .held .tag) (g .held .length) (g .held .marked) (g .held .correlation) passed i o
+
+abbrev pub partFrom : Gateway → List ℕ → ℕ → List ℕ → Bool → ℕ → Action → List ℕ
+partFrom g h n s passed i o = partOf (g .iid) (g .owner) n s (shown s h (sentFrom g passed i o)) (sentFrom g passed i o)
+
+-- ---- what is lent to the writer of many
+
+pub record Lent : Type 0 where
+  pub run : Run
+  pub words : List ℕ
+  pub list : List ℕ
+  pub msg : List ℕ
+  pub hold : List ℕ
+  pub iid : List ℕ
+  pub owner : List ℕ
+  pub tags : List ℕ
+  pub lengths : List ℕ
+  pub marks : List ℕ
+  pub correlations : List ℕ
+
+abbrev pub lentOf : Run → List ℕ → List ℕ → List ℕ → List ℕ → List ℕ → List ℕ → List ℕ → List ℕ → List ℕ → List ℕ → Lent
+lentOf run words list msg hold iid owner tags lengths marks correlations =
+    record {
+      run = run;
+      words = words;
+      list = list;
+      msg = msg;
+      hold = hold;
+      iid = iid;
+      owner = owner;
+      tags = tags;
+      lengths = lengths;
+      marks = marks;
+      correlations = correlations;
+    }
+
+-- the unit that the action at a place sends, and the action with it
+abbrev pub indexIn : Lent → ℕ → ℕ
+indexIn v j = numberAt (v .list) (dataIn (v .words) j)
+
+abbrev pub sentIn : Lent → ℕ → Sent
+sentIn v j = sentOf (v .tags) (v .lengths) (v .marks) (v .correlations) (v .run .passed) (indexIn v j) (actionIn (v .words) j)
+
+abbrev pub shownIn : Lent → Sent → List ℕ
+shownIn v x = shown (v .msg) (v .hold) x
+
+-- what is written for it; nothing beyond the actions
+unfoldable pub partIn : Lent → ℕ → List ℕ
+partIn v j = cond (ltb j (v .run .count)) (partOf (v .iid) (v .owner) (v .run .links) (v .msg) (shownIn v (sentIn v j)) (sentIn v j)) []
+
+pub part-of : (v : Lent) (j : ℕ) (x : Sent) (b : List ℕ) → j < v .run .count → x ≡ sentIn v j → b ≡ shownIn v x → partOf (v .iid) (v .owner) (v .run .links) (v .msg) b x ≡ partIn v j
 unfolding partIn
-part-of iid owner n s passed ws count j o h e = rw (lt-ltb j count h) (ap (partOf iid owner n s passed) e)
+part-of v j x b h e q = rw (lt-ltb j (v .run .count) h) ((λ y. partOf (v .iid) (v .owner) (v .run .links) (v .msg) (q y) x) ∙ (λ y. partOf (v .iid) (v .owner) (v .run .links) (v .msg) (shownIn v (e y)) (e y)))
+
+-- the length that the parameter of a unit has
+pub record Long (n : ℕ) : Type 0 where
+  pub least : 5 ≤ n
+  pub longest : n ≤ 277
+
+-- all that the loop asks for
+pub record Ready (v : Lent) : Type 0 where
+  pub few : v .run .count ≤ 386
+  pub there : v .run .place < v .run .count
+  pub links : v .run .links ≤ 128
+  pub whole : length (v .hold) ≡ 34944
+  pub indices : (d : ℕ) → numberAt (v .list) d < 128
+  pub long : (j : ℕ) → j < v .run .count → heldOf (v .run .passed) (actionIn (v .words) j) ≡ true → Long (numberAt (v .lengths) (indexIn v j))
+  pub small : (j : ℕ) → length (partIn v j) ≤ 2048
+
+-- ---- in the words of the writer's two functions
+
+module _ (iid owner : List ℕ) (n : ℕ) (s body : List ℕ) (x : Sent) where
+  pub to-side : eqb (x .o .to) linkSide ≡ true → partOf iid owner n s body x ≡ []
+  unfolding partOf
+  to-side e = rw e
+
+  pub side-size : x .o .to ≡ 255 → 0 ≡ length (partOf iid owner n s body x)
+  side-size e = sym (ap length (to-side (eq-eqb (x .o .to) 255 e)))
+
+  pub side-put : (out : List ℕ) (at : ℕ) → x .o .to ≡ 255 → out ≡ overlay out at (partOf iid owner n s body x)
+  unfolding overlay
+  side-put out at e = sym (ap (overlay out at) (to-side (eq-eqb (x .o .to) 255 e)))
+
+  module _ (h : x .o .to ≡ 255 → ⊥) where
+    pub asp-part : partOf iid owner n s body x ≡ encode (formIn x .class) (formIn x .msgtype) (formPars iid owner n (walk s 8 .pars) body (formIn x))
+    unfolding partOf
+    asp-part = rw (ne-eqb (x .o .to) 255 h)
+
+    pub asp-size : length (partOf iid owner n s body x) ≡ sizeOf (formPars iid owner n (walk s 8 .pars) body (formIn x))
+    asp-size = ap length asp-part ∙ length-encode _ _ _
+
+-- ---- where what is shown lies
+
+-- a unit of a length that a unit has lies in the hold; where none is sent nothing is asked
+pub record Lies (s h : List ℕ) (x : Sent) : Type 0 where
+  pub forth : x .from ≤ x .to
+  pub inside : x .to ≤ length (cond (x .held) h s)
+  pub short : length (shown s h x) ≤ 273
+
+module _ (s h tags lengths marks correlations : List ℕ) (passed : Bool) (i : ℕ) (o : Action) where
+  pub lies : length h ≡ 34944 → i < 128 → (heldOf passed o ≡ true → Long (numberAt lengths i)) → Lies s h (sentOf tags lengths marks correlations passed i o)
+  unfolding shown
+  lies w l long = let p = go (heldOf passed o) refl in record { forth = p .0; inside = p .1; short = p .2 }
+    where
+      go : (b : Bool) → heldOf passed o ≡ b
+          → (cond b (i * 273) 0 ≤ cond b (cond b (i * 273) 0 + numberAt lengths i - 4) (cond b (i * 273) 0))
+          × (cond b (cond b (i * 273) 0 + numberAt lengths i - 4) (cond b (i * 273) 0) ≤ length (cond b h s))
+          × (length (cond b (take (cond b (cond b (i * 273) 0 + numberAt lengths i - 4) (cond b (i * 273) 0) - cond b (i * 273) 0) (drop (cond b (i * 273) 0) h)) (take (cond b (cond b (i * 273) 0 + numberAt lengths i - 4) (cond b (i * 273) 0) - cond b (i * 273) 0) (drop (cond b (i * 273) 0) s))) ≤ 273)
+      go true e =
+          let q = long e in
+          let a = q .least in
+          let b = q .longest in
+          let d = length-drop (i * 273) h in
+          let t = length-take-le (i * 273 + numberAt lengths i - 4 - i * 273) (drop (i * 273) h) (omega arith) in
+          (omega arith, omega arith, omega arith)
+      go false e = (omega arith, omega arith, omega arith)
+
+-- ---- what the message has
 
 -- class and type of a form are the action's
 abbrev HeadOf : ℕ → Form → Type 0
 HeadOf ct f = (f .class ≡ classOf ct) × (f .msgtype ≡ typeOf ct)
 
-form-head : (passed : Bool) (o : Action) → HeadOf (o .classtype) (formOf passed o)
-unfolding formOf
-form-head passed o = go passed (eqb (o .classtype) mgmtError) (eqb (o .classtype) mgmtNotify) (eqb (o .classtype) aspUpAck || eqb (o .classtype) aspDownAck) (eqb (o .classtype) beatAck) (eqb (o .classtype) aspActiveAck || eqb (o .classtype) aspInactiveAck)
-  where
-    go : (p e n u b a : Bool)
-        → HeadOf (o .classtype)
-        (cond p (copying (o .classtype) All Nothing)
-        (cond e (saying (o .classtype) 0xc (o .value) (eqb (o .value) 2) 0x1 (o .subject))
-        (cond n (listing (o .classtype) 0xd (o .value) (o .subject))
-        (cond u (copying (o .classtype) Nothing Nothing)
-        (cond b (copying (o .classtype) Heartbeat Nothing)
-        (cond a (copying (o .classtype) Mode Ids)
-        (saying (o .classtype) 0x1 (o .subject) (eqb (o .classtype) dataAck) 0x13 (o .value))))))))
-    go true e n u b a = (refl, refl)
-    go false true n u b a = (refl, refl)
-    go false false true u b a = (refl, refl)
-    go false false false true b a = (refl, refl)
-    go false false false false true a = (refl, refl)
-    go false false false false false true = (refl, refl)
-    go false false false false false false = (refl, refl)
+form-head : (x : Sent) → HeadOf (x .o .classtype) (formIn x)
+form-head x = form-cases (HeadOf (x .o .classtype)) (x .passed) (x .o) (x .unit) (λ a b. (refl, refl)) (λ t m two t2 m2. (refl, refl)) (λ t m a. (refl, refl)) (λ e. (refl, refl))
 
--- a class that has a row is one byte
-class-small : (c : ℕ) → hasClass table c ≡ true → c < 256
-unfolding hasClass table
-class-small c h = go (decLt c 256)
-  where
-    go : Dec (c < 256) → c < 256
-    go (yes l) = l
-    go (no l) = absurd (false≢true (rw (ne-eqb c 0 (λ e. omega arith), ne-eqb c 3 (λ e. omega arith), ne-eqb c 4 (λ e. omega arith), ne-eqb c 6 (λ e. omega arith)) at h))
+no-data : (a b c : Bool) → b ≡ false → ((a && not b) && not c) ≡ false → (a && not c) ≡ false
+no-data true b c e h = rw e at h
+no-data false b c e h = refl
 
-to-side : (iid owner : List ℕ) (n : ℕ) (s : List ℕ) (passed : Bool) (o : Action) → eqb (o .to) linkSide ≡ true → partOf iid owner n s passed o ≡ []
-unfolding partOf
-to-side iid owner n s passed o e = rw e
+-- o is an action of the event k that goes to an ASP, and u the index of the unit that it sends; the code has i, which may be another number where it sends none
+module _ (g : Gateway) (h : List ℕ) (k : EventKind) (u i : ℕ) (o : Action) (asp : eqb (o .to) linkSide ≡ false) (unit : heldOf (isPassed k) o ≡ true → i ≡ u) where
+  abbrev x : Sent
+  x = sentFrom g (isPassed k) i o
 
--- the same in the words of the writer's two functions
-pub side-size : (iid owner : List ℕ) (n : ℕ) (s : List ℕ) (passed : Bool) (o : Action) → o .to ≡ 255 → 0 ≡ length (partOf iid owner n s passed o)
-side-size iid owner n s passed o e = sym (ap length (to-side iid owner n s passed o (eq-eqb (o .to) 255 e)))
+  abbrev on : List ℕ → Form → List Par
+  on b f = formPars (g .iid) (g .owner) (g .links) (walk (messageOf k) 8 .pars) b f
 
-pub side-put : (iid owner : List ℕ) (n : ℕ) (s : List ℕ) (passed : Bool) (o : Action) (out : List ℕ) (at : ℕ) → o .to ≡ 255 → out ≡ overlay out at (partOf iid owner n s passed o)
-unfolding overlay
-side-put iid owner n s passed o out at e = sym (ap (overlay out at) (to-side iid owner n s passed o (eq-eqb (o .to) 255 e)))
+  shown-held : heldOf (isPassed k) o ≡ true → shown (messageOf k) h x ≡ heldBody g h i
+  unfolding shown heldBody
+  shown-held e =
+      let f : i / 8 * 2184 + i % 8 * 273 ≡ i * 273 = omega arith in
+      let t : i * 273 + numberAt (g .held .length) i - 4 - i * 273 ≡ numberAt (g .held .length) i - 4 = omega arith in
+      rw (e, f, t)
 
-module _ (iid owner : List ℕ) (n : ℕ) (s : List ℕ) (passed : Bool) (o : Action) (h : o .to ≡ 255 → ⊥) where
-  pub asp-part : partOf iid owner n s passed o ≡ encode (formOf passed o .class) (formOf passed o .msgtype) (formPars iid owner n (walk s 8 .pars) (formOf passed o))
-  unfolding partOf
-  asp-part = rw (ne-eqb (o .to) 255 h)
+  plain : heldOf (isPassed k) o ≡ false → (eqb (o .classtype) userData && not (isPassed k)) ≡ false
+  unfolding isData
+  plain e = no-data (eqb (o .classtype) userData) (eqb (o .to) linkSide) (isPassed k) asp e
 
-  pub asp-size : length (partOf iid owner n s passed o) ≡ sizeOf (formPars iid owner n (walk s 8 .pars) (formOf passed o))
-  asp-size = ap length asp-part ∙ length-encode _ _ _
+  pars-are : on (shown (messageOf k) h x) (formOf (isPassed k) o (unitOf g i)) ≡ sentPars g h k u o
+  pars-are = go (heldOf (isPassed k) o) refl ∙ sym (sent-form g h u o k)
+    where
+      go : (b : Bool) → heldOf (isPassed k) o ≡ b → on (shown (messageOf k) h x) (formOf (isPassed k) o (unitOf g i)) ≡ on (heldBody g h u) (formOf (isPassed k) o (unitOf g u))
+      go true e = ap (λ (b : List ℕ). on b (formOf (isPassed k) o (unitOf g i))) (shown-held e) ∙ ap (λ (j : ℕ). on (heldBody g h j) (formOf (isPassed k) o (unitOf g j))) (unit e)
+      go false e =
+          let z = plain e in
+          other-pars (isPassed k) o z (g .iid) (g .owner) (g .links) (walk (messageOf k) 8 .pars) (shown (messageOf k) h x) (heldBody g h u) (unitOf g i)
+          ∙ ap (λ (f : Form). on (heldBody g h u) f) (other-form (isPassed k) o z (unitOf g i) (unitOf g u))
 
-is-sent : (g : Gateway) (k : EventKind) (j : ℕ) → isSent (actionsOn g k) j ≡ true → partAt g k j ≡ messageAt g k j
-unfolding partAt
-is-sent g k j e = rw e
-
-not-sent : (g : Gateway) (k : EventKind) (j : ℕ) → isSent (actionsOn g k) j ≡ false → partAt g k j ≡ []
-unfolding partAt
-not-sent g k j e = rw e
-
-module _ (g : Gateway) (k : EventKind) where
-  small-type : (o : Action) → Reads g k o (sentBytes g k o) → o .classtype < 65536
-  unfolding sentBytes encode
-  small-type o r = omega (arith, class-small (o .classtype / 256) (accepted (sentBytes g k o) (r .back .accepted) .listed))
-
-  -- to an ASP it is the message of the action
-  sent-part : (o : Action) → Reads g k o (sentBytes g k o) → eqb (o .to) linkSide ≡ false → partOf (g .iid) (g .owner) (g .links) (lentTo k) (isPassed k) o ≡ sentBytes g k o
-  unfolding partOf sentBytes
-  sent-part o r e =
-      let h = form-head (isPassed k) o in
-      let c : formOf (isPassed k) o .class ≡ o .classtype / 256 = h .0 ∙ form-class (o .classtype) (small-type o r) in
-      rw e (λ i. encode (c i) (h .1 i) (sym (sent-form g o k) i))
-
-  module _ (sound : isSound g ≡ true) (planned : inPlan g k ≡ true) where
-    -- nothing that is written is longer than a message may be
-    pub part-small : (j : ℕ) → length (partAt g k j) ≤ 2048
-    unfolding partAt messageAt
-    part-small j = go (isSent (actionsOn g k) j) refl
-      where
-        go : (b : Bool) → isSent (actionsOn g k) j ≡ b → length (cond b (messageAt g k j) []) ≤ 2048
-        go true e = every-reads g k j sound planned e .small
-        go false e = omega arith
-
-    pub part-there : (j : ℕ) → j < length (actionsOn g k) → partOf (g .iid) (g .owner) (g .links) (lentTo k) (isPassed k) (actionAt (actionsOn g k) j) ≡ partAt g k j
-    unfolding isSent messageAt
-    part-there j h = go (eqb (actionAt (actionsOn g k) j .to) linkSide) refl
-      where
-        go : (b : Bool) → eqb (actionAt (actionsOn g k) j .to) linkSide ≡ b → partOf (g .iid) (g .owner) (g .links) (lentTo k) (isPassed k) (actionAt (actionsOn g k) j) ≡ partAt g k j
-        go true e = to-side _ _ _ _ _ _ e ∙ sym (not-sent g k j (rw (lt-ltb j (length (actionsOn g k)) h, e)))
-        go false e =
-            let y : isSent (actionsOn g k) j ≡ true = rw (lt-ltb j (length (actionsOn g k)) h, e) in
-            sent-part (actionAt (actionsOn g k) j) (every-reads g k j sound planned y) e ∙ sym (is-sent g k j y)
-
-    pub part-at : (ws rest : List ℕ) → ws ≡ wordsOf (actionsOn g k) ++ rest → (j : ℕ) → partIn (g .iid) (g .owner) (g .links) (lentTo k) (isPassed k) ws (length (actionsOn g k)) j ≡ partAt g k j
-    unfolding partIn isSent
-    part-at ws rest e j = go (decLt j (length (actionsOn g k)))
-      where
-        go : Dec (j < length (actionsOn g k)) → partIn (g .iid) (g .owner) (g .links) (lentTo k) (isPassed k) ws (length (actionsOn g k)) j ≡ partAt g k j
-        go (yes h) =
-            let o : actionIn ws j ≡ actionAt (actionsOn g k) j = ap (λ (x : List ℕ). actionIn x j) e ∙ action-in (actionsOn g k) rest j h in
-            rw (lt-ltb j (length (actionsOn g k)) h, o) (part-there j h)
-        go (no h) = let q = le-ltb j (length (actionsOn g k)) (omega arith) in rw q (sym (not-sent g k j (rw q)))
+  pub sent-part : o .classtype < 65536 → partFrom g h (g .links) (messageOf k) (isPassed k) i o ≡ sentBytes g h k u o
+  unfolding partOf sentBytes unitOf
+  sent-part small =
+      let p = form-head x in
+      let c : formIn x .class ≡ o .classtype / 256 = p .0 ∙ form-class (o .classtype) small in
+      rw asp (λ y. encode (c y) (p .1 y) (pars-are y))

@@ -1,133 +1,163 @@
 -- The event that was run, and what the entries promise in each case.
 -- Assumes nothing.
-use Prim.Native.Nat.{ℕ, _+_, _*_, _<_, _≤_}
+use Prim.Native.Nat.{ℕ, _*_, _<_, _≤_}
 use mathlib.Core.Path.{_≡_, refl, sym, ap, _∙_}
 use mathlib.Core.Bool.{Bool, true, false, cond, not, _&&_}
 use mathlib.Core.List.{List, [], _++_}
 use native.Mathlib.Omega.{arith}
 use lib.Dec.{eqb, ltb, leb}
-use lib.ListN.{length, drop}
+use lib.ListN.{length, drop, getD}
 use borrow.Author.Tests.{eq-eqb, ne-eqb, lt-ltb, le-ltb, le-leb, lt-leb}
 use Rattle.laws.specs.Choice.{_orElse_, _if_}
+use Rattle.laws.specs.Columns.{numberAt}
 use Rattle.put.specs.Bytes.{overlay}
 use Rattle.encode.specs.declared.Written.{Written}
 use Rattle.gateway.specs.Sound.{isSound}
 use Rattle.gateway.specs.declared.Gateway.{Gateway}
 use Rattle.action.specs.Words.{wordsOf, linkSide}
-use Rattle.rules.specs.Event.{EventKind}
-use Rattle.rules.specs.Rules.{inPlan, refusal, refusalOf, leastRoom}
-use Rattle.rules.specs.Entry.{MeetsRules, actions}
+use Rattle.rules.specs.Event.{EventKind, messageOf}
+use Rattle.rules.specs.Rules.{inPlan, effectOf, refusal, refusalOf, leastRoom}
+use Rattle.rules.specs.Effect.{stateAfter}
+use Rattle.rules.specs.Entry.{Runs, actions, next}
 use Rattle.rules.specs.Inner.Accepted.{Accepted, accepted}
 use Rattle.rules.specs.declared.Outcome.{Outcome}
 use Rattle.ask.specs.Happened.{happened, eventOf}
 use Rattle.action.specs.declared.Action.{Action}
 use Rattle.outgoing.specs.Inner.Kinds.{lentBy, kinds}
-use Rattle.outgoing.specs.Send.{actionsOn, actionAt, isSent, messageAt, sendCode, Sends, partAt}
-use Rattle.sending.specs.Inner.Words.{actionIn, action-in}
-use Rattle.sending.specs.Inner.Part.{partOf, part-there}
+use Rattle.rules.specs.Sent.{actionsOn, actionAt, isSent, gone, dataBefore, unitFor, isPassed}
+use Rattle.outgoing.specs.Send.{messageAt, sendCode, Sends, partAt}
+use Rattle.sending.specs.Inner.Words.{actionIn, action-in, dataIn, data-in}
+use Rattle.sending.specs.Inner.Units.{goneList, gone-at}
+use Rattle.sending.specs.Inner.Part.{heldOf, partFrom, Long}
+use Rattle.sending.specs.Inner.There.{is-sent, unit-long, part-there}
 use Rattle.sending.specs.Inner.Refusals.{refused-first, accepted-rest}
 
--- an event that was run with a list of 1,032 words and was not refused: how many actions, and the words
-pub record Ran (g : Gateway) (k : EventKind) (count : ℕ) (ws : List ℕ) : Type 0 where
+-- an event that was run with a list of 1,544 words and was not refused: how many actions, the words, and the state after it
+pub record Ran (g : Gateway) (h : List ℕ) (k : EventKind) (count : ℕ) (ws : List ℕ) (after : Gateway) : Type 0 where
   pub sound : isSound g ≡ true
   pub planned : inPlan g k ≡ true
+  pub whole : length h ≡ 34944
   pub count-is : count ≡ length (actionsOn g k)
-  pub few : count ≤ 258
+  pub few : count ≤ 386
   pub rest : List ℕ
   pub words-are : ws ≡ wordsOf (actionsOn g k) ++ rest
+  pub state : after ≡ stateAfter g (effectOf g k)
 
-module _ (g : Gateway) (k : EventKind) {room : ℕ} {lent left : List ℕ} {r : Outcome} (long : room ≡ leastRoom) (m : MeetsRules g (eventOf k room) lent left r) where
-  pub no-101 : r .refusal ≡ refusalOf (isSound g) (inPlan g k) leastRoom
-  no-101 = m .refused ∙ ap (refusalOf (isSound g) (inPlan g k)) long
+module _ (g : Gateway) (h : List ℕ) (k : EventKind) {room : ℕ} {lent left part part′ : List ℕ} {r : Outcome} (long : room ≡ leastRoom) (m : Runs g (eventOf k room (length h)) lent left part part′ r) where
+  pub no-101 : r .refusal ≡ refusalOf (isSound g) (inPlan g k) (length h) leastRoom
+  no-101 = m .meets h refl .refused ∙ ap (refusalOf (isSound g) (inPlan g k) (length h)) long
 
-  pub ran : r .refusal ≡ 0 → Ran g k (r .count) left
-  unfolding actions
+  pub ran : r .refusal ≡ 0 → Ran g h k (r .count) left (r .gateway)
+  unfolding actions next
   ran z =
-      let a = accepted (isSound g) (inPlan g k) room (sym (m .refused) ∙ z) in
-      let e : actions g (eventOf k room) ≡ actionsOn g k = rw (eq-eqb (refusal g (eventOf k room)) 0 (sym (m .refused) ∙ z)) in
+      let q = m .meets h refl in
+      let a = accepted (isSound g) (inPlan g k) (length h) room (sym (q .refused) ∙ z) in
+      let y = eq-eqb (refusal g (eventOf k room (length h))) 0 (sym (q .refused) ∙ z) in
+      let e : actions g (eventOf k room (length h)) ≡ actionsOn g k = rw y in
       record {
         sound = a .sound-yes;
         planned = a .known-yes;
-        count-is = m .count ∙ ap length e;
-        few = m .few;
-        rest = drop (4 * length (actions g (eventOf k room))) lent;
-        words-are = m .words ∙ ap (λ x. wordsOf x ++ drop (4 * length (actions g (eventOf k room))) lent) e;
+        whole = a .whole;
+        count-is = q .count ∙ ap length e;
+        few = q .few;
+        rest = drop (4 * length (actions g (eventOf k room (length h)))) lent;
+        words-are = q .words ∙ ap (λ x. wordsOf x ++ drop (4 * length (actions g (eventOf k room (length h)))) lent) e;
+        state = q .state ∙ rw y;
       }
 
+module _ {g : Gateway} {h : List ℕ} {k : EventKind} {count : ℕ} {ws : List ℕ} {after : Gateway} (t : Ran g h k count ws after) (j : ℕ) (there : j < count) where
+  pub below : j < length (actionsOn g k)
+  below = omega (arith, there, t .count-is)
+
+  pub action-is : actionIn ws j ≡ actionAt (actionsOn g k) j
+  action-is = ap (λ (x : List ℕ). actionIn x j) (t .words-are) ∙ action-in (actionsOn g k) (t .rest) j below
+
+  pub data-is : dataIn ws j ≡ dataBefore (actionsOn g k) j
+  data-is = ap (λ (x : List ℕ). dataIn x j) (t .words-are) ∙ data-in (actionsOn g k) (t .rest) j (omega (arith, below))
+
+  -- of the list of units gone, the one at the number of Data before the action
+  pub unit-is : numberAt (goneList (g .held .count) (after .held .count)) (dataIn ws j) ≡ unitFor g k j
+  unfolding unitFor
+  unit-is = gone-at g after (dataIn ws j) ∙ (λ y. getD (gone g (t .state y)) (data-is y) 0)
+
+-- what the code writes for the action at a place is what the rules say: it has the number of links, the message that goes out again, whether it is passed on, and the
+-- unit that is sent, if one is
+pub part-called : (g : Gateway) (h : List ℕ) (kind i : ℕ) (s : List ℕ) {count : ℕ} {ws : List ℕ} {after : Gateway} → Ran g h (happened kind i s) count ws after → (j : ℕ) → j < count
+    → {m : ℕ} {x : List ℕ} {o : Action} {u : ℕ} → m ≡ g .links → x ≡ lentBy kind s → o ≡ actionIn ws j → (heldOf (eqb kind 5) o ≡ true → u ≡ numberAt (goneList (g .held .count) (after .held .count)) (dataIn ws j))
+    → partFrom g h m x (eqb kind 5) u o ≡ partAt g h (happened kind i s) j
+part-called g h kind i s t j there {m} {x} {o} {u} em ex eo eu =
+    let b = kinds kind i s in
+    let e = eo ∙ action-is t j there in
+    (λ y. partFrom g h (em y) ((ex ∙ sym (b .0)) y) (sym (b .1) y) u (e y))
+    ∙ part-there g h (happened kind i s) j (t .sound) (t .planned) (below t j there) u (λ z. eu ((λ y. heldOf (sym (b .1) y) (e y)) ∙ z) ∙ unit-is t j there)
+
+-- that unit has the length of a unit
+pub long-called : (g : Gateway) (h : List ℕ) (kind i : ℕ) (s : List ℕ) {count : ℕ} {ws : List ℕ} {after : Gateway} → Ran g h (happened kind i s) count ws after → (j : ℕ) → j < count
+    → {o : Action} {u : ℕ} → o ≡ actionIn ws j → (heldOf (eqb kind 5) o ≡ true → u ≡ numberAt (goneList (g .held .count) (after .held .count)) (dataIn ws j)) → heldOf (eqb kind 5) o ≡ true → Long (numberAt (g .held .length) u)
+long-called g h kind i s t j there eo eu e =
+    rw (eu e ∙ unit-is t j there)
+    (unit-long g h (happened kind i s) j (t .sound) (t .planned) (below t j there) ((λ y. heldOf (kinds kind i s .1 y) (sym (eo ∙ action-is t j there) y)) ∙ e))
+
+-- ---- one action
+
 -- the action at a place among them
-pub record Found (g : Gateway) (k : EventKind) (n : ℕ) (o : Action) : Type 0 where
+pub record Found (g : Gateway) (h : List ℕ) (k : EventKind) (n : ℕ) (o : Action) : Type 0 where
   pub sound : isSound g ≡ true
   pub planned : inPlan g k ≡ true
+  pub whole : length h ≡ 34944
   pub there : n < length (actionsOn g k)
   pub action-is : o ≡ actionAt (actionsOn g k) n
 
-pub found : {g : Gateway} {k : EventKind} {count : ℕ} {ws : List ℕ} {n : ℕ} {o : Action} → Ran g k count ws → n < count → o ≡ actionIn ws n → Found g k n o
-found {g} {k} {count} {ws} {n} t h e =
-    let l : n < length (actionsOn g k) = omega (arith, h, t .count-is) in
-    record {
-      sound = t .sound;
-      planned = t .planned;
-      there = l;
-      action-is = e ∙ ap (λ (x : List ℕ). actionIn x n) (t .words-are) ∙ action-in (actionsOn g k) (t .rest) n l;
-    }
-
--- what the code writes for it is what the rules say: it has the number of links and the message that goes out again
-pub part-called : (g : Gateway) (kind i : ℕ) (s : List ℕ) {n : ℕ} {o : Action} → Found g (happened kind i s) n o → {m : ℕ} {x : List ℕ} → m ≡ g .links → x ≡ lentBy kind s
-    → partOf (g .iid) (g .owner) m x (eqb kind 5) o ≡ partAt g (happened kind i s) n
-part-called g kind i s {n} f em ex =
-    let b = kinds kind i s in
-    (λ j. partOf (g .iid) (g .owner) (em j) ((ex ∙ sym (b .0)) j) (sym (b .1) j) (f .action-is j)) ∙ part-there g (happened kind i s) (f .sound) (f .planned) n (f .there)
+pub found : {g : Gateway} {h : List ℕ} {k : EventKind} {count : ℕ} {ws : List ℕ} {after : Gateway} {n : ℕ} {o : Action} → Ran g h k count ws after → n < count → o ≡ actionIn ws n → Found g h k n o
+found {n = n} t l e = record { sound = t .sound; planned = t .planned; whole = t .whole; there = below t n l; action-is = e ∙ action-is t n l }
 
 -- it goes to an ASP
-module _ {g : Gateway} {k : EventKind} {n : ℕ} {o : Action} (f : Found g k n o) (asp : o .to ≡ 255 → ⊥) where
+module _ {g : Gateway} {h : List ℕ} {k : EventKind} {n : ℕ} {o : Action} (f : Found g h k n o) (asp : o .to ≡ 255 → ⊥) where
   goes : isSent (actionsOn g k) n ≡ true
   unfolding isSent
   goes = rw (lt-ltb n (length (actionsOn g k)) (f .there), ne-eqb (actionAt (actionsOn g k) n .to) 255 (λ e. asp (ap (λ x. x .to) (f .action-is) ∙ e)))
 
-  pub part-is : partAt g k n ≡ messageAt g k n
-  unfolding partAt
-  part-is = rw goes
+  pub part-is : partAt g h k n ≡ messageAt g h k n
+  part-is = is-sent g h k n goes
 
--- ---- one action
-
-module _ (g : Gateway) (k : EventKind) (n : ℕ) (out : List ℕ) where
-  sends-none : (code : ℕ) → code ≡ sendCode g k n (length out) → (code ≡ 0 → ⊥) → Sends g k n out (record { code = code; length = 0 }) out
-  sends-none code e h = record { code-is = e; length-is = rw (ne-eqb code 0 h); bytes-are = rw (ne-eqb code 0 h) }
+module _ (g : Gateway) (h : List ℕ) (k : EventKind) (n : ℕ) (out : List ℕ) where
+  sends-none : (code : ℕ) → code ≡ sendCode g h k n (length out) → (code ≡ 0 → ⊥) → Sends g h k n out (record { code = code; length = 0 }) out
+  sends-none code e z = record { code-is = e; length-is = rw (ne-eqb code 0 z); bytes-are = rw (ne-eqb code 0 z) }
 
   -- the event is refused
-  pub sends-refused : (r : ℕ) → r ≡ refusalOf (isSound g) (inPlan g k) leastRoom → (r ≡ 0 → ⊥) → Sends g k n out (record { code = r; length = 0 }) out
+  pub sends-refused : (r : ℕ) → r ≡ refusalOf (isSound g) (inPlan g k) (length h) leastRoom → (r ≡ 0 → ⊥) → Sends g h k n out (record { code = r; length = 0 }) out
   unfolding sendCode
-  sends-refused r e h = sends-none r (refused-first (isSound g) (inPlan g k) _ r e h) h
+  sends-refused r e z = sends-none r (refused-first (isSound g) (inPlan g k) (length h) _ r e z) z
 
   -- what decides once the event is not refused
-  behind : isSound g ≡ true → inPlan g k ≡ true → sendCode g k n (length out) ≡ 104 if not (isSent (actionsOn g k) n) orElse 103 if ltb (length out) (length (messageAt g k n))
+  behind : isSound g ≡ true → inPlan g k ≡ true → length h ≡ 34944 → sendCode g h k n (length out) ≡ 104 if not (isSent (actionsOn g k) n) orElse 103 if ltb (length out) (length (messageAt g h k n))
   unfolding sendCode
-  behind s p = accepted-rest (isSound g) (inPlan g k) _ s p
+  behind s p w = accepted-rest (isSound g) (inPlan g k) (length h) _ s p w
 
-  sends-104 : isSound g ≡ true → inPlan g k ≡ true → isSent (actionsOn g k) n ≡ false → Sends g k n out (record { code = 104; length = 0 }) out
-  sends-104 s p e = sends-none 104 (sym (behind s p ∙ rw e)) (λ z. omega (arith, z))
+  sends-104 : isSound g ≡ true → inPlan g k ≡ true → length h ≡ 34944 → isSent (actionsOn g k) n ≡ false → Sends g h k n out (record { code = 104; length = 0 }) out
+  sends-104 s p w e = sends-none 104 (sym (behind s p w ∙ rw e)) (λ z. omega (arith, z))
 
   -- the place is beyond the actions
-  pub sends-beyond : {count : ℕ} {ws : List ℕ} → Ran g k count ws → count ≤ n → Sends g k n out (record { code = 104; length = 0 }) out
+  pub sends-beyond : {count : ℕ} {ws : List ℕ} {after : Gateway} → Ran g h k count ws after → count ≤ n → Sends g h k n out (record { code = 104; length = 0 }) out
   unfolding isSent
-  sends-beyond t h = sends-104 (t .sound) (t .planned) (rw (le-ltb n (length (actionsOn g k)) (omega (arith, h, t .count-is))))
+  sends-beyond t l = sends-104 (t .sound) (t .planned) (t .whole) (rw (le-ltb n (length (actionsOn g k)) (omega (arith, l, t .count-is))))
 
-  module _ {o : Action} (f : Found g k n o) where
+  module _ {o : Action} (f : Found g h k n o) where
     -- the action goes to the link side
-    pub sends-side : o .to ≡ 255 → Sends g k n out (record { code = 104; length = 0 }) out
+    pub sends-side : o .to ≡ 255 → Sends g h k n out (record { code = 104; length = 0 }) out
     unfolding isSent
-    sends-side e = sends-104 (f .sound) (f .planned) (rw (lt-ltb n (length (actionsOn g k)) (f .there), eq-eqb (actionAt (actionsOn g k) n .to) 255 (sym (ap (λ x. x .to) (f .action-is)) ∙ e)))
+    sends-side e = sends-104 (f .sound) (f .planned) (f .whole) (rw (lt-ltb n (length (actionsOn g k)) (f .there), eq-eqb (actionAt (actionsOn g k) n .to) 255 (sym (ap (λ x. x .to) (f .action-is)) ∙ e)))
 
     module _ (asp : o .to ≡ 255 → ⊥) where
       -- the buffer is short
-      pub sends-short : {size : ℕ} → size ≡ length (messageAt g k n) → length out < size → Sends g k n out (record { code = 103; length = 0 }) out
-      sends-short q h = sends-none 103 (sym (behind (f .sound) (f .planned) ∙ rw (goes f asp, lt-ltb (length out) (length (messageAt g k n)) (omega (arith, q, h))))) (λ z. omega (arith, z))
+      pub sends-short : {size : ℕ} → size ≡ length (messageAt g h k n) → length out < size → Sends g h k n out (record { code = 103; length = 0 }) out
+      sends-short q l = sends-none 103 (sym (behind (f .sound) (f .planned) (f .whole) ∙ rw (goes f asp, lt-ltb (length out) (length (messageAt g h k n)) (omega (arith, q, l))))) (λ z. omega (arith, z))
 
-      pub sends-all : {size : ℕ} {out′ : List ℕ} → size ≡ length (messageAt g k n) → size ≤ length out → out′ ≡ overlay out 0 (messageAt g k n)
-          → Sends g k n out (record { code = 0; length = size }) out′
-      sends-all q h e =
+      pub sends-all : {size : ℕ} {out′ : List ℕ} → size ≡ length (messageAt g h k n) → size ≤ length out → out′ ≡ overlay out 0 (messageAt g h k n)
+          → Sends g h k n out (record { code = 0; length = size }) out′
+      sends-all q l e =
           record {
-            code-is = sym (behind (f .sound) (f .planned) ∙ rw (goes f asp, le-ltb (length out) (length (messageAt g k n)) (omega (arith, q, h))));
+            code-is = sym (behind (f .sound) (f .planned) (f .whole) ∙ rw (goes f asp, le-ltb (length out) (length (messageAt g h k n)) (omega (arith, q, l))));
             length-is = q;
             bytes-are = e;
           }

@@ -4,17 +4,25 @@ use Prim.Native.Nat.{ℕ}
 use mathlib.Core.Path.{_≡_, refl, sym, _∙_}
 use mathlib.Core.Bool.{Bool, true, false, not}
 use native.Mathlib.Omega.{arith}
+use lib.Dec.{eqb}
+use borrow.Author.Tests.{eq-eqb}
 use Rattle.laws.specs.Choice.{_orElse_, _if_}
+use Rattle.rules.specs.Effect.{holdBytes}
 use Rattle.rules.specs.Rules.{refusalOf, leastRoom}
 
--- 101 cannot come up where the list has the words that an event asks for: what is refused is refused for 105 or 102, which both forms give too
-pub refused-first : (sound known : Bool) (rest r : ℕ) → r ≡ refusalOf sound known leastRoom → ¬ (r ≡ 0)
-    → r ≡ 105 if not sound orElse 102 if not known orElse rest
+-- 101 cannot come up where the list has the words that an event asks for: what is refused is refused for 105, 102 or 106, which both forms give too
+pub refused-first : (sound known : Bool) (hold rest r : ℕ) → r ≡ refusalOf sound known hold leastRoom → ¬ (r ≡ 0)
+    → r ≡ 105 if not sound orElse 102 if not known orElse 106 if not (eqb hold holdBytes) orElse rest
 unfolding refusalOf
-refused-first true true rest r e h = absurd (h e)
-refused-first true false rest r e h = e
-refused-first false known rest r e h = e
+refused-first sound known hold rest r = go sound known (eqb hold holdBytes)
+  where
+    go : (u v w : Bool) → r ≡ 105 if not u orElse 102 if not v orElse 106 if not w orElse 0 → ¬ (r ≡ 0) → r ≡ 105 if not u orElse 102 if not v orElse 106 if not w orElse rest
+    go true true true e h = absurd (h e)
+    go true true false e h = e
+    go true false w e h = e
+    go false v w e h = e
 
 -- and where the event is not refused, the rest decides
-pub accepted-rest : (sound known : Bool) (rest : ℕ) → sound ≡ true → known ≡ true → (105 if not sound orElse 102 if not known orElse rest) ≡ rest
-accepted-rest sound known rest s k = rw (s, k)
+pub accepted-rest : (sound known : Bool) (hold rest : ℕ) → sound ≡ true → known ≡ true → hold ≡ 34944
+    → (105 if not sound orElse 102 if not known orElse 106 if not (eqb hold holdBytes) orElse rest) ≡ rest
+accepted-rest sound known hold rest s k w = rw (s, k, eq-eqb hold 34944 w)

@@ -1,13 +1,16 @@
 -- An action read out of a list of words.
 -- Assumes nothing.
-use Prim.Native.Nat.{ℕ, zero, suc, _+_, _*_, _<_}
+use Prim.Native.Nat.{ℕ, zero, suc, _+_, _*_, _<_, _≤_}
 use mathlib.Core.Path.{_≡_, refl, ap, _∙_}
 use mathlib.Core.List.{List, [], _∷_, _++_}
 use native.Mathlib.Omega.{arith}
 use lib.ListN.{length, getD}
 use Rattle.action.specs.declared.Action.{Action}
 use Rattle.action.specs.Words.{wordsOf}
-use Rattle.outgoing.specs.Send.{actionAt}
+use Rattle.laws.specs.Below.{countBelow, one}
+use Rattle.laws.specs.Inner.Below.{count-none, count-more, count-small}
+use Rattle.laws.specs.Inner.Count.{count-ext}
+use Rattle.rules.specs.Sent.{actionAt, isData, dataBefore}
 
 -- the four words at a place
 unfoldable pub actionIn : List ℕ → ℕ → Action
@@ -32,3 +35,23 @@ action-in (o ∷ os) rest (suc n) h =
       value = shift o os rest (suc n * 4 + 3) (n * 4 + 3) (omega arith) i;
     })
     ∙ action-in os rest n (omega arith)
+
+-- how many of the first n are Data to an ASP
+unfoldable pub dataIn : List ℕ → ℕ → ℕ
+dataIn ws n = countBelow (λ m. isData (actionIn ws m)) n
+
+pub data-none : (ws : List ℕ) → dataIn ws 0 ≡ 0
+unfolding dataIn
+data-none ws = count-none (λ m. isData (actionIn ws m))
+
+pub data-more : (ws : List ℕ) (n : ℕ) → dataIn ws (n + 1) ≡ dataIn ws n + one (isData (actionIn ws n))
+unfolding dataIn
+data-more ws n = count-more (λ m. isData (actionIn ws m)) n
+
+pub data-small : (ws : List ℕ) (n : ℕ) → dataIn ws n ≤ n
+unfolding dataIn
+data-small ws n = count-small (λ m. isData (actionIn ws m)) n
+
+pub data-in : (os : List Action) (rest : List ℕ) (n : ℕ) → n ≤ length os → dataIn (wordsOf os ++ rest) n ≡ dataBefore os n
+unfolding dataIn dataBefore
+data-in os rest n h = count-ext _ _ n (λ m l. ap isData (action-in os rest m (omega arith)))
