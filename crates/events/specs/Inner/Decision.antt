@@ -15,7 +15,7 @@ use Rattle.gateway.specs.Sound.{unitIndex}
 use Rattle.gateway.specs.declared.Gateway.{Gateway}
 use Rattle.gateway.specs.declared.Units.{Units}
 use Rattle.server.specs.Record.{recordFrom, recordOf}
-use Rattle.servers.specs.Changed.{withChange, unitsWithout, unitsWith, letsGo, upAfter, allActions}
+use Rattle.servers.specs.Changed.{withColumns, withChange, unitsWithout, unitsWith, letsGo, upAfter, allActions}
 use Rattle.servers.specs.Inner.Changed.{allActions-short}
 use Rattle.servers.specs.Inner.Run.{Ran, ran-actions}
 use Rattle.rules.specs.declared.Decision.{Decision}
@@ -213,30 +213,10 @@ unsettled w state h = go (eqb (w .what) 0) (eqb (w .what) 1) (eqb (w .what) 2) (
 
 -- ---- on the whole state
 
--- the gateway with these columns
-abbrev laidIn : Gateway → List ℕ → List ℕ → List ℕ → List ℕ → Units → Gateway
-laidIn g up active waiting state held =
-    record {
-      asps = g .asps;
-      ases = g .ases;
-      links = g .links;
-      spare = g .spare;
-      aspid = g .aspid;
-      up = up;
-      member = g .member;
-      active = active;
-      mode = g .mode;
-      waiting = waiting;
-      iid = g .iid;
-      owner = g .owner;
-      state = state;
-      held = held;
-    }
-
 pub performed : (g : Gateway) (d : Effect) {up active waiting state ws ws′ : List ℕ} {held : Units} {n : ℕ}
     → Enacted g d ws up active waiting ws′ held n
     → state ≡ linkAfter d (g .state)
-    → Performed g d ws ws′ (record { refusal = 0; count = n; gateway = laidIn g up active waiting state held })
+    → Performed g d ws ws′ (record { refusal = 0; count = n; gateway = withColumns g up active waiting state held })
 unfolding linkAfter withChange allActions
 performed g (send os) e s =
     record { accepted = refl; wrote = e .wrote; few = e .few; state = rw (e .up-is, e .active-is, e .waiting-is, e .held-is, s) }

@@ -41,7 +41,7 @@ pub record Takes (g : Gateway) (s : List ℕ) (a : ℕ) (x : Arrival) : Type 0 w
   pub pending : isPending g a ≡ true
   pub room : numberAt (g .held .count) a < 8
 
--- it is taken in, or all else is a list of actions: what holds of both holds of whatever the link side sends
+-- A message of the link side is taken in so, or its effect is actions alone: what holds of both holds of its effect.
 pub link-cases : (g : Gateway) (s : List ℕ) (F : Effect → Type 0) → ((os : List Action) → F (send os)) → ((a : ℕ) (x : Arrival) → Takes g s a x → F (takeIn a x)) → F (linkMessageEffect g s (readingOf s))
 unfolding linkMessageEffect holdEffect
 link-cases g s F say take =
