@@ -357,8 +357,9 @@ enum {
     M2UA_LINK_MESSAGE = 5 /* a message of the link side (6.1, 6.8, 6.9, 6.11 to 6.14), which names its link itself: any */
 };
 
-/* The function behind all events. `size` is the length of the gateway's hold. Where `hold_bytes` is that too, it is m2ua_event (below). Where it is not, the answer is the
- * same and no byte of `hold` is written: so a host can see what an event would do, and lend no hold. */
+/* The function behind all events. `size` is the length of the gateway's hold (M2UA_HOLD_BYTES, else M2UA_REFUSED_HOLD). Where `hold_bytes` is the same, it is m2ua_event
+ * (below). Where it is not, the answer is the same and no byte of `hold` is written: a dry run, which shows what an event would do, with `hold_bytes` 0 and `hold` any
+ * pointer that is not null. Do not keep the next state of one: if it took a unit in, the bytes of that unit are nowhere. */
 m2ua_outcome m2ua_run(m2ua_gateway g, uint32_t kind, size_t index, const uint8_t *msg, size_t len, uint8_t *hold, size_t hold_bytes, size_t size, uint32_t *words,
                       size_t count);
 

@@ -8,7 +8,7 @@ use native.Mathlib.Omega.{arith}
 use native.Mathlib.Decide.{ℕ-discrete}
 use lib.Dec.{eqb}
 use borrow.Author.Tests.{ne-eqb, ltb-true}
-use Rattle.laws.specs.Inner.Every.{and-left, same-truth}
+use Rattle.laws.specs.Inner.Every.{and-left, same-truth, clash}
 use Rattle.laws.specs.Columns.{flagAt, isSet}
 use Rattle.laws.specs.Inner.Columns.{getD-tabulate}
 use Rattle.gateway.specs.Sound.{isSound}
@@ -21,19 +21,12 @@ use Rattle.server.specs.Change.{without, recordWith, after}
 use Rattle.server.specs.Inner.Change.{fits, some-some, some-at, some-turned}
 use Rattle.keeps.specs.Inner.Keeps.{sound}
 use Rattle.keeps.specs.Inner.Units.{Held, held}
-use Rattle.keeps.proofs.Named.{clash}
-use Rattle.keeps.proofs.Next.{pending-waits}
 use Rattle.rules.specs.Link.{isPending}
+use Rattle.rules.specs.Inner.Shapes.{isOver}
+use Rattle.rules.specs.Inner.TakeIn.{pending-waits}
 use Rattle.conserve.specs.Conserve.{holds}
 
--- whether a change ends a recovery time, and how many of n units it sends out
-abbrev pub isOver : Change → Bool
-isOver (AspUp p) = false
-isOver (AspDown p) = false
-isOver (Deactivate p) = false
-isOver (Activate p) = false
-isOver Recover = true
-
+-- how many of n units a change sends out
 abbrev pub out : Change → ℕ → ℕ
 out (AspUp p) n = 0
 out (AspDown p) n = 0

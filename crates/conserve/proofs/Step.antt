@@ -9,6 +9,7 @@ use native.Mathlib.Decide.{decLt}
 use lib.Dec.{eqb, ltb}
 use borrow.Author.Tests.{lt-ltb, le-ltb}
 use Rattle.laws.specs.Below.{one}
+use Rattle.laws.specs.Inner.Every.{clash}
 use Rattle.laws.specs.Columns.{flagAt, numberAt, isSet}
 use Rattle.gateway.specs.Sound.{isSound}
 use Rattle.gateway.specs.declared.Gateway.{Gateway}
@@ -20,11 +21,11 @@ use Rattle.server.specs.Inner.Change.{fits}
 use Rattle.servers.specs.Changed.{letsGo, withChange, allActions}
 use Rattle.servers.specs.Inner.Records.{waiting-at, on-one}
 use Rattle.servers.specs.Inner.Units.{cleared-at}
-use Rattle.keeps.proofs.Named.{clash}
 use Rattle.rules.specs.Link.{isPending}
+use Rattle.rules.specs.Inner.Shapes.{isOver}
 use Rattle.conserve.specs.Conserve.{holds}
 use Rattle.conserve.proofs.Count.{dataIn, data-append, and-yes, and-no}
-use Rattle.conserve.proofs.Held.{isOver, out, if-some, pending-is, has-waits, release}
+use Rattle.conserve.proofs.Held.{out, if-some, pending-is, has-waits, release}
 use Rattle.conserve.proofs.Sends.{change-data}
 
 -- From g to h: `came` says whether a unit came in for AS a, `over` whether its recovery time is over, `sent` how many went out. Units stay while it is pending.

@@ -6,6 +6,7 @@ use text::is;
 use text::number_of;
 use text::put_byte;
 use text::put_bytes;
+use text::put_field;
 use text::put_number;
 use text::rest_of;
 use text::word_of;
@@ -181,15 +182,6 @@ pub fn event_of(line: &[u8], bytes: &mut [u8; 32768]) -> Parsed
 
 // ---- Writing
 
-// A number, and a character after it.
-fn put_field(out: &mut [u8; 65536], at: usize, n: u32, end: u8) -> usize
-    requires { ⌜ at + 11 ≤ 65536 ⌝ }
-    ensures { λ r. ⌜ r ≤ at + 11 ⌝ }
-{
-    let next = put_number(out, at, n);
-    put_byte(out, next, end)
-}
-
 // ` (a,c,s,v)`
 fn put_action(out: &mut [u8; 65536], at: usize, a: u32, c: u32, s: u32, v: u32) -> usize
     requires { ⌜ at + 46 ≤ 65536 ⌝ }
@@ -203,8 +195,8 @@ fn put_action(out: &mut [u8; 65536], at: usize, a: u32, c: u32, s: u32, v: u32) 
 }
 
 fn put_actions(out: &mut [u8; 65536], from: usize, list: &[u32], n: usize) -> usize
-    requires { ⌜ (from + 11868 ≤ 65536) × (n ≤ 258) × (4 * n ≤ length (now list)) ⌝ }
-    ensures { λ r. ⌜ r ≤ from + 11868 ⌝ }
+    requires { ⌜ (from + 17756 ≤ 65536) × (n ≤ 386) × (4 * n ≤ length (now list)) ⌝ }
+    ensures { λ r. ⌜ r ≤ from + 17756 ⌝ }
 {
     let mut at = from;
     for i in 0..n {
@@ -220,10 +212,10 @@ fn put_actions(out: &mut [u8; 65536], from: usize, list: &[u32], n: usize) -> us
     at
 }
 
-// `N COUNT (a,c,s,v) ..`, or `R NUMBER`. No event has more than 258 orders (Rule 8.7).
+// `N COUNT (a,c,s,v) ..`, or `R NUMBER`. No event has more than 386 orders (Rule 8.7).
 pub fn put_outcome(out: &mut [u8; 65536], at: usize, code: u32, count: u32, list: &[u32]) -> usize
-    requires { ⌜ (at + 17000 ≤ 65536) × (count ≤ 258) × (4 * count ≤ length (now list)) ⌝ }
-    ensures { λ r. ⌜ r ≤ at + 17000 ⌝ }
+    requires { ⌜ (at + 18000 ≤ 65536) × (count ≤ 386) × (4 * count ≤ length (now list)) ⌝ }
+    ensures { λ r. ⌜ r ≤ at + 18000 ⌝ }
 {
     if code != 0 {
         let next = put_bytes(out, at, b"R ");
@@ -262,8 +254,8 @@ fn put_ases(out: &mut [u8; 65536], start: usize, reached: &[bool; 16]) -> usize
 
 // The ASes reached, joined by commas; `-` if none.
 pub fn put_reached(out: &mut [u8; 65536], start: usize, reached: &[bool; 16]) -> usize
-    requires { ⌜ start + 17000 ≤ 65536 ⌝ }
-    ensures { λ r. ⌜ r ≤ start + 17000 ⌝ }
+    requires { ⌜ start + 18000 ≤ 65536 ⌝ }
+    ensures { λ r. ⌜ r ≤ start + 18000 ⌝ }
 {
     let next = put_ases(out, start, reached);
     if next == start {

@@ -13,33 +13,47 @@ ghost use Rattle.eventrun.specs.Line.{said};
 ghost use Rattle.eventrun.specs.Inner.Numbers.{numberOf};
 
 // One of the six events, with the index and the message of its line.
-pub fn happen(kind: EventKind, index: u32, msg: &[u8], words: &mut [u32], g: Gateway) -> Outcome
-    ensures { λ r. ⌜ MeetsRules g (event (said kind index (now (msg .entry))) (now (words .entry))) (now (words .entry)) (now (words .exit)) r ⌝ }
+pub fn happen(
+    kind: EventKind,
+    index: u32,
+    msg: &[u8],
+    hold: &mut [u8],
+    words: &mut [u32],
+    g: Gateway,
+) -> Outcome
+    ensures { λ r. ⌜ MeetsRules g (event (said kind index (now (msg .entry))) (now (words .entry)) (now (hold .entry))) (now (words .entry)) (now (words .exit)) (now (hold .entry)) (now (hold .exit)) r ⌝ }
 {
     let i = index as usize;
     let node = Node { gateway: g };
     match kind {
-        EventKind::Message => node.message(i, msg, words),
-        EventKind::Lost => node.lost(i, words),
-        EventKind::Recovery => node.recovery(i, words),
-        EventKind::LinkUp => node.link_up(i, words),
-        EventKind::LinkDown => node.link_down(i, words),
-        EventKind::LinkMessage => node.link_message(msg, words),
+        EventKind::Message => node.message(i, msg, hold, words),
+        EventKind::Lost => node.lost(i, hold, words),
+        EventKind::Recovery => node.recovery(i, hold, words),
+        EventKind::LinkUp => node.link_up(i, hold, words),
+        EventKind::LinkDown => node.link_down(i, hold, words),
+        EventKind::LinkMessage => node.link_message(msg, hold, words),
     }
 }
 
-// The ASes that it reaches, where its list has `room` words.
-pub fn reached_by(kind: EventKind, index: u32, msg: &[u8], room: usize, g: Gateway) -> [bool; 16]
-    ensures { λ r. ⌜ r ≡ reached g (eventOf (said kind index (now (msg .entry))) room) ⌝ }
+// The ASes that it reaches, where its list has `room` words and its hold `hold` bytes.
+pub fn reached_by(
+    kind: EventKind,
+    index: u32,
+    msg: &[u8],
+    room: usize,
+    hold: usize,
+    g: Gateway,
+) -> [bool; 16]
+    ensures { λ r. ⌜ r ≡ reached g (eventOf (said kind index (now (msg .entry))) room hold) ⌝ }
 {
     let i = index as usize;
     match kind {
-        EventKind::Message => reach::of_message(g, i, msg, room),
-        EventKind::Lost => reach::of_lost(g, i, room),
-        EventKind::Recovery => reach::of_recovery(g, i, room),
-        EventKind::LinkUp => reach::of_link_up(g, i, room),
-        EventKind::LinkDown => reach::of_link_down(g, i, room),
-        EventKind::LinkMessage => reach::of_link_message(g, msg, room),
+        EventKind::Message => reach::of_message(g, i, msg, room, hold),
+        EventKind::Lost => reach::of_lost(g, i, room, hold),
+        EventKind::Recovery => reach::of_recovery(g, i, room, hold),
+        EventKind::LinkUp => reach::of_link_up(g, i, room, hold),
+        EventKind::LinkDown => reach::of_link_down(g, i, room, hold),
+        EventKind::LinkMessage => reach::of_link_message(g, msg, room, hold),
     }
 }
 
@@ -62,11 +76,20 @@ pub fn written_by(
     kind: EventKind,
     index: u32,
     msg: &[u8],
+    hold: &[u8],
     place: u32,
     out: &mut [u8],
     g: Gateway,
 ) -> Written
-    ensures { λ r. ⌜ Sends g (said kind index (now (msg .entry))) place (now (out .entry)) r (now (out .exit)) ⌝ }
+    ensures { λ r. ⌜ Sends g (now (hold .entry)) (said kind index (now (msg .entry))) place (now (out .entry)) r (now (out .exit)) ⌝ }
 {
-    sending::m2ua_order(g, number(kind), index as usize, msg, place as usize, out)
+    sending::m2ua_order(
+        g,
+        number(kind),
+        index as usize,
+        msg,
+        hold,
+        place as usize,
+        out,
+    )
 }

@@ -11,7 +11,7 @@ use borrow.Author.Tests.{ltb-true, eq-eqb, not-false}
 use Rattle.laws.specs.Below.{countBelow}
 use Rattle.laws.specs.Inner.Below.{any-ext}
 use Rattle.laws.specs.Inner.Count.{count-ext}
-use Rattle.laws.specs.Inner.Every.{and-left, and-right, and-both}
+use Rattle.laws.specs.Inner.Every.{and-left, and-right, and-both, clash, false-of}
 use Rattle.laws.specs.Columns.{isSet, numberAt}
 use Rattle.laws.specs.Inner.Columns.{tabulate-ext}
 use Rattle.wire.specs.Walk.{Par, walk}
@@ -36,12 +36,12 @@ use Rattle.rules.specs.Asp.{asesOf, activeIn, upEffect, downEffect, lostEffect,
 use Rattle.rules.specs.Link.{linkEffect, classSixEffect, recipientsOf, toRecipients, linkUpEffect, linkDownEffect, isPending, arrival, holdEffect, linkMessageEffect, starting, idle, inService, stopping}
 use Rattle.rules.specs.Rules.{isError, classTypeOf, fromAsp, fromLink, readEffect, messageEffect, effectOf, inPlan}
 use Rattle.rules.specs.Reach.{ownsId, readReach, messageReach, kindReach, fromController}
-use Rattle.history.specs.Inner.Local.{false-of}
-use Rattle.history.proofs.Bits.{clash, cond-same, cond-both}
+use Rattle.keeps.proofs.Next.{known-below}
+use Rattle.history.proofs.Bits.{cond-same, cond-both}
 use Rattle.servers.specs.Inner.Records.{column-at}
 use Rattle.history.proofs.Servers.{dyn, same-record}
 use Rattle.history.proofs.Units.{Column, counts, column, asOf}
-use Rattle.history.proofs.Within.{Reaches, known-below, owner-in, member-in, asps-16, reach-up, reach-six, neither}
+use Rattle.history.proofs.Within.{Reaches, owner-in, member-in, asps-16, reach-up, reach-six, neither}
 
 -- g′ has what g has, at an event's own controller and in the ASes of R
 pub record Alike (g : Gateway) (R own : ℕ → Bool) (g′ : Gateway) : Type 0 where

@@ -1,7 +1,7 @@
 -- Laws of Boolean tests, of choices, and of a place that is stored. Nothing here knows of the gateway.
 -- Assumes nothing.
 use mathlib.Core.Path.{_≡_, refl, sym, ap, _∙_}
-use mathlib.Core.Bool.{Bool, true, false, _&&_, _||_, cond, false≢true}
+use mathlib.Core.Bool.{Bool, true, false, _&&_, _||_, cond}
 use mathlib.Core.List.{List, [], _∷_}
 use Prim.Native.Nat.{ℕ, suc, _+_, _-_, _<_, _≤_}
 use native.Mathlib.Omega.{arith}
@@ -11,9 +11,6 @@ use lib.Seq.{ext-getD, getD-set-same, getD-set-other, set-out, getD-drop}
 use Rattle.laws.specs.Columns.{numberAt}
 use Rattle.put.specs.Bytes.{overlay}
 
-pub clash : {A : Type 0} (t : Bool) → t ≡ false → t ≡ true → A
-clash t f h = absurd (false≢true (sym f ∙ h))
-
 pub or-left : {s : Bool} (t : Bool) → s ≡ true → (s || t) ≡ true
 or-left t p = ap (λ (x : Bool). x || t) p
 
@@ -21,19 +18,11 @@ pub or-right : (s : Bool) {t : Bool} → t ≡ true → (s || t) ≡ true
 or-right true p = refl
 or-right false p = p
 
-pub or-case : {A : Type 0} (s t : Bool) → (s || t) ≡ true → (s ≡ true → A) → (t ≡ true → A) → A
-or-case true t h f g = f refl
-or-case false t h f g = g h
-
 pub and-cong : (s : Bool) {t u : Bool} → (s ≡ true → t ≡ u) → (s && t) ≡ (s && u)
 and-cong true h = h refl
 and-cong false h = refl
 
--- a fact of both sides of a choice, and two choices by one test
-pub by-cond : {A : Type 0} (t : Bool) (F : A → Type 0) {x y : A} → (t ≡ true → F x) → (t ≡ false → F y) → F (cond t x y)
-by-cond true F hx hy = hx refl
-by-cond false F hx hy = hy refl
-
+-- two choices by one test
 pub cond-same : {A : Type 0} (t : Bool) {x y x′ y′ : A} → (t ≡ true → x ≡ x′) → (t ≡ false → y ≡ y′) → cond t x y ≡ cond t x′ y′
 cond-same true hx hy = hx refl
 cond-same false hx hy = hy refl

@@ -1,17 +1,17 @@
 -- The same of the state with its hold: an event writes the part of the hold of the AS that takes a unit in, and no other. So two events that are free to trade
 -- places commute.
 -- Assumes nothing.
-use mathlib.Core.Path.{_≡_, refl, sym, ap, _∙_, subst}
+use mathlib.Core.Path.{_≡_, refl, sym, ap, _∙_}
 use mathlib.Core.Bool.{Bool, true, false}
 use mathlib.Core.List.{List}
 use Prim.Native.Nat.{ℕ, _+_, _-_, _/_, _<_, _≤_}
 use native.Mathlib.Omega.{arith}
 use lib.ListN.{length, take, drop, length-take}
 use lib.Seq.{ext-getD}
+use Rattle.laws.specs.Inner.Every.{clash, false-of}
+use Rattle.laws.specs.Inner.Choice.{by-cond}
 use Rattle.laws.specs.Columns.{numberAt}
 use Rattle.put.specs.Bytes.{overlay}
-use Rattle.put.proofs.Sets.{length-over}
-use Rattle.gateway.specs.Sound.{isSound}
 use Rattle.gateway.specs.declared.Gateway.{Gateway}
 use Rattle.action.specs.Words.{wordsOf}
 use Rattle.server.specs.declared.Arrival.{Arrival}
@@ -19,12 +19,13 @@ use Rattle.rules.specs.Event.{Event, messageOf}
 use Rattle.rules.specs.Effect.{Effect, send, setLink, changeIn, takeIn, holdAt, holdAfter}
 use Rattle.rules.specs.Rules.{effectOf}
 use Rattle.rules.specs.Reach.{reach, fromController}
-use Rattle.rules.specs.Entry.{next, nextHold}
+use Rattle.rules.specs.Entry.{nextHold}
 use Rattle.rules.specs.Calls.{Board, nextBoard, rulesAnswer}
+use Rattle.rules.specs.Inner.Calls.{hold-next}
 use Rattle.history.specs.Inner.Trade.{Commute}
-use Rattle.history.specs.Inner.Local.{false-of, Local, Agree, Apart, commutes}
+use Rattle.history.specs.Inner.Local.{Local, Agree, Apart, commutes}
 use Rattle.history.specs.History.{Independent}
-use Rattle.history.proofs.Bits.{clash, over-same, over-other, cond-yes, cond-no}
+use Rattle.history.proofs.Bits.{over-same, over-other, cond-yes, cond-no}
 use Rattle.history.proofs.Units.{counts}
 use Rattle.history.proofs.Within.{Into, Within, Reaches, within}
 use Rattle.history.proofs.Frame as frame
@@ -85,27 +86,14 @@ module _ (g : Gateway) (e : Event) (h : List ℕ) where
   hold-dead l = cond-no _ _ l
 
   by-hold : (F : List ℕ → Type 0) → (live g e ≡ true → F (holdAfter g (messageOf (e .kind)) (effectOf g (e .kind)) h)) → (live g e ≡ false → F h) → F (nextHold g e h)
-  by-hold F m d = go (live g e) refl
-    where
-      go : (t : Bool) → live g e ≡ t → F (nextHold g e h)
-      go true l = subst F (sym (hold-live l)) (m l)
-      go false l = subst F (sym (hold-dead l)) (d l)
-
-effect-room : (g : Gateway) (s : List ℕ) (d : Effect) (h : List ℕ) → length (holdAfter g s d h) ≡ length h
-effect-room g s (send os) h = refl
-effect-room g s (setLink l v os) h = refl
-effect-room g s (changeIn os k named) h = refl
-effect-room g s (takeIn a x) h = length-over h (holdAt a (numberAt (g .held .count) a)) (take (x .length - 4) (drop (x .start) s))
-
-pub hold-room : (g : Gateway) (e : Event) (h : List ℕ) → length (nextHold g e h) ≡ length h
-hold-room g e h =
-    by-hold g e h (λ (x : List ℕ). length x ≡ length h) (λ l. effect-room g (messageOf (e .kind)) (effectOf g (e .kind)) h) (λ l. refl)
+  unfolding nextHold
+  by-hold F m d = by-cond (live g e) F m d
 
 -- a unit lies in its AS's part
 in-part : (g : Gateway) (R : ℕ → Bool) (a : ℕ) (x : Arrival) (s : List ℕ) (j : ℕ) → Into g R a x
     → holdAt a (numberAt (g .held .count) a) ≤ j → j < holdAt a (numberAt (g .held .count) a) + length (take (x .length - 4) (drop (x .start) s)) → partOf j ≡ a
 in-part g R a x s j w lo hi =
-    let z : length (take (x .length - 4) (drop (x .start) s)) ≤ 273 = rw (length-take (x .length - 4) (drop (x .start) s)) (omega (arith, w .good .most)) in
+    let z : length (take (x .length - 4) (drop (x .start) s)) ≤ 273 = rw (length-take (x .length - 4) (drop (x .start) s)) (omega (arith, w .most)) in
     let n = w .room in
     omega arith
 
@@ -169,30 +157,29 @@ covers b e (gate k) v = frame.covers (b .gateway) e k v
 covers b e room v = refl
 covers b e (byte j) v = v
 
-module _ (keeps : (g : Gateway) (e : Event) → isSound g ≡ true → isSound (next g e) ≡ true) where
-  pub untouched : (b : Board) (e : Event) (k : Place) → writes b e k ≡ false → get (nextBoard b e) k ≡ get b k
-  untouched b e (gate k) v = frame.untouched keeps (b .gateway) e k v
-  untouched b e room v = hold-room (b .gateway) e (b .hold)
-  untouched b e (byte j) v =
-      by-hold (b .gateway) e (b .hold) (λ (x : List ℕ). numberAt x j ≡ numberAt (b .hold) j)
-      (λ l.
-      let g = b .gateway in
-      kept-byte g (Reaches g (e .kind)) (fromController (e .kind)) (messageOf (e .kind)) (effectOf g (e .kind)) (b .hold) (within g (live-sound g e l) (e .kind) (live-plan g e l)) j
-      (false-of (Reaches g (e .kind) (partOf j)) (λ r. clash (reach g e (partOf j)) v (reach-of g e (partOf j) l r)))) (λ l. refl)
+pub untouched : (b : Board) (e : Event) (k : Place) → writes b e k ≡ false → get (nextBoard b e) k ≡ get b k
+untouched b e (gate k) v = frame.untouched (b .gateway) e k v
+untouched b e room v = hold-next (b .gateway) e (b .hold)
+untouched b e (byte j) v =
+    by-hold (b .gateway) e (b .hold) (λ (x : List ℕ). numberAt x j ≡ numberAt (b .hold) j)
+    (λ l.
+    let g = b .gateway in
+    kept-byte g (Reaches g (e .kind)) (fromController (e .kind)) (messageOf (e .kind)) (effectOf g (e .kind)) (b .hold) (within g (live-sound g e l) (e .kind) (live-plan g e l)) j
+    (false-of (Reaches g (e .kind) (partOf j)) (λ r. clash (reach g e (partOf j)) v (reach-of g e (partOf j) l r)))) (λ l. refl)
 
-  pub local : Local get shape reads writes shapes reshape rulesAnswer nextBoard
-  local =
-      record {
-        ext = ext;
-        covers = covers;
-        untouched = untouched;
-        same-out = same-out;
-        same-writes = same-writes;
-        same-next = same-next;
-        same-shapes = same-shapes;
-        reshaped = λ b e. frame.reshaped (b .gateway) e;
-        reshape-trade = frame.reshape-trade;
-      }
+pub local : Local get shape reads writes shapes reshape rulesAnswer nextBoard
+local =
+    record {
+      ext = ext;
+      covers = covers;
+      untouched = untouched;
+      same-out = same-out;
+      same-writes = same-writes;
+      same-next = same-next;
+      same-shapes = same-shapes;
+      reshaped = λ b e. frame.reshaped (b .gateway) e;
+      reshape-trade = frame.reshape-trade;
+    }
 
 -- ---- the condition for a trade (Rule 10.4)
 
@@ -204,6 +191,6 @@ apart b e f d (byte j) v r = d .servers (partOf j) v r
 flip : (b : Board) (e f : Event) → Independent b e f → Independent b f e
 flip b e f d = record { controllers = λ q p r. d .controllers q r p; servers = λ a p r. d .servers a r p }
 
-pub free-commute : ((g : Gateway) (e : Event) → isSound g ≡ true → isSound (next g e) ≡ true) → (b : Board) (e f : Event) → Independent b e f → Commute rulesAnswer nextBoard b e f
-free-commute keeps b e f d =
-    commutes get shape reads writes shapes reshape rulesAnswer nextBoard (local keeps) b e f (apart b e f d) (apart b f e (flip b e f d))
+pub free-commute : (b : Board) (e f : Event) → Independent b e f → Commute rulesAnswer nextBoard b e f
+free-commute b e f d =
+    commutes get shape reads writes shapes reshape rulesAnswer nextBoard local b e f (apart b e f d) (apart b f e (flip b e f d))

@@ -1,7 +1,7 @@
 -- Every event is local: it reads the plan, its own controller's up flag, and the records, link states and units of the ASes that it reaches, and writes
 -- only those.
 -- Assumes nothing.
-use mathlib.Core.Path.{_≡_, refl, sym, ap, _∙_, subst}
+use mathlib.Core.Path.{_≡_, refl, sym, ap, _∙_}
 use mathlib.Core.Bool.{Bool, true, false, _&&_, _||_, cond}
 use mathlib.Core.List.{List, [], _++_}
 use Prim.Native.Nat.{ℕ, _+_, _*_, _/_, _%_, _<_}
@@ -12,7 +12,8 @@ use lib.Seq.{ext-getD, getD-set-other}
 use borrow.Author.Tests.{ltb-true, lt-ltb, eqb-true}
 use Rattle.laws.specs.Below.{anyBelow, one}
 use Rattle.laws.specs.Inner.Below.{any-at, any-in}
-use Rattle.laws.specs.Inner.Every.{and-left, and-right, and-both}
+use Rattle.laws.specs.Inner.Every.{and-left, and-right, and-both, or-case, clash, false-of}
+use Rattle.laws.specs.Inner.Choice.{by-cond}
 use Rattle.laws.specs.Columns.{flagAt, numberAt}
 use Rattle.gateway.specs.Sound.{pair, unitIndex, isSound}
 use Rattle.gateway.specs.Inner.Laws.{parts, counts-within}
@@ -30,11 +31,12 @@ use Rattle.rules.specs.Rules.{effectOf, inPlan, refusalOf, refusal}
 use Rattle.rules.specs.Reach.{kindReach, reach, fromController}
 use Rattle.rules.specs.Entry.{actions, next}
 use Rattle.rules.specs.Inner.Accepted.{accepted}
-use Rattle.history.specs.Inner.Local.{false-of, Agree, Apart}
-use Rattle.history.proofs.Bits.{clash, or-left, or-right, or-case, set-same, ext-front, cond-yes, cond-no}
+use Rattle.history.specs.Inner.Local.{Agree, Apart}
+use Rattle.history.proofs.Bits.{or-left, or-right, set-same, ext-front, cond-yes, cond-no}
 use Rattle.history.proofs.Units.{Column, counts, tags, lengths, marks, ids, correlations, column, asOf, placeOf, valueOf, as-place, change-unit, change-long, goes-not, same-goes, with-is, with-long}
 use Rattle.history.proofs.Servers.{dyn, same-actions, same-up, remakesUp, up-length, up-drop, change-up, change-state, active-length, active-drop, waiting-length, waiting-drop}
 use Rattle.history.proofs.Within.{In, Within, Reaches, within}
+use Rattle.history.proofs.Keeps.{keeps}
 use Rattle.history.proofs.Alike.{Alike, in-plan, reach-plan, record-alike, effect-alike}
 
 -- ---- the keys of a state
@@ -231,11 +233,8 @@ module _ (g : Gateway) (e : Event) where
 
   -- a fact of the state that the rules give and of the one given, and so of the next
   pub by-live : (F : Gateway → Type 0) → (live g e ≡ true → F (stateAfter g (effectOf g (e .kind)))) → (live g e ≡ false → F g) → F (next g e)
-  by-live F m d = go (live g e) refl
-    where
-      go : (t : Bool) → live g e ≡ t → F (next g e)
-      go true l = subst F (sym (next-live l)) (m l)
-      go false l = subst F (sym (next-dead l)) (d l)
+  unfolding next
+  by-live F m d = by-cond (live g e) F m d
 
   reach-is : (a : ℕ) → reach g e a ≡ (live g e && Reaches g (e .kind) a)
   unfolding reach
@@ -342,7 +341,7 @@ module _ (g : Gateway) (R own : ℕ → Bool) where
 
   kept-line : (d : Effect) → Within g R own d → (l : ℕ) → (ltb l (g .links) && R (ownerAt g l)) ≡ false → numberAt (stateAfter g d .state) l ≡ numberAt (g .state) l
   kept-line (send os) w l r = refl
-  kept-line (setLink m v os) w l r = getD-set-other (g .state) m l v 0 (λ z. clash (ltb l (g .links) && R (ownerAt g l)) r (rw z (and-both (ltb m (g .links)) (R (ownerAt g m)) (lt-ltb m (g .links) (w .0)) (w .2))))
+  kept-line (setLink m v os) w l r = getD-set-other (g .state) m l v 0 (λ z. clash (ltb l (g .links) && R (ownerAt g l)) r (rw z (and-both (ltb m (g .links)) (R (ownerAt g m)) (lt-ltb m (g .links) (w .0)) (w .1))))
   kept-line (changeIn os k named) w l r = ap (λ (c : List ℕ). numberAt c l) (change-state g k named)
   kept-line (takeIn h x) w l r = refl
 
@@ -566,7 +565,7 @@ module _ (b b′ : Gateway) (e : Event) (h : Agree get reads writes b b′ e) wh
       let l = writes-live b e k v in
       ap (λ (x : Gateway). get x k) (next-live b′ e (same-live ∙ l)) ∙ same-state l k v ∙ sym (ap (λ (x : Gateway). get x k) (next-live b e l))
 
--- ---- all of it: every event is local, once it is known that it keeps a sound state so
+-- ---- all of it: every event is local
 
 writes-mine : (b : Gateway) (e : Event) (q : ℕ) → (live b e && movesIn (effectOf b (e .kind)) q) ≡ true → fromController (e .kind) q ≡ true
 writes-mine b e q v =
@@ -620,39 +619,38 @@ reshape-trade m n s = λ j. record {
   afterMarks = cond-trade (m .v) (n .v) [] (s .afterMarks) j;
 }
 
-module _ (keeps : (b : Gateway) (e : Event) → isSound b ≡ true → isSound (next b e) ≡ true) where
-  pub untouched : (b : Gateway) (e : Event) (k : Key) → writes b e k ≡ false → get (next b e) k ≡ get b k
-  untouched b e plan v = by-live b e (λ (x : Gateway). planOf x ≡ planOf b) (λ l. state-plan b (effectOf b (e .kind))) (λ l. refl)
-  untouched b e sizes v = by-live b e (λ (x : Gateway). get x sizes ≡ get b sizes) (λ l. state-sizes b (effectOf b (e .kind))) (λ l. refl)
-  untouched b e sound v = go (isSound b) refl
-    where
-      go : (t : Bool) → isSound b ≡ t → isSound (next b e) ≡ isSound b
-      go true s = keeps b e s ∙ sym s
-      go false s = ap (λ (x : Gateway). isSound x) (next-dead b e (false-of (live b e) (λ l. clash (isSound b) s (live-sound b e l))))
-  untouched b e (up q c) v =
-      by-live b e (λ (x : Gateway). numberAt (x .up) q ≡ numberAt (b .up) q)
-      (λ l. kept-up b (effectOf b (e .kind)) q c (ap (λ (t : Bool). t && movesIn (effectOf b (e .kind)) q) (sym l) ∙ v)) (λ l. refl)
-  untouched b e (line i) v =
-      by-live b e (λ (x : Gateway). numberAt (x .state) i ≡ numberAt (b .state) i)
-      (λ l. kept-line b (Reaches b (e .kind)) (fromController (e .kind)) (effectOf b (e .kind)) (within b (live-sound b e l) (e .kind) (live-plan b e l)) i
-      (false-of (ltb i (b .links) && Reaches b (e .kind) (ownerAt b i)) (λ r. clash (writes b e (line i)) v (and-both (ltb i (b .links)) (reach b e (ownerAt b i)) (and-left (ltb i (b .links)) _ r) (reach-of b e (ownerAt b i) l (and-right (ltb i (b .links)) _ r)))))) (λ l. refl)
-  untouched b e (act a q c d) v =
-      by-live b e (λ (x : Gateway). numberAt (x .active) (pair a q) ≡ numberAt (b .active) (pair a q))
-      (λ l. kept-act b (Reaches b (e .kind)) (fromController (e .kind)) (effectOf b (e .kind)) (within b (live-sound b e l) (e .kind) (live-plan b e l)) a q c d
-      (false-of (Reaches b (e .kind) a) (λ r. clash (reach b e a) v (reach-of b e a l r)))) (λ l. refl)
-  untouched b e (wait a c) v =
-      by-live b e (λ (x : Gateway). numberAt (x .waiting) a ≡ numberAt (b .waiting) a)
-      (λ l. kept-wait b (Reaches b (e .kind)) (fromController (e .kind)) (effectOf b (e .kind)) (within b (live-sound b e l) (e .kind) (live-plan b e l)) a c
-      (false-of (Reaches b (e .kind) a) (λ r. clash (reach b e a) v (reach-of b e a l r)))) (λ l. refl)
-  untouched b e (long c) v = by-live b e (λ (x : Gateway). get x (long c) ≡ get b (long c)) (λ l. state-long b c (effectOf b (e .kind))) (λ l. refl)
-  untouched b e (unit c i) v =
-      by-live b e (λ (x : Gateway). get x (unit c i) ≡ get b (unit c i))
-      (λ l. kept-unit b (Reaches b (e .kind)) (fromController (e .kind)) (count-16 b (live-sound b e l)) (effectOf b (e .kind)) (within b (live-sound b e l) (e .kind) (live-plan b e l)) c i
-      (false-of (Reaches b (e .kind) (asOf c i)) (λ r. clash (reach b e (asOf c i)) v (reach-of b e (asOf c i) l r)))) (λ l. refl)
+pub untouched : (b : Gateway) (e : Event) (k : Key) → writes b e k ≡ false → get (next b e) k ≡ get b k
+untouched b e plan v = by-live b e (λ (x : Gateway). planOf x ≡ planOf b) (λ l. state-plan b (effectOf b (e .kind))) (λ l. refl)
+untouched b e sizes v = by-live b e (λ (x : Gateway). get x sizes ≡ get b sizes) (λ l. state-sizes b (effectOf b (e .kind))) (λ l. refl)
+untouched b e sound v = go (isSound b) refl
+  where
+    go : (t : Bool) → isSound b ≡ t → isSound (next b e) ≡ isSound b
+    go true s = keeps b e s ∙ sym s
+    go false s = ap (λ (x : Gateway). isSound x) (next-dead b e (false-of (live b e) (λ l. clash (isSound b) s (live-sound b e l))))
+untouched b e (up q c) v =
+    by-live b e (λ (x : Gateway). numberAt (x .up) q ≡ numberAt (b .up) q)
+    (λ l. kept-up b (effectOf b (e .kind)) q c (ap (λ (t : Bool). t && movesIn (effectOf b (e .kind)) q) (sym l) ∙ v)) (λ l. refl)
+untouched b e (line i) v =
+    by-live b e (λ (x : Gateway). numberAt (x .state) i ≡ numberAt (b .state) i)
+    (λ l. kept-line b (Reaches b (e .kind)) (fromController (e .kind)) (effectOf b (e .kind)) (within b (live-sound b e l) (e .kind) (live-plan b e l)) i
+    (false-of (ltb i (b .links) && Reaches b (e .kind) (ownerAt b i)) (λ r. clash (writes b e (line i)) v (and-both (ltb i (b .links)) (reach b e (ownerAt b i)) (and-left (ltb i (b .links)) _ r) (reach-of b e (ownerAt b i) l (and-right (ltb i (b .links)) _ r)))))) (λ l. refl)
+untouched b e (act a q c d) v =
+    by-live b e (λ (x : Gateway). numberAt (x .active) (pair a q) ≡ numberAt (b .active) (pair a q))
+    (λ l. kept-act b (Reaches b (e .kind)) (fromController (e .kind)) (effectOf b (e .kind)) (within b (live-sound b e l) (e .kind) (live-plan b e l)) a q c d
+    (false-of (Reaches b (e .kind) a) (λ r. clash (reach b e a) v (reach-of b e a l r)))) (λ l. refl)
+untouched b e (wait a c) v =
+    by-live b e (λ (x : Gateway). numberAt (x .waiting) a ≡ numberAt (b .waiting) a)
+    (λ l. kept-wait b (Reaches b (e .kind)) (fromController (e .kind)) (effectOf b (e .kind)) (within b (live-sound b e l) (e .kind) (live-plan b e l)) a c
+    (false-of (Reaches b (e .kind) a) (λ r. clash (reach b e a) v (reach-of b e a l r)))) (λ l. refl)
+untouched b e (long c) v = by-live b e (λ (x : Gateway). get x (long c) ≡ get b (long c)) (λ l. state-long b c (effectOf b (e .kind))) (λ l. refl)
+untouched b e (unit c i) v =
+    by-live b e (λ (x : Gateway). get x (unit c i) ≡ get b (unit c i))
+    (λ l. kept-unit b (Reaches b (e .kind)) (fromController (e .kind)) (count-16 b (live-sound b e l)) (effectOf b (e .kind)) (within b (live-sound b e l) (e .kind) (live-plan b e l)) c i
+    (false-of (Reaches b (e .kind) (asOf c i)) (λ r. clash (reach b e (asOf c i)) v (reach-of b e (asOf c i) l r)))) (λ l. refl)
 
-  -- what an event reaches does not change along a history: it may be read off the first state
-  pub reach-next : (b : Gateway) (e f : Event) (a : ℕ) → reach (next b e) f a ≡ reach b f a
-  reach-next b e f a = plan-reach b (next b e) (untouched b e plan refl) (untouched b e sound refl) f a
+-- what an event reaches does not change along a history: it may be read off the first state
+pub reach-next : (b : Gateway) (e f : Event) (a : ℕ) → reach (next b e) f a ≡ reach b f a
+reach-next b e f a = plan-reach b (next b e) (untouched b e plan refl) (untouched b e sound refl) f a
 
 -- ---- the condition for a trade (Rule 10.4)
 

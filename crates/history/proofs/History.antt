@@ -2,14 +2,14 @@
 -- Assumes nothing.
 use mathlib.Core.Path.{_≡_, refl, sym, ap, _∙_, subst}
 use mathlib.Core.Bool.{Bool, true, false, _&&_, not, cond, false≢true}
-use mathlib.Core.List.{List, [], _∷_, _++_, map}
+use mathlib.Core.List.{List, [], _∷_, map}
 use Prim.Native.Nat.{ℕ, zero, suc, _+_, _*_, _/_, _<_}
 use native.Mathlib.Omega.{arith}
 use lib.Dec.{eqb, ltb}
-use lib.ListN.{length, take, drop, replicate, length-replicate}
+use lib.ListN.{length, take, drop, length-replicate}
 use lib.Seq.{take-at}
 use borrow.Author.Tests.{not-true, eq-eqb, eqb-true, ltb-true}
-use Rattle.laws.specs.Inner.Every.{and-left, and-right}
+use Rattle.laws.specs.Inner.Every.{and-left, and-right, clash, false-of}
 use Rattle.laws.specs.Columns.{numberAt}
 use Rattle.action.specs.declared.Action.{Action}
 use Rattle.action.specs.Words.{wordsOf}
@@ -27,21 +27,15 @@ use Rattle.rules.specs.Reach.{reach, messageReach, readReach}
 use Rattle.rules.specs.Entry.{actions, next, nextHold, MeetsRules}
 use Rattle.rules.specs.Calls.{Board, nextBoard, Call, events, boardAfter, Calls, none, call, answer, rulesAnswer}
 use Rattle.rules.specs.Inner.Accepted.{accepted}
-use Rattle.rules.specs.Inner.Few.{few-actions}
+use Rattle.rules.specs.Inner.Calls.{made, lend-same, made-meets, made-hold}
 use Rattle.rules.specs.Samples.{g₁, takes, comesUp}
 use Rattle.rules.proofs.Samples.{reach-apart}
 use Rattle.history.specs.Trade.{swaps, outs, last}
-use Rattle.history.specs.Inner.Trade.{Commute, traded-outs, traded-last}
-use Rattle.history.specs.Inner.Local.{false-of}
+use Rattle.history.specs.Inner.Trade.{traded-outs, traded-last}
 use Rattle.history.specs.History.{reaches, Independent, Untouched, UnitsStay, Outside, Statement, isUp, ReachOfUp, Rooms, blanks, Made, sampleBoard, TradesExist}
-use Rattle.history.proofs.Bits.{clash, by-cond, cond-yes}
 use Rattle.history.proofs.Units.{Column, counts, tags, lengths, marks, ids, correlations, column, placeOf, as-place}
 use Rattle.history.proofs.Frame.{Plan, planOf, plan, wait, act, line, up, unit, live, not-mine, not-reached, reach-next}
-use Rattle.history.proofs.Keeps.{keeps}
-use Rattle.history.proofs.Boards.{gate, byte, hold-dead, hold-room, untouched, free-commute}
-
-ruled-commute : (b : Board) (e f : Event) → Independent b e f → Commute rulesAnswer nextBoard b e f
-ruled-commute = free-commute keeps
+use Rattle.history.proofs.Boards.{gate, byte, hold-dead, untouched, free-commute}
 
 -- ---- what the calls hand back is what the rules give
 
@@ -99,31 +93,31 @@ one-outside b e =
       mode = ap (λ (x : Plan). x .mode) same;
       iid = ap (λ (x : Plan). x .iid) same;
       owner = ap (λ (x : Plan). x .owner) same;
-      waiting = λ a l r. untouched keeps b e (gate (wait a l)) r;
-      active = λ a q l m r. untouched keeps b e (gate (act a q l m)) r;
-      state = λ l r. untouched keeps b e (gate (line l)) r;
-      up = λ q l n. untouched keeps b e (gate (up q l)) (not-mine (b .gateway) e q l n);
-      ups = λ a q k l n m. untouched keeps b e (gate (up q l)) (not-reached (b .gateway) e a q k l n m);
+      waiting = λ a l r. untouched b e (gate (wait a l)) r;
+      active = λ a q l m r. untouched b e (gate (act a q l m)) r;
+      state = λ l r. untouched b e (gate (line l)) r;
+      up = λ q l n. untouched b e (gate (up q l)) (not-mine (b .gateway) e q l n);
+      ups = λ a q k l n m. untouched b e (gate (up q l)) (not-reached (b .gateway) e a q k l n m);
     }
   where
     same : planOf (next (b .gateway) e) ≡ planOf (b .gateway)
-    same = untouched keeps b e (gate plan) refl
+    same = untouched b e (gate plan) refl
 
 one-stays : (b : Board) (e : Event) → UnitsStay b e (nextBoard b e)
 one-stays b e =
     record {
-      count = λ a l r. untouched keeps b e (gate (unit counts a)) r;
+      count = λ a l r. untouched b e (gate (unit counts a)) r;
       tag = λ a k l m r. place tags a k m r;
       length = λ a k l m r. place lengths a k m r;
       marked = λ a k l m r. place marks a k m r;
       id = λ a k l m r. place ids a k m r;
       correlation = λ a k l m r. place correlations a k m r;
-      bytes = λ a j l m r. let z : (a * 2184 + j) / 2184 ≡ a = omega arith in untouched keeps b e (byte (a * 2184 + j)) (rw z r);
+      bytes = λ a j l m r. let z : (a * 2184 + j) / 2184 ≡ a = omega arith in untouched b e (byte (a * 2184 + j)) (rw z r);
     }
   where
     place : (c : Column) (a k : ℕ) → k < 8 → reach (b .gateway) e a ≡ false
         → numberAt (column c (next (b .gateway) e .held)) (placeOf c a k) ≡ numberAt (column c (b .gateway .held)) (placeOf c a k)
-    place c a k m r = untouched keeps b e (gate (unit c (placeOf c a k))) (ap (reach (b .gateway) e) (as-place c a k m) ∙ r)
+    place c a k m r = untouched b e (gate (unit c (placeOf c a k))) (ap (reach (b .gateway) e) (as-place c a k m) ∙ r)
 
 outside : {b c : Board} {cs : List Call} → Calls b cs c → Outside b cs
 outside none = tt
@@ -137,48 +131,12 @@ demand-3 b c c′ cs ds ts C D t e =
     record {
       by-rules = by-rules C;
       state-by-rules = state-by-rules C;
-      same-answers = by-rules D ∙ ap (outs rulesAnswer nextBoard b) e ∙ traded-outs rulesAnswer nextBoard Independent ruled-commute b (events cs) ts t ∙ ap (swaps ts) (sym (by-rules C));
-      same-state = state-by-rules D ∙ ap (last rulesAnswer nextBoard b) e ∙ traded-last rulesAnswer nextBoard Independent ruled-commute b (events cs) ts t ∙ sym (state-by-rules C);
+      same-answers = by-rules D ∙ ap (outs rulesAnswer nextBoard b) e ∙ traded-outs rulesAnswer nextBoard Independent free-commute b (events cs) ts t ∙ ap (swaps ts) (sym (by-rules C));
+      same-state = state-by-rules D ∙ ap (last rulesAnswer nextBoard b) e ∙ traded-last rulesAnswer nextBoard Independent free-commute b (events cs) ts t ∙ sym (state-by-rules C);
       outside = outside C;
     }
 
 -- ---- and it is about something
-
--- the hold to lend: the board's, or zeros where the event has another length
-abbrev lend : Board → Event → List ℕ
-lend b e = cond (eqb (e .hold) holdBytes) (b .hold) (replicate (e .hold) 0)
-
-abbrev made : Board → Event → List ℕ → Call
-made b e l =
-    record {
-      event = e;
-      lent = l;
-      left = wordsOf (actions (b .gateway) e) ++ drop (4 * length (actions (b .gateway) e)) l;
-      hold = lend b e;
-      held = nextHold (b .gateway) e (lend b e);
-      outcome = record { refusal = refusal (b .gateway) e; count = length (actions (b .gateway) e); gateway = next (b .gateway) e };
-    }
-
-lend-length : (b : Board) (e : Event) → length (b .hold) ≡ holdBytes → length (lend b e) ≡ e .hold
-lend-length b e n =
-    by-cond (eqb (e .hold) holdBytes) (λ (x : List ℕ). length x ≡ e .hold) (λ t. n ∙ sym (eqb-true (e .hold) holdBytes t)) (λ t. length-replicate (e .hold) 0)
-
-lend-same : (b : Board) (e : Event) → e .hold ≡ holdBytes → lend b e ≡ b .hold
-lend-same b e t = cond-yes (b .hold) (replicate (e .hold) 0) (eq-eqb (e .hold) holdBytes t)
-
-made-meets : (b : Board) (e : Event) (l : List ℕ) → length (b .hold) ≡ holdBytes → length l ≡ e .room
-    → MeetsRules (b .gateway) e l (made b e l .left) (made b e l .hold) (made b e l .held) (made b e l .outcome)
-made-meets b e l n r =
-    record {
-      room = r;
-      lends = lend-length b e n;
-      refused = refl;
-      count = refl;
-      few = few-actions (b .gateway) e;
-      state = refl;
-      bytes = refl;
-      words = refl;
-    }
 
 -- for every board with a hold of the right length
 pub some-calls : (b : Board) → length (b .hold) ≡ holdBytes → (h : List Event) (ls : List (List ℕ)) → Rooms h ls → Made b h ls
@@ -186,13 +144,11 @@ some-calls b n [] [] r = record { list = []; end = b; are = none; of = refl; len
 some-calls b n [] (l ∷ ls) r = absurd r
 some-calls b n (e ∷ h) [] r = absurd r
 some-calls b n (e ∷ h) (l ∷ ls) r =
-    let meets = made-meets b e l n (r .0) in
-    let after = one-after b (made b e l) meets (lend-same b e) in
-    let m = some-calls (boardAfter b (made b e l)) (ap (λ (x : Board). length (x .hold)) after ∙ hold-room (b .gateway) e (b .hold) ∙ n) h ls (r .1) in
+    let m = some-calls (boardAfter b (made b e l)) (made-hold b e n l) h ls (r .1) in
     record {
       list = made b e l ∷ m .list;
       end = m .end;
-      are = call {d = made b e l} meets (lend-same b e) (m .are);
+      are = call {d = made b e l} (made-meets b e n l (r .0)) (lend-same b e) (m .are);
       of = ap (λ (x : List Event). e ∷ x) (m .of);
       lend = ap (λ (x : List (List ℕ)). l ∷ x) (m .lend);
     }
@@ -234,7 +190,7 @@ trades-exist =
 
 -- it does not change along a history: whether two events may trade can be read off the first state
 pub reach-stays : (g : Gateway) (e f : Event) (a : ℕ) → reaches (next g e) f a ≡ reaches g f a
-reach-stays g e f a = reach-next keeps g e f a
+reach-stays g e f a = reach-next g e f a
 
 pub up-reach : ReachOfUp
 unfolding isUp reach messageReach readReach

@@ -22,29 +22,13 @@ use Rattle.server.specs.Record.{row, membersUp, recordFrom, recordOf}
 use Rattle.server.specs.Change.{after, overtakenIn}
 use Rattle.server.specs.Units.{unitOut, unitsOut, letOut}
 use Rattle.server.specs.Notify.{notifies, actionsIn}
-use Rattle.servers.specs.Changed.{withFlag, newActive, newWaiting, upAfter, withChange, actionsAt, allActions}
+use Rattle.servers.specs.Changed.{withFlag, withColumns, newActive, newWaiting, upAfter, withChange, actionsAt, allActions}
 use Rattle.servers.specs.Inner.Records.{flag-at}
 use Rattle.history.proofs.Bits.{and-cong}
 
 -- the plan of g, with what g′ has where events change it
 abbrev pub dyn : Gateway → Gateway → Gateway
-dyn g g′ =
-    record {
-      asps = g .asps;
-      ases = g .ases;
-      links = g .links;
-      spare = g .spare;
-      aspid = g .aspid;
-      up = g′ .up;
-      member = g .member;
-      active = g′ .active;
-      mode = g .mode;
-      waiting = g′ .waiting;
-      iid = g .iid;
-      owner = g .owner;
-      state = g′ .state;
-      held = g′ .held;
-    }
+dyn g g′ = withColumns g (g′ .up) (g′ .active) (g′ .waiting) (g′ .state) (g′ .held)
 
 -- the record of an AS hangs on its members' up flags, its row, its mark and its mode
 pub same-record : (up′ up member active′ active waiting′ waiting mode : List ℕ) (a : ℕ)

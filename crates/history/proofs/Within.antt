@@ -2,54 +2,43 @@
 -- kind.
 -- Assumes nothing.
 use mathlib.Core.Path.{_≡_, refl, sym, _∙_}
-use mathlib.Core.Bool.{Bool, true, false, _&&_, _||_, not, cond}
+use mathlib.Core.Bool.{Bool, true, false, _&&_, _||_, not}
 use mathlib.Core.List.{List, [], _∷_}
-use Prim.Native.Nat.{ℕ, zero, suc, _+_, _<_}
+use Prim.Native.Nat.{ℕ, _+_, _<_, _≤_}
 use native.Mathlib.Omega.{arith}
-use native.Mathlib.Decide.{decLt}
 use lib.Dec.{eqb, ltb}
-use borrow.Author.Tests.{lt-ltb, le-ltb, ltb-true, eqb-true, eq-eqb, not-false}
-use Rattle.laws.specs.Below.{firstBelow}
+use borrow.Author.Tests.{lt-ltb, ltb-true, eqb-true, eq-eqb, not-false}
 use Rattle.laws.specs.Inner.Below.{any-at}
-use Rattle.laws.specs.Inner.Every.{and-left, and-right, and-both}
+use Rattle.laws.specs.Inner.Every.{and-left, and-right, and-both, or-case, clash}
+use Rattle.laws.specs.Inner.Choice.{by-cond}
 use Rattle.laws.specs.Columns.{flagAt, isSet, numberAt, tabulate}
 use Rattle.laws.specs.Inner.Columns.{getD-tabulate}
 use Rattle.wire.specs.Walk.{Par, walk}
 use Rattle.message.specs.Verdict.{verdict}
 use Rattle.message.specs.Meaning.{readingOf}
 use Rattle.message.specs.declared.Reading.{Reading}
-use Rattle.gateway.specs.Sound.{pair, isSound}
+use Rattle.gateway.specs.Sound.{isSound}
 use Rattle.gateway.specs.Inner.Laws.{counts-within, owner-within, member-within}
 use Rattle.gateway.specs.declared.Gateway.{Gateway}
 use Rattle.lookup.specs.Links.{indexOf, known}
-use Rattle.ranges.specs.Named.{ownerOf, isRefused, isOwnedBy, span, nothing, refusing, firstIn, someIn, startAt, stopAt, entries, firstOf, refusedEntry, refusedIn, someEntry, someOf}
-use Rattle.ranges.specs.declared.Refused.{Refused}
+use Rattle.ranges.specs.Named.{ownerOf, isOwnedBy, span, someIn, startAt, stopAt, entries, someEntry, someOf}
 use Rattle.action.specs.declared.Action.{Action}
 use Rattle.action.specs.Types.{aspUp, aspDown, aspActive, aspInactive, beat, beatAck}
 use Rattle.server.specs.declared.Arrival.{Arrival}
 use Rattle.server.specs.declared.Change.{Change}
-use Rattle.server.specs.declared.Change.the-variants.{AspUp, AspDown, Deactivate, Activate, Recover}
+use Rattle.server.specs.declared.Change.the-variants.{AspUp, AspDown, Recover}
 use Rattle.server.specs.Record.{some}
-use Rattle.keeps.specs.Inner.Units.{UnitOf}
 use Rattle.servers.specs.Inner.Records.{moves, NamesOwn, names-own, column-at}
 use Rattle.rules.specs.Event.{EventKind, message, lost, recovery, linkUp, linkDown, linkMessage}
 use Rattle.rules.specs.Identifiers.{isIds, firstRefused, ownsNamed, ownersNamed, isKnown, linkOf, ownerAt, isMember, isActive}
 use Rattle.rules.specs.Effect.{Effect, send, setLink, changeIn, takeIn}
 use Rattle.rules.specs.Asp.{asesOf, upEffect, downEffect, lostEffect, otherMode, activeEffect, inactiveEffect, trafficEffect}
-use Rattle.rules.specs.Link.{starting, inService, stopping, idle, establish, release, dataEffect, linkEffect, classSixEffect, linkUpEffect, linkDownEffect, isPending, arrival, holdEffect, linkMessageEffect}
+use Rattle.rules.specs.Link.{starting, inService, stopping, idle, establish, release, dataEffect, linkEffect, classSixEffect, linkUpEffect, linkDownEffect}
 use Rattle.rules.specs.Rules.{isError, classTypeOf, fromAsp, readEffect, messageEffect, effectOf, inPlan}
 use Rattle.rules.specs.Reach.{ownsId, readReach, messageReach, kindReach, fromController}
-use Rattle.rules.specs.Inner.TakeIn.{taken-in}
-use Rattle.history.specs.Inner.Local.{false-of}
-use Rattle.history.proofs.Bits.{clash, or-left, or-right, or-case, by-cond}
-
--- what a change needs to leave a sound state so
-abbrev pub Safe : Gateway → Change → List Bool → Type 0
-Safe g (AspUp p) named = p < g .asps
-Safe g (AspDown p) named = Unit {0}
-Safe g (Deactivate p) named = Unit {0}
-Safe g (Activate p) named = (p < 16) × (isSet (g .up) p ≡ true) × ((a : ℕ) → a < 16 → flagAt named a ≡ true → isMember g a p ≡ true)
-Safe g Recover named = Unit {0}
+use Rattle.rules.specs.Inner.TakeIn.{Takes, link-cases, taken-in}
+use Rattle.keeps.proofs.Next.{known-below}
+use Rattle.history.proofs.Bits.{or-left, or-right}
 
 -- A change in the ASes named, by an event that reaches the ASes of R and is of the controllers of `own`: it names only what it reaches; whom it
 -- sets up or down is its own controller, and all ASes of that one are named.
@@ -57,20 +46,17 @@ pub record In (g : Gateway) (R own : ℕ → Bool) (k : Change) (named : List Bo
   pub reached : (a : ℕ) → a < 16 → flagAt named a ≡ true → R a ≡ true
   pub mine : (q : ℕ) → moves k q ≡ true → own q ≡ true
   pub whole : NamesOwn k (g .member) named
-  pub safe : Safe g k named
 
--- A unit that comes in for AS a, which is reached, waits and has room.
+-- A unit that comes in for AS a, which is reached and has room.
 pub record Into (g : Gateway) (R : ℕ → Bool) (a : ℕ) (x : Arrival) : Type 0 where
   pub reached : R a ≡ true
-  pub below : a < 16
-  pub waits : isSet (g .waiting) a ≡ true
   pub room : numberAt (g .held .count) a < 8
-  pub good : UnitOf (g .iid) (g .owner) (g .links) a x
+  pub most : x .length ≤ 277
 
 -- the same of all that an event does; a link that it turns is the plan's, and its owner is reached
 abbrev pub Within : Gateway → (ℕ → Bool) → (ℕ → Bool) → Effect → Type 0
 Within g R own (send os) = Unit {0}
-Within g R own (setLink l v os) = (l < g .links) × (v < 4) × (R (ownerAt g l) ≡ true)
+Within g R own (setLink l v os) = (l < g .links) × (R (ownerAt g l) ≡ true)
 Within g R own (changeIn os k named) = In g R own k named
 Within g R own (takeIn a x) = Into g R a x
 
@@ -83,68 +69,15 @@ neither t u x y = rw (x, y)
 
 widen : (g : Gateway) (R R′ own : ℕ → Bool) (d : Effect) → ((a : ℕ) → R a ≡ true → R′ a ≡ true) → Within g R own d → Within g R′ own d
 widen g R R′ own (send os) h w = tt
-widen g R R′ own (setLink l v os) h w = (w .0, w .1, h (ownerAt g l) (w .2))
+widen g R R′ own (setLink l v os) h w = (w .0, h (ownerAt g l) (w .1))
 widen g R R′ own (changeIn os k named) h w =
-    record { reached = λ a b e. h a (w .reached a b e); mine = w .mine; whole = w .whole; safe = w .safe }
+    record { reached = λ a b e. h a (w .reached a b e); mine = w .mine; whole = w .whole }
 widen g R R′ own (takeIn a x) h w =
-    record { reached = h a (w .reached); below = w .below; waits = w .waits; room = w .room; good = w .good }
+    record { reached = h a (w .reached); room = w .room; most = w .most }
 
 -- ---- the identifiers that a message names
 
--- a search below n finds what is there
-first-below : (f : ℕ → Bool) (n i : ℕ) → i < n → f i ≡ true → firstBelow f n < n
-unfolding firstBelow
-first-below f zero i b h = let w : ⊥ = omega arith in absurd w
-first-below f (suc n) i b h = go (decLt (firstBelow f n) n) (decLt i n) (λ l. first-below f n i l h)
-  where
-    go : Dec (firstBelow f n < n) → Dec (i < n) → (i < n → firstBelow f n < n) → cond (ltb (firstBelow f n) n) (firstBelow f n) (cond (f n) n (suc n)) < suc n
-    go (yes z) d k = rw (lt-ltb (firstBelow f n) n z) (omega arith)
-    go (no z) (yes l) k = absurd (z (k l))
-    go (no z) (no l) k =
-        let e : i ≡ n = omega arith in
-        let t : f n ≡ true = rw e at h in
-        rw (le-ltb (firstBelow f n) n (omega arith), t) (omega arith)
-
-not-found : (t : Bool) (x : ℕ) → cond t (refusing x) nothing .found ≡ false → t ≡ false
-not-found true x h = h
-not-found false x h = refl
-
--- where a range has nothing bad, one of it that is good is not bad
-range-good : (bad good : ℕ → Bool) (start stop : ℕ) → firstIn bad start stop .found ≡ false → someIn good start stop ≡ true → (x : ℕ) × (good x ≡ true) × (bad x ≡ false)
-unfolding firstIn someIn
-range-good bad good start stop h k =
-    let f : ℕ → Bool = λ i. bad (start + i) in
-    let n = not-found (ltb (firstBelow f (span start stop)) (span start stop)) (start + firstBelow f (span start stop)) h in
-    let x = any-at (λ i. good (start + i)) (span start stop) k in
-    (start + x .0, x .2, false-of (bad (start + x .0)) (λ e. clash _ n (lt-ltb (firstBelow f (span start stop)) (span start stop) (first-below f (span start stop) (x .0) (x .1) e))))
-
-first-none-found : (f : ℕ → Refused) (n : ℕ) → firstOf f n .found ≡ false → (i : ℕ) → i < n → f i .found ≡ false
-unfolding firstOf
-first-none-found f zero h i b = let w : ⊥ = omega arith in absurd w
-first-none-found f (suc n) h i b = go (firstOf f n .found) refl h (λ z l. first-none-found f n z i l) (decLt i n)
-  where
-    go : (u : Bool) → firstOf f n .found ≡ u → cond u (firstOf f n) (f n) .found ≡ false → (firstOf f n .found ≡ false → i < n → f i .found ≡ false) → Dec (i < n) → f i .found ≡ false
-    go true e h k d = clash _ h e
-    go false e h k (yes l) = k e l
-    go false e h k (no l) = let z : i ≡ n = omega arith in rw z h
-
--- the same of the value of a parameter
-value-good : (bad good : ℕ → Bool) (pairs : Bool) (s : List ℕ) → refusedIn bad pairs s .found ≡ false → someOf good pairs s ≡ true → (x : ℕ) × (good x ≡ true) × (bad x ≡ false)
-unfolding refusedIn someOf refusedEntry someEntry
-value-good bad good pairs s h k =
-    let x = any-at (λ i. someIn good (startAt pairs s i) (stopAt pairs s i)) (entries pairs s) k in
-    range-good bad good (startAt pairs s (x .0)) (stopAt pairs s (x .0))
-    (first-none-found (λ i. firstIn bad (startAt pairs s i) (stopAt pairs s i)) (entries pairs s) h (x .0) (x .1)) (x .2)
-
-passed : (t : Bool) (r rest : Refused) → cond t (cond (r .found) r rest) rest .found ≡ false → (rest .found ≡ false) × (t ≡ true → r .found ≡ false)
-passed false r rest h = (h, λ e. clash false refl e)
-passed true r rest h = go (r .found) refl h
-  where
-    go : (u : Bool) → r .found ≡ u → cond u r rest .found ≡ false → (rest .found ≡ false) × (true ≡ true → r .found ≡ false)
-    go true e h = clash _ h e
-    go false e h = (h, λ z. e)
-
--- an AS that owns one of those named owns one in the plan, and, where none is refused, has p
+-- an AS that owns one of those named owns one in the plan
 named-one : (g : Gateway) (ps : List Par) (a : ℕ) → ownsNamed g ps a ≡ true → (x : ℕ) × (isOwnedBy (g .iid) (g .owner) (g .links) a x ≡ true)
 unfolding ownsNamed someOf someEntry someIn
 named-one g [] a h = clash false refl h
@@ -157,31 +90,11 @@ named-one g (x ∷ ps) a h =
     (startAt (eqb (x .tag) 0x8) (x .body) (i .0) + k .0, k .2))
     (named-one g ps a)
 
-named-mine : (g : Gateway) (p : ℕ) (ps : List Par) (a : ℕ) → firstRefused g p ps .found ≡ false → ownsNamed g ps a ≡ true → isMember g a p ≡ true
-unfolding firstRefused ownsNamed isOwnedBy isRefused
-named-mine g p [] a n h = clash false refl h
-named-mine g p (x ∷ ps) a n h =
-    let bad = isRefused (g .iid) (g .owner) (g .member) (g .links) p in
-    let good = isOwnedBy (g .iid) (g .owner) (g .links) a in
-    let pairs = eqb (x .tag) 0x8 in
-    let z = passed (isIds (x .tag)) (refusedIn bad pairs (x .body)) (firstRefused g p ps) n in
-    or-case (isIds (x .tag) && someOf good pairs (x .body)) (ownsNamed g ps a) h
-    (λ e.
-    let y = value-good bad good pairs (x .body) (z .1 (and-left (isIds (x .tag)) _ e)) (and-right (isIds (x .tag)) _ e) in
-    let m = not-false (known (g .iid) (g .links) (y .0) && isSet (g .member) (pair (ownerOf (g .iid) (g .owner) (g .links) (y .0)) p)) (y .2) in
-    let o = eqb-true (ownerOf (g .iid) (g .owner) (g .links) (y .0)) a (and-right (known (g .iid) (g .links) (y .0)) _ (y .1)) in
-    rw o at (and-right (known (g .iid) (g .links) (y .0)) (isSet (g .member) (pair (ownerOf (g .iid) (g .owner) (g .links) (y .0)) p)) m))
-    (named-mine g p ps a (z .0))
-
 -- ---- what a sound state says of the ASes reached
 
 module _ (g : Gateway) (ok : isSound g ≡ true) where
   pub asps-16 : (p : ℕ) → p < g .asps → p < 16
   asps-16 p b = omega (arith, counts-within g ok .asps)
-
-  pub known-below : (x : ℕ) → isKnown g x ≡ true → linkOf g x < g .links
-  unfolding isKnown linkOf known
-  known-below x h = ltb-true (indexOf (g .iid) (g .links) x) (g .links) h
 
   -- the owner of a link in the plan
   pub owner-in : (l : ℕ) → l < g .links → ltb (ownerAt g l) (g .ases) ≡ true
@@ -211,26 +124,25 @@ module _ (g : Gateway) (ok : isSound g ≡ true) where
     mine-p q e = eq-eqb p q (sym (eqb-true q p e))
 
     up-in : (K : ℕ → Bool) → ((a : ℕ) → isMember g a p ≡ true → K a ≡ true) → In g (λ a. ltb a (g .ases) && K a) (eqb p) (AspUp p) (asesOf g p)
-    up-in K h = record { reached = all-of-p K h; mine = mine-p; whole = names-own (AspUp p) (g .member) p (λ q m. eqb-true q p m); safe = b }
+    up-in K h = record { reached = all-of-p K h; mine = mine-p; whole = names-own (AspUp p) (g .member) p (λ q m. eqb-true q p m) }
 
     down-in : (K : ℕ → Bool) → ((a : ℕ) → isMember g a p ≡ true → K a ≡ true) → In g (λ a. ltb a (g .ases) && K a) (eqb p) (AspDown p) (asesOf g p)
-    down-in K h = record { reached = all-of-p K h; mine = mine-p; whole = names-own (AspDown p) (g .member) p (λ q m. eqb-true q p m); safe = tt }
+    down-in K h = record { reached = all-of-p K h; mine = mine-p; whole = names-own (AspDown p) (g .member) p (λ q m. eqb-true q p m) }
 
     -- Active and Inactive: those named by identifiers, or all ASes of p
     traffic-in : (K : ℕ → Bool) (r : Reading) (ps : List Par) (act : List Bool → Effect)
-        → ((named : List Bool) → ((a : ℕ) → a < 16 → flagAt named a ≡ true → (ltb a (g .ases) && K a) ≡ true) → ((a : ℕ) → a < 16 → flagAt named a ≡ true → isMember g a p ≡ true) → isSet (g .up) p ≡ true → Within g (λ a. ltb a (g .ases) && K a) (eqb p) (act named))
+        → ((named : List Bool) → ((a : ℕ) → a < 16 → flagAt named a ≡ true → (ltb a (g .ases) && K a) ≡ true) → Within g (λ a. ltb a (g .ases) && K a) (eqb p) (act named))
         → (eqb (r .ids) 1 ≡ true → (a : ℕ) → ownsNamed g ps a ≡ true → K a ≡ true)
         → (eqb (r .ids) 1 ≡ false → (a : ℕ) → isMember g a p ≡ true → K a ≡ true)
         → Within g (λ a. ltb a (g .ases) && K a) (eqb p) (trafficEffect g p r ps act)
     unfolding trafficEffect ownersNamed
     traffic-in K r ps act h ids all =
         by-cond (not (isSet (g .up) p)) W (λ _. tt)
-        (λ u. by-cond (eqb (r .ids) 1) W
+        (λ _. by-cond (eqb (r .ids) 1) W
         (λ i. by-cond (firstRefused g p ps .found) W (λ _. tt)
-        (λ n. h (tabulate 16 (ownsNamed g ps)) (λ a c e. and-both (ltb a (g .ases)) (K a) (named-in ps a (own a c e)) (ids i a (own a c e)))
-        (λ a c e. named-mine g p ps a n (own a c e)) (not-false (isSet (g .up) p) u)))
+        (λ _. h (tabulate 16 (ownsNamed g ps)) (λ a c e. and-both (ltb a (g .ases)) (K a) (named-in ps a (own a c e)) (ids i a (own a c e)))))
         (λ i. by-cond (some (asesOf g p)) W
-        (λ _. h (asesOf g p) (all-of-p K (all i)) (λ a c e. sym (column-at (g .member) p a c) ∙ e) (not-false (isSet (g .up) p) u)) (λ _. tt)))
+        (λ _. h (asesOf g p) (all-of-p K (all i))) (λ _. tt)))
       where
         W : Effect → Type 0
         W = Within g (λ a. ltb a (g .ases) && K a) (eqb p)
@@ -238,15 +150,15 @@ module _ (g : Gateway) (ok : isSound g ≡ true) where
         own : (a : ℕ) → a < 16 → flagAt (tabulate 16 (ownsNamed g ps)) a ≡ true → ownsNamed g ps a ≡ true
         own a c e = sym (getD-tabulate 16 (ownsNamed g ps) a false c) ∙ e
 
-    active-in : (K : ℕ → Bool) (mode : ℕ) (named : List Bool) → ((a : ℕ) → a < 16 → flagAt named a ≡ true → (ltb a (g .ases) && K a) ≡ true) → ((a : ℕ) → a < 16 → flagAt named a ≡ true → isMember g a p ≡ true) → isSet (g .up) p ≡ true → Within g (λ a. ltb a (g .ases) && K a) (eqb p) (activeEffect g p mode named)
+    active-in : (K : ℕ → Bool) (mode : ℕ) (named : List Bool) → ((a : ℕ) → a < 16 → flagAt named a ≡ true → (ltb a (g .ases) && K a) ≡ true) → Within g (λ a. ltb a (g .ases) && K a) (eqb p) (activeEffect g p mode named)
     unfolding activeEffect
-    active-in K mode named h m u =
+    active-in K mode named h =
         by-cond (otherMode g mode named) (Within g (λ a. ltb a (g .ases) && K a) (eqb p)) (λ _. tt)
-        (λ _. record { reached = h; mine = λ q e. clash false refl e; whole = λ q a e c. clash false refl e; safe = (asps-16 p b, u, m) })
+        (λ _. record { reached = h; mine = λ q e. clash false refl e; whole = λ q a e c. clash false refl e })
 
-    inactive-in : (K : ℕ → Bool) (named : List Bool) → ((a : ℕ) → a < 16 → flagAt named a ≡ true → (ltb a (g .ases) && K a) ≡ true) → ((a : ℕ) → a < 16 → flagAt named a ≡ true → isMember g a p ≡ true) → isSet (g .up) p ≡ true → Within g (λ a. ltb a (g .ases) && K a) (eqb p) (inactiveEffect p named)
+    inactive-in : (K : ℕ → Bool) (named : List Bool) → ((a : ℕ) → a < 16 → flagAt named a ≡ true → (ltb a (g .ases) && K a) ≡ true) → Within g (λ a. ltb a (g .ases) && K a) (eqb p) (inactiveEffect p named)
     unfolding inactiveEffect
-    inactive-in K named h m u = record { reached = h; mine = λ q e. clash false refl e; whole = λ q a e c. clash false refl e; safe = tt }
+    inactive-in K named h = record { reached = h; mine = λ q e. clash false refl e; whole = λ q a e c. clash false refl e }
 
     -- class 6: the owner of a known identifier
     six-in : (K : ℕ → Bool) (r : Reading) → ((a : ℕ) → ownsId g (r .id) a ≡ true → K a ≡ true) → Within g (λ a. ltb a (g .ases) && K a) (eqb p) (classSixEffect g p r)
@@ -257,9 +169,9 @@ module _ (g : Gateway) (ok : isSound g ≡ true) where
         (λ k. by-cond (not (isActive g (ownerAt g l) p)) W (λ _. tt)
         (λ _. by-cond (eqb (r .msgtype) 1) W (λ _. by-cond (eqb st inService) W (λ _. tt) (λ _. tt))
         (λ _. by-cond (eqb (r .msgtype) 2) W
-        (λ _. by-cond (eqb st inService) W (λ _. tt) (λ _. by-cond (eqb st starting) W (λ _. tt) (λ _. turned starting (omega arith) k)))
+        (λ _. by-cond (eqb st inService) W (λ _. tt) (λ _. by-cond (eqb st starting) W (λ _. tt) (λ _. turned k)))
         (λ _. by-cond (eqb (r .msgtype) 4) W
-        (λ _. by-cond (eqb st idle) W (λ _. tt) (λ _. by-cond (eqb st stopping) W (λ _. tt) (λ _. turned stopping (omega arith) k)))
+        (λ _. by-cond (eqb st idle) W (λ _. tt) (λ _. by-cond (eqb st stopping) W (λ _. tt) (λ _. turned k)))
         (λ _. by-cond (eqb (r .msgtype) 7) W (λ _. tt) (λ _. by-cond (eqb (r .msgtype) 10) W (λ _. tt) (λ _. tt))))))))
       where
         W : Effect → Type 0
@@ -274,13 +186,13 @@ module _ (g : Gateway) (ok : isSound g ≡ true) where
         st : ℕ
         st = numberAt (g .state) (linkOf g (r .id))
 
-        turned : (v : ℕ) → v < 4 → not (isKnown g (r .id) && isMember g (ownerAt g (linkOf g (r .id))) p) ≡ false
-            → (linkOf g (r .id) < g .links) × (v < 4) × ((ltb (ownerAt g (linkOf g (r .id))) (g .ases) && K (ownerAt g (linkOf g (r .id)))) ≡ true)
-        turned v c k =
+        turned : not (isKnown g (r .id) && isMember g (ownerAt g (linkOf g (r .id))) p) ≡ false
+            → (linkOf g (r .id) < g .links) × ((ltb (ownerAt g (linkOf g (r .id))) (g .ases) && K (ownerAt g (linkOf g (r .id)))) ≡ true)
+        turned k =
             let n = and-left (isKnown g (r .id)) _ (not-false (isKnown g (r .id) && isMember g (ownerAt g (linkOf g (r .id))) p) k) in
-            let j = known-below (r .id) n in
+            let j = known-below g ok (r .id) n in
             let o = ownerAt g (linkOf g (r .id)) in
-            (j, c, and-both (ltb o (g .ases)) (K o) (owner-in (linkOf g (r .id)) j) (h o (and-both (isKnown g (r .id)) (eqb o o) n (eq-eqb o o refl))))
+            (j, and-both (ltb o (g .ases)) (K o) (owner-in (linkOf g (r .id)) j) (h o (and-both (isKnown g (r .id)) (eqb o o) n (eq-eqb o o refl))))
 
     -- ---- what a readable message reaches, type by type
 
@@ -346,9 +258,9 @@ module _ (g : Gateway) (ok : isSound g ≡ true) where
 
   -- ---- link events
 
-  link-turn : (l v : ℕ) (os : List Action) (own : ℕ → Bool) → l < g .links → v < 4 → Within g (λ a. ltb a (g .ases) && eqb (ownerAt g l) a) own (setLink l v os)
-  link-turn l v os own b c =
-      (b, c, and-both (ltb (ownerAt g l) (g .ases)) (eqb (ownerAt g l) (ownerAt g l)) (owner-in l b) (eq-eqb (ownerAt g l) (ownerAt g l) refl))
+  link-turn : (l v : ℕ) (os : List Action) (own : ℕ → Bool) → l < g .links → Within g (λ a. ltb a (g .ases) && eqb (ownerAt g l) a) own (setLink l v os)
+  link-turn l v os own b =
+      (b, and-both (ltb (ownerAt g l) (g .ases)) (eqb (ownerAt g l) (ownerAt g l)) (owner-in l b) (eq-eqb (ownerAt g l) (ownerAt g l) refl))
 
   recover-in : (a : ℕ) → a < g .ases → In g (λ c. ltb c (g .ases) && eqb a c) (λ q. false) Recover (tabulate 16 (λ c. eqb c a))
   recover-in a b =
@@ -358,49 +270,32 @@ module _ (g : Gateway) (ok : isSound g ≡ true) where
             rw z (and-both (ltb a (g .ases)) (eqb a a) (lt-ltb a (g .ases) b) (eq-eqb a a refl));
         mine = λ q e. clash false refl e;
         whole = λ q c e d. clash false refl e;
-        safe = tt;
       }
 
   -- ---- a unit of the link side
 
-  into : (s : List ℕ) → inPlan g (linkMessage s) ≡ true → (eqb (readingOf s .msgtype) 1 && isPending g (ownerAt g (linkOf g (readingOf s .id)))) ≡ true
-      → ltb (numberAt (g .held .count) (ownerAt g (linkOf g (readingOf s .id)))) 8 ≡ true
-      → Into g (Reaches g (linkMessage s)) (ownerAt g (linkOf g (readingOf s .id))) (arrival s (readingOf s))
+  into : (s : List ℕ) → inPlan g (linkMessage s) ≡ true → (a : ℕ) (x : Arrival) → Takes g s a x → Into g (Reaches g (linkMessage s)) a x
   unfolding ownsId
-  into s i p u =
+  into s i a x h =
+      let t = taken-in g s a x ok i h in
       let o = ownerAt g (linkOf g (readingOf s .id)) in
-      let m = eqb (readingOf s .msgtype) 1 in
-      let t =
-      taken-in g s o (arrival s (readingOf s)) ok i
-      (record {
-        owner = refl;
-        unit = refl;
-        is-data = eqb-true (readingOf s .msgtype) 1 (and-left m (isPending g o) p);
-        pending = and-right m (isPending g o) p;
-        room = ltb-true (numberAt (g .held .count) o) 8 u;
-      }) in
       record {
-        reached = and-both (ltb o (g .ases)) _ (lt-ltb o (g .ases) (t .as-below)) (and-both (isKnown g (readingOf s .id)) (eqb o o) (t .is-known) (eq-eqb o o refl));
-        below = t .as-16;
-        waits = t .waits;
-        room = t .takes .room;
-        good = record { tagged = t .tagged; least = t .least; most = t .longest; known = t .of-link; marks = t .marks };
+        reached = and-both (ltb a (g .ases)) _ (lt-ltb a (g .ases) (t .as-below)) (and-both (isKnown g (readingOf s .id)) (eqb o a) (t .is-known) (eq-eqb o a (sym (h .owner))));
+        room = h .room;
+        most = t .longest;
       }
 
   -- ---- every kind
 
   pub within : (k : EventKind) → inPlan g k ≡ true → Within g (Reaches g k) (fromController k) (effectOf g k)
-  unfolding lostEffect linkUpEffect linkDownEffect linkMessageEffect holdEffect
+  unfolding lostEffect linkUpEffect linkDownEffect
   within (message p s) i = message-in p (ltb-true p (g .asps) i) s
   within (lost p) i = down-in p (ltb-true p (g .asps) i) (λ a. isMember g a p) (λ a m. m)
   within (recovery a) i = recover-in a (ltb-true a (g .ases) i)
   within (linkUp l) i =
       by-cond (eqb (numberAt (g .state) l) starting) (Within g (Reaches g (linkUp l)) (λ q. false))
-      (λ _. link-turn l inService [] (λ q. false) (ltb-true l (g .links) i) (omega arith)) (λ _. tt)
+      (λ _. link-turn l inService [] (λ q. false) (ltb-true l (g .links) i)) (λ _. tt)
   within (linkDown l) i =
       by-cond (eqb (numberAt (g .state) l) idle) (Within g (Reaches g (linkDown l)) (λ q. false)) (λ _. tt)
-      (λ _. link-turn l idle [] (λ q. false) (ltb-true l (g .links) i) (omega arith))
-  within (linkMessage s) i =
-      let o = ownerAt g (linkOf g (readingOf s .id)) in
-      by-cond (eqb (readingOf s .msgtype) 1 && isPending g o) (Within g (Reaches g (linkMessage s)) (λ q. false))
-      (λ p. by-cond (ltb (numberAt (g .held .count) o) 8) (Within g (Reaches g (linkMessage s)) (λ q. false)) (λ u. into s i p u) (λ _. tt)) (λ _. tt)
+      (λ _. link-turn l idle [] (λ q. false) (ltb-true l (g .links) i))
+  within (linkMessage s) i = link-cases g s (Within g (Reaches g (linkMessage s)) (λ q. false)) (λ os. tt) (into s i)

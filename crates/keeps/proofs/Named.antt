@@ -1,7 +1,7 @@
 -- Where no identifier that a message names is refused, every AS that owns one of them has p.
 -- Assumes nothing.
-use mathlib.Core.Path.{_≡_, refl, sym, _∙_}
-use mathlib.Core.Bool.{Bool, true, false, _&&_, _||_, cond, false≢true}
+use mathlib.Core.Path.{_≡_, refl}
+use mathlib.Core.Bool.{Bool, true, false, _&&_, cond}
 use mathlib.Core.List.{List, [], _∷_}
 use Prim.Native.Nat.{ℕ, zero, suc, _+_, _<_}
 use native.Mathlib.Omega.{arith}
@@ -10,7 +10,7 @@ use lib.Dec.{eqb, ltb}
 use borrow.Author.Tests.{lt-ltb, le-ltb, eqb-true, not-false}
 use Rattle.laws.specs.Below.{firstBelow}
 use Rattle.laws.specs.Inner.Below.{any-at}
-use Rattle.laws.specs.Inner.Every.{and-left, and-right}
+use Rattle.laws.specs.Inner.Every.{and-left, and-right, or-case, clash, false-of}
 use Rattle.laws.specs.Columns.{isSet}
 use Rattle.wire.specs.Walk.{Par}
 use Rattle.gateway.specs.Sound.{pair}
@@ -19,17 +19,6 @@ use Rattle.lookup.specs.Links.{known}
 use Rattle.ranges.specs.Named.{ownerOf, isRefused, isOwnedBy, span, nothing, refusing, firstIn, someIn, startAt, stopAt, entries, firstOf, refusedEntry, refusedIn, someEntry, someOf}
 use Rattle.ranges.specs.declared.Refused.{Refused}
 use Rattle.rules.specs.Identifiers.{isIds, firstRefused, ownsNamed, isMember}
-
-pub clash : {A : Type 0} (t : Bool) → t ≡ false → t ≡ true → A
-clash t f h = absurd (false≢true (sym f ∙ h))
-
-false-of : (t : Bool) → (t ≡ true → ⊥) → t ≡ false
-false-of true h = absurd (h refl)
-false-of false h = refl
-
-or-case : {A : Type 0} (s t : Bool) → (s || t) ≡ true → (s ≡ true → A) → (t ≡ true → A) → A
-or-case true t h f g = f refl
-or-case false t h f g = g h
 
 -- a search below n finds what is there
 first-below : (f : ℕ → Bool) (n i : ℕ) → i < n → f i ≡ true → firstBelow f n < n

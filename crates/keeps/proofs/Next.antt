@@ -1,57 +1,39 @@
 -- Every event leaves a sound state sound.
 -- Assumes nothing.
-use mathlib.Core.Path.{_≡_, refl, sym, _∙_}
-use mathlib.Core.Bool.{Bool, true, false, cond, not, _&&_, _||_}
+use mathlib.Core.Path.{_≡_, sym, _∙_}
+use mathlib.Core.Bool.{Bool, true, false, cond, not, _&&_}
 use mathlib.Core.List.{List, []}
-use Prim.Native.Nat.{ℕ, _<_, _≤_}
+use Prim.Native.Nat.{ℕ, _<_}
 use native.Mathlib.Omega.{arith}
-use lib.Dec.{eqb, ltb}
-use borrow.Author.Tests.{eqb-true, eqb-false, eq-eqb, ltb-true, not-false}
-use Rattle.laws.specs.Inner.Below.{any-in}
-use Rattle.laws.specs.Inner.Every.{and-left, and-right, and-both}
+use lib.Dec.{eqb}
+use borrow.Author.Tests.{eqb-true, ltb-true, not-false}
+use Rattle.laws.specs.Inner.Every.{and-left, and-right}
+use Rattle.laws.specs.Inner.Choice.{by-cond}
 use Rattle.laws.specs.Columns.{flagAt, numberAt, isSet, tabulate}
 use Rattle.laws.specs.Inner.Columns.{getD-tabulate}
 use Rattle.wire.specs.Walk.{Par, walk}
 use Rattle.message.specs.Verdict.{verdict}
 use Rattle.message.specs.Meaning.{readingOf}
 use Rattle.message.specs.declared.Reading.{Reading}
-use Rattle.message.proofs.GoodUnit.{good-unit, correlation-marked}
 use Rattle.action.specs.declared.Action.{Action}
-use Rattle.gateway.specs.Sound.{isLinkOf, isSound}
-use Rattle.gateway.specs.Inner.Laws.{counts-within, owner-within}
+use Rattle.gateway.specs.Sound.{isSound}
 use Rattle.gateway.specs.declared.Gateway.{Gateway}
 use Rattle.lookup.specs.Links.{indexOf, known}
-use Rattle.lookup.specs.Inner.Links.{index-is}
+use Rattle.server.specs.declared.Arrival.{Arrival}
 use Rattle.server.specs.declared.Change.the-variants.{AspUp, AspDown, Activate, Recover}
-use Rattle.server.specs.Record.{recordFrom, recordOf, some, stateIn}
+use Rattle.server.specs.Record.{some}
 use Rattle.servers.specs.Inner.Records.{column-at}
 use Rattle.rules.specs.Event.{EventKind, message, lost, recovery, linkUp, linkDown, linkMessage, Event}
 use Rattle.rules.specs.Identifiers.{firstRefused, ownsNamed, ownersNamed, isKnown, linkOf, ownerAt, isMember, isActive}
 use Rattle.rules.specs.Effect.{Effect, send, setLink, changeIn, takeIn, stateAfter}
 use Rattle.rules.specs.Asp.{asesOf, upEffect, downEffect, lostEffect, activeEffect, inactiveEffect, trafficEffect}
-use Rattle.rules.specs.Link.{starting, inService, idle, establish, release, dataEffect, linkEffect, classSixEffect, linkUpEffect, linkDownEffect, isPending, arrival, holdEffect, linkMessageEffect}
+use Rattle.rules.specs.Link.{starting, inService, idle, establish, release, dataEffect, linkEffect, classSixEffect, linkUpEffect, linkDownEffect}
 use Rattle.rules.specs.Rules.{readEffect, messageEffect, effectOf, fromLink, inPlan, refusal}
 use Rattle.rules.specs.Entry.{next}
 use Rattle.rules.specs.Inner.Accepted.{accepted}
-use Rattle.keeps.specs.Inner.Units.{UnitOf}
+use Rattle.rules.specs.Inner.TakeIn.{Takes, link-cases, taken-in}
 use Rattle.keeps.specs.Inner.Keeps.{keeps-up, keeps-down, keeps-deactivate, keeps-activate, keeps-recover, keeps-link, keeps-unit}
-use Rattle.keeps.proofs.Named.{clash, named-mine}
-
--- a choice, from what its test says
-pub by-cond : {A : Type 0} (t : Bool) (F : A → Type 0) {x y : A} → (t ≡ true → F x) → (t ≡ false → F y) → F (cond t x y)
-by-cond true F hx hy = hx refl
-by-cond false F hx hy = hy refl
-
--- an AS that is pending waits
-pub pending-waits : (g : Gateway) (a : ℕ) → isPending g a ≡ true → isSet (g .waiting) a ≡ true
-unfolding isPending stateIn recordFrom
-pending-waits g a h = go (some (recordOf g a .acts)) (isSet (g .waiting) a) (some (recordOf g a .ups)) h
-  where
-    go : (t w u : Bool) → eqb (cond t 3 (cond w 4 (cond u 2 0))) 4 ≡ true → w ≡ true
-    go true w u e = clash false refl e
-    go false true u e = refl
-    go false false true e = clash false refl e
-    go false false false e = clash false refl e
+use Rattle.keeps.proofs.Named.{named-mine}
 
 -- a message of the link side that is not refused names a known link
 pub known-in : (g : Gateway) (s : List ℕ) → inPlan g (linkMessage s) ≡ true → isKnown g (readingOf s .id) ≡ true
@@ -159,56 +141,12 @@ module _ (g : Gateway) (ok : isSound g ≡ true) where
 
   -- ---- a message of the link side
 
-  -- a known identifier is that of a link of its owner
-  owned : (x : ℕ) → isKnown g x ≡ true → isLinkOf (g .iid) (g .owner) (g .links) (ownerAt g (linkOf g x)) x ≡ true
-  unfolding isLinkOf linkOf
-  owned x h =
-      let l = indexOf (g .iid) (g .links) x in
-      let b : l < g .links = known-below x h in
-      any-in (λ k. eqb (numberAt (g .iid) k) x && eqb (numberAt (g .owner) k) (numberAt (g .owner) l)) (g .links) l b
-      (and-both _ _ (eq-eqb (numberAt (g .iid) l) x (index-is (g .iid) (g .links) x b)) (eq-eqb (numberAt (g .owner) l) (numberAt (g .owner) l) refl))
-
-  marks : (m c : ℕ) → m ≤ 1 → (m ≡ 0 → c ≡ 0) → (eqb m 1 || (eqb m 0 && eqb c 0)) ≡ true
-  marks m c l z = go (eqb m 1) refl
-    where
-      go : (t : Bool) → eqb m 1 ≡ t → (t || (eqb m 0 && eqb c 0)) ≡ true
-      go true e = refl
-      go false e = let q : m ≡ 0 = omega (arith, eqb-false m 1 e) in and-both _ _ (eq-eqb m 0 q) (eq-eqb c 0 (z q))
-
-  unit : (s : List ℕ) → inPlan g (linkMessage s) ≡ true → eqb (readingOf s .msgtype) 1 ≡ true
-      → UnitOf (g .iid) (g .owner) (g .links) (ownerAt g (linkOf g (readingOf s .id))) (arrival s (readingOf s))
-  unfolding arrival
-  unit s i t =
-      let r = readingOf s in
-      let v = and-left (eqb (verdict s) 0) _ i in
-      let j = and-left (eqb (r .class) 6) _ (and-right (eqb (verdict s) 0) _ i) in
-      let u = good-unit s (eqb-true (verdict s) 0 v) (eqb-true (r .class) 6 j) (eqb-true (r .msgtype) 1 t) in
-      let m = correlation-marked s in
-      record {
-        tagged = u .tagged;
-        least = omega arith;
-        most = omega arith;
-        known = owned (r .id) (known-in g s i);
-        marks = marks (r .correlated) (r .correlation) (m .0) (m .1);
-      }
-
-  taken : (s : List ℕ) → inPlan g (linkMessage s) ≡ true → eqb (readingOf s .msgtype) 1 ≡ true → isSet (g .waiting) (ownerAt g (linkOf g (readingOf s .id))) ≡ true
-      → numberAt (g .held .count) (ownerAt g (linkOf g (readingOf s .id))) < 8 → Keeps (takeIn (ownerAt g (linkOf g (readingOf s .id))) (arrival s (readingOf s)))
+  taken : (s : List ℕ) → inPlan g (linkMessage s) ≡ true → (a : ℕ) (x : Arrival) → Takes g s a x → Keeps (takeIn a x)
   unfolding Keeps
-  taken s i t w c =
-      let o = ownerAt g (linkOf g (readingOf s .id)) in
-      keeps-unit g o (arrival s (readingOf s)) ok (omega (arith, counts-within g ok .ases, owner-within g ok (linkOf g (readingOf s .id)) (known-below (readingOf s .id) (known-in g s i)))) w c (unit s i t)
-
-  linked : (s : List ℕ) → inPlan g (linkMessage s) ≡ true → Keeps (linkMessageEffect g s (readingOf s))
-  unfolding linkMessageEffect holdEffect
-  linked s i =
-      let r = readingOf s in
-      let o = ownerAt g (linkOf g (r .id)) in
-      by-cond (eqb (r .msgtype) 1 && isPending g o) Keeps
-      (λ t. by-cond (ltb (numberAt (g .held .count) o) 8) Keeps
-      (λ c. taken s i (and-left (eqb (r .msgtype) 1) _ t) (pending-waits g o (and-right (eqb (r .msgtype) 1) _ t)) (ltb-true (numberAt (g .held .count) o) 8 c))
-      (λ _. said _))
-      (λ _. said _)
+  taken s i a x h =
+      let t = taken-in g s a x ok i h in
+      keeps-unit g a x ok (t .as-16) (t .waits) (h .room)
+      (record { tagged = t .tagged; least = t .least; most = t .longest; known = t .of-link; marks = t .marks })
 
   -- ---- every kind
 
@@ -219,7 +157,7 @@ module _ (g : Gateway) (ok : isSound g ≡ true) where
   kept (recovery a) i = recovered [] _
   kept (linkUp l) i = by-cond (eqb (numberAt (g .state) l) starting) Keeps (λ _. turned l inService _ (ltb-true l (g .links) i) (omega arith)) (λ _. said _)
   kept (linkDown l) i = by-cond (eqb (numberAt (g .state) l) idle) Keeps (λ _. said _) (λ _. turned l idle _ (ltb-true l (g .links) i) (omega arith))
-  kept (linkMessage s) i = linked s i
+  kept (linkMessage s) i = link-cases g s Keeps said (taken s i)
 
   pub next-sound : (e : Event) → isSound (next g e) ≡ true
   unfolding next Keeps

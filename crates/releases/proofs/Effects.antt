@@ -36,7 +36,6 @@ module _ (g : Gateway) where
         say-two = λ x y u e d. other e (quiet-when g u y d);
         turn-one = λ l n x e. other e done;
         turn-all = λ l n who k s v e. quiet-all who k s v e;
-        change-none = λ k named f. (done, f);
-        change-one = λ x k named e f. (other e done, f);
-        change-two = λ x y u k named e d f. (other e (quiet-when g u y d), f);
+        change-one = λ x k named e f o. (other e done, f);
+        change-two = λ x y u k named e d f o. (other e (quiet-when g u y d), f);
       }

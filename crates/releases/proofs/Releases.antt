@@ -1,12 +1,14 @@
 -- The theorem of specs/Releases.antt.
 -- Assumes nothing.
-use mathlib.Core.Path.{_≡_, refl}
-use mathlib.Core.Bool.{Bool, true}
+use mathlib.Core.Path.{_≡_, refl, ap}
+use mathlib.Core.Bool.{Bool, true, false}
 use mathlib.Core.List.{List, _++_}
 use Prim.Native.Nat.{ℕ, _<_}
 use native.Mathlib.Nat.{not-suc-le-zero}
 use lib.ListN.{length, getD}
 use borrow.Author.Tests.{ltb-true}
+use Rattle.laws.specs.Inner.Every.{clash}
+use Rattle.gateway.specs.Sound.{isSound}
 use Rattle.gateway.specs.declared.Gateway.{Gateway}
 use Rattle.action.specs.declared.Action.{Action}
 use Rattle.server.specs.declared.Change.{Change}
@@ -14,12 +16,13 @@ use Rattle.server.specs.declared.Change.the-variants.{AspUp, AspDown, Deactivat
 use Rattle.server.specs.Inner.Change.{fits}
 use Rattle.server.specs.Units.{letOut}
 use Rattle.servers.specs.Changed.{withChange, allActions}
+use Rattle.rules.specs.Event.{EventKind}
 use Rattle.rules.specs.Effect.{Effect, send, setLink, changeIn, takeIn, actionsOf, stateAfter}
-use Rattle.rules.specs.Rules.{effectOf}
-use Rattle.rules.specs.Sent.{actionsOn, actionAt, isData, dataBefore, gone, unitFor}
+use Rattle.rules.specs.Rules.{effectOf, inPlan}
+use Rattle.rules.specs.Sent.{actionsOn, actionAt, isData, isPassed, dataBefore, gone, unitFor}
 use Rattle.rules.specs.Inner.Shapes.{effect-by}
 use Rattle.releases.specs.Releases.{EveryUnit}
-use Rattle.releases.proofs.Tags.{tagged-at, untagged, tagged-append}
+use Rattle.releases.proofs.Tags.{done, tagged-at, untagged, tagged-append}
 use Rattle.releases.proofs.Units.{UnitOf, Quiet, quiet-change, units-gone}
 use Rattle.releases.proofs.Effects.{Own, own}
 
@@ -45,8 +48,13 @@ sent g (setLink l v os) h = quiet-sent g _ os h
 sent g (changeIn os k named) h = change-sent g os k named (h .0) (h .1)
 sent g (takeIn a x) h = λ n b d. absurd (not-suc-le-zero b)
 
+-- an event of its own: what the link side sends is passed on
+event-own : (g : Gateway) (k : EventKind) → isSound g ≡ true → inPlan g k ≡ true → isPassed k ≡ false → Own g (effectOf g k)
+unfolding Own
+event-own g k ok i u = effect-by (own g) g k ok i (λ c named f. (done, f)) (λ s e. clash (isPassed k) u (ap isPassed e))
+
 pub every-unit : EveryUnit
 unfolding unitFor
 every-unit g k n ok i u b d =
-    let x = sent g (effectOf g k) (effect-by (own g) g k ok i u) n (ltb-true n (length (actionsOn g k)) b) d in
+    let x = sent g (effectOf g k) (event-own g k ok i u) n (ltb-true n (length (actionsOn g k)) b) d in
     record { place = x .place; held = x .held; link = x .link }

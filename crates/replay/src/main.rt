@@ -41,6 +41,7 @@ fn flush(out: &[u8; 65536], s: State) -> State
 fn end_line(
     line: &[u8; 65536],
     bytes: &mut [u8; 32768],
+    hold: &mut [u8; 34944],
     out: &mut [u8; 65536],
     s: Session,
 ) -> Session
@@ -49,7 +50,7 @@ fn end_line(
 {
     let held = s.held;
     let state = s.state;
-    let answered = session::run(first(line, held), bytes, out, state);
+    let answered = session::run(first(line, held), bytes, hold, out, state);
     session_of(0, flush(out, answered))
 }
 
@@ -59,6 +60,7 @@ fn take_part(
     ended: bool,
     line: &mut [u8; 65536],
     bytes: &mut [u8; 32768],
+    hold: &mut [u8; 34944],
     out: &mut [u8; 65536],
     s: Session,
 ) -> Session
@@ -68,7 +70,7 @@ fn take_part(
     let state = s.state;
     let t = session_of(collect(line, s.held, part), state);
     if ended {
-        return end_line(line, bytes, out, t);
+        return end_line(line, bytes, hold, out, t);
     }
     t
 }
@@ -78,6 +80,7 @@ fn take_block(
     block: &[u8],
     line: &mut [u8; 65536],
     bytes: &mut [u8; 32768],
+    hold: &mut [u8; 34944],
     out: &mut [u8; 65536],
     s: Session,
 ) -> Session
@@ -88,7 +91,15 @@ fn take_block(
     let mut at = 0;
     while at < block.len() {
         let end = bytes::scan::find(block, at, block.len(), b'\n');
-        t = take_part(&block[at..end], end < block.len(), line, bytes, out, t);
+        t = take_part(
+            &block[at..end],
+            end < block.len(),
+            line,
+            bytes,
+            hold,
+            out,
+            t,
+        );
         at = end + 1;
     }
     t
@@ -100,7 +111,13 @@ struct Taken {
     session: Session,
 }
 
-fn turn(line: &mut [u8; 65536], bytes: &mut [u8; 32768], out: &mut [u8; 65536], s: Session) -> Taken
+fn turn(
+    line: &mut [u8; 65536],
+    bytes: &mut [u8; 32768],
+    hold: &mut [u8; 34944],
+    out: &mut [u8; 65536],
+    s: Session,
+) -> Taken
     requires { ⌜ Sound s ⌝ }
     ensures { λ r. ⌜ Sound (r .session) ⌝ }
 {
@@ -112,7 +129,7 @@ fn turn(line: &mut [u8; 65536], bytes: &mut [u8; 32768], out: &mut [u8; 65536], 
             session: s,
         };
     }
-    let t = take_block(&block[..n], line, bytes, out, s);
+    let t = take_block(&block[..n], line, bytes, hold, out, s);
     Taken {
         more: true,
         session: t,
@@ -123,6 +140,7 @@ fn turn(line: &mut [u8; 65536], bytes: &mut [u8; 32768], out: &mut [u8; 65536], 
 fn blocks(
     line: &mut [u8; 65536],
     bytes: &mut [u8; 32768],
+    hold: &mut [u8; 34944],
     out: &mut [u8; 65536],
     s: Session,
 ) -> Session
@@ -132,7 +150,7 @@ fn blocks(
     let mut t = s;
     let mut left: u64 = 0x1000000000000;
     while left > 0 {
-        let one = turn(line, bytes, out, t);
+        let one = turn(line, bytes, hold, out, t);
         t = one.session;
         if !one.more {
             return t;
@@ -146,25 +164,28 @@ fn blocks(
 fn last_line(
     line: &[u8; 65536],
     bytes: &mut [u8; 32768],
+    hold: &mut [u8; 34944],
     out: &mut [u8; 65536],
     s: Session,
 ) -> State
     requires { ⌜ Sound s ⌝ }
 {
-    let t = end_line(line, bytes, out, s);
+    let t = end_line(line, bytes, hold, out, s);
     t.state
 }
 
 fn main() {
     let mut line = io::large_buffer();
     let mut bytes = [0u8; 32768];
+    let mut hold = [0u8; 34944];
     let mut out = io::large_buffer();
     let s = blocks(
         &mut line,
         &mut bytes,
+        &mut hold,
         &mut out,
         session_of(0, session::start()),
     );
-    let t = last_line(&line, &mut bytes, &mut out, s);
+    let t = last_line(&line, &mut bytes, &mut hold, &mut out, s);
     write_out(&out, t.used);
 }

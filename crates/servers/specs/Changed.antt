@@ -84,64 +84,38 @@ unitsWith u a x =
 
 -- ---- the whole state
 
-unfoldable pub withChange : Gateway → Change → List Bool → Gateway
-withChange g k named =
+-- the gateway with these columns, and its plan
+abbrev pub withColumns : Gateway → List ℕ → List ℕ → List ℕ → List ℕ → Units → Gateway
+withColumns g up active waiting state held =
     record {
       asps = g .asps;
       ases = g .ases;
       links = g .links;
       spare = g .spare;
       aspid = g .aspid;
-      up = upAfter k (g .up);
+      up = up;
       member = g .member;
-      active = tabulate 256 (newActive k named (recordOf g) (g .active));
+      active = active;
       mode = g .mode;
-      waiting = tabulate 16 (newWaiting k named (recordOf g) (g .waiting));
+      waiting = waiting;
       iid = g .iid;
       owner = g .owner;
-      state = g .state;
-      held = unitsWithout (letsGo k named (recordOf g) (g .held .count)) (g .held);
+      state = state;
+      held = held;
     }
+
+unfoldable pub withChange : Gateway → Change → List Bool → Gateway
+withChange g k named =
+    withColumns g (upAfter k (g .up)) (tabulate 256 (newActive k named (recordOf g) (g .active))) (tabulate 16 (newWaiting k named (recordOf g) (g .waiting))) (g .state)
+    (unitsWithout (letsGo k named (recordOf g) (g .held .count)) (g .held))
 
 -- the gateway with the link at an index in a state
 abbrev pub withLink : Gateway → ℕ → ℕ → Gateway
-withLink g l v =
-    record {
-      asps = g .asps;
-      ases = g .ases;
-      links = g .links;
-      spare = g .spare;
-      aspid = g .aspid;
-      up = g .up;
-      member = g .member;
-      active = g .active;
-      mode = g .mode;
-      waiting = g .waiting;
-      iid = g .iid;
-      owner = g .owner;
-      state = set (g .state) l v;
-      held = g .held;
-    }
+withLink g l v = withColumns g (g .up) (g .active) (g .waiting) (set (g .state) l v) (g .held)
 
 -- the gateway with a unit more for AS a
 abbrev pub withUnit : Gateway → ℕ → Arrival → Gateway
-withUnit g a x =
-    record {
-      asps = g .asps;
-      ases = g .ases;
-      links = g .links;
-      spare = g .spare;
-      aspid = g .aspid;
-      up = g .up;
-      member = g .member;
-      active = g .active;
-      mode = g .mode;
-      waiting = g .waiting;
-      iid = g .iid;
-      owner = g .owner;
-      state = g .state;
-      held = unitsWith (g .held) a x;
-    }
+withUnit g a x = withColumns g (g .up) (g .active) (g .waiting) (g .state) (unitsWith (g .held) a x)
 
 unfoldable pub actionsAt : Change → List Bool → (ℕ → AsRecord) → List ℕ → List ℕ → ℕ → List Action
 actionsAt k named records count id a = actionsIn (flagAt named a) k a (records a) (numberAt count a) id

@@ -1,7 +1,7 @@
 // A script line by line: what goes from line to line, and the commands beside `read` and `show`.
 //
 // A further command is a case of `Command`, a line of `command_of`, an arm of `answer` and a
-// function of its own, which writes at most 17,000 characters and hands the next state back.
+// function of its own, which writes at most 18,000 characters and hands the next state back.
 use config::Loaded;
 use encode::Written;
 use eventline::Event;
@@ -12,7 +12,6 @@ use eventline::lent;
 use eventline::put_outcome;
 use eventline::put_reached;
 use gateway::Gateway;
-use gateway::wide;
 use rules::Outcome;
 use text::Number;
 use text::Size;
@@ -21,7 +20,7 @@ use text::first;
 use text::is;
 use text::number_of;
 use text::put_byte;
-use text::put_bytes;
+use text::put_hex;
 use text::put_number;
 use text::rest_of;
 use text::word_of;
@@ -29,9 +28,10 @@ ghost use mathlib.Core.Path.{_≡_};
 ghost use Prim.Native.Nat.{_+_, _*_, _≤_, _<_};
 ghost use lib.ListN.{length};
 
-// What goes from line to line: how much of the output buffer is filled, and the gateway's state.
+// What goes from line to line: how much of the output buffer is filled, how many bytes of a hold are lent, and the gateway's state.
 pub struct State {
     pub used: usize,
+    pub lends: u32,
     pub gateway: Gateway,
 }
 
@@ -42,15 +42,19 @@ pub enum Command {
     Event,
     Reach,
     Bytes,
+    Hold,
+    Paint,
+    Held,
     Other,
 }
 
-// The start: nothing is written, and the gateway is the one of zeros.
+// The start: nothing is written, the hold that is kept is lent, and the gateway is the one of zeros.
 pub fn start() -> State
     ensures { λ r. ⌜ r .used ≡ 0 ⌝ }
 {
     State {
         used: 0,
+        lends: 34944,
         gateway: Gateway::zeros(),
     }
 }
@@ -85,168 +89,68 @@ fn command_of(line: &[u8]) -> Command {
     if is(name, b"bytes") {
         return Command::Bytes;
     }
+    if is(name, b"hold") {
+        return Command::Hold;
+    }
+    if is(name, b"paint") {
+        return Command::Paint;
+    }
+    if is(name, b"held") {
+        return Command::Held;
+    }
     Command::Other
 }
 
 // ---- `plan HEX`
 
 // The answer to a file; its gateway becomes the current one.
-fn loaded(l: Loaded, out: &mut [u8; 65536], used: usize) -> State
-    requires { ⌜ used + 17000 ≤ 65536 ⌝ }
-    ensures { λ r. ⌜ r .used ≤ used + 17000 ⌝ }
+fn loaded(l: Loaded, out: &mut [u8; 65536], s: State) -> State
+    requires { ⌜ s .used + 18000 ≤ 65536 ⌝ }
+    ensures { λ r. ⌜ r .used ≤ s .used + 18000 ⌝ }
 {
-    let next = put_number(out, used, l.code);
+    let next = put_number(out, s.used, l.code);
     let gateway = l.gateway;
     State {
         used: next,
+        lends: s.lends,
         gateway: gateway,
     }
 }
 
 fn plan(hex: &[u8], bytes: &mut [u8; 32768], out: &mut [u8; 65536], s: State) -> State
-    requires { ⌜ (s .used + 17000 ≤ 65536) × (length (now hex) ≤ 65535) ⌝ }
-    ensures { λ r. ⌜ r .used ≤ s .used + 17000 ⌝ }
+    requires { ⌜ (s .used + 18000 ≤ 65536) × (length (now hex) ≤ 65535) ⌝ }
+    ensures { λ r. ⌜ r .used ≤ s .used + 18000 ⌝ }
 {
     let size = bytes_of(hex, bytes);
     let Size::Count(n) = size else {
         return bad(out, s);
     };
-    loaded(config::load(first(bytes, n)), out, s.used)
+    loaded(config::load(first(bytes, n)), out, s)
 }
 
 // A line that is no command.
 fn bad(out: &mut [u8; 65536], s: State) -> State
-    requires { ⌜ s .used + 17000 ≤ 65536 ⌝ }
-    ensures { λ r. ⌜ r .used ≤ s .used + 17000 ⌝ }
+    requires { ⌜ s .used + 18000 ≤ 65536 ⌝ }
+    ensures { λ r. ⌜ r .used ≤ s .used + 18000 ⌝ }
 {
     at(s, put_byte(out, s.used, b'?'))
 }
 
 // ---- `state`
 
-// The digit of a mark or of a link's state.
-fn digit(x: u8) -> u8 {
-    48 + x % 10
-}
-
-// The marks of a column, a digit for each.
-fn put_marks(out: &mut [u8; 65536], at: usize, marks: &[u8]) -> usize
-    requires { ⌜ at + length (now marks) ≤ 65536 ⌝ }
-    ensures { λ r. ⌜ r ≡ at + length (now (marks .entry)) ⌝ }
-{
-    let mut i = 0;
-    while i < marks.len() {
-        out[at + i] = digit(marks[i]);
-        i += 1;
-    }
-    at + i
-}
-
-// A comma, where there is something before it.
-fn put_comma(out: &mut [u8; 65536], start: usize, at: usize) -> usize
-    requires { ⌜ at < 65536 ⌝ }
-    ensures { λ r. ⌜ (at ≤ r) × (r ≤ at + 1) ⌝ }
-{
-    if at == start {
-        return at;
-    }
-    put_byte(out, at, b',')
-}
-
-// Two numbers with a colon.
-fn put_pair(out: &mut [u8; 65536], at: usize, p: u32, a: u32) -> usize
-    requires { ⌜ at + 21 ≤ 65536 ⌝ }
-    ensures { λ r. ⌜ r ≤ at + 21 ⌝ }
-{
-    let mid = put_number(out, at, p);
-    let next = put_byte(out, mid, b':');
-    put_number(out, next, a)
-}
-
-// The pair of ASP p and AS a, where it is active.
-fn put_active(
-    out: &mut [u8; 65536],
-    start: usize,
-    at: usize,
-    active: bool,
-    p: usize,
-    a: usize,
-) -> usize
-    requires { ⌜ (at + 22 ≤ 65536) × (p < 16) × (a < 16) ⌝ }
-    ensures { λ r. ⌜ r ≤ at + 22 ⌝ }
-{
-    if !active {
-        return at;
-    }
-    let next = put_comma(out, start, at);
-    put_pair(out, next, p as u32, a as u32)
-}
-
-// The active pairs of ASP p, by AS.
-fn put_row(out: &mut [u8; 65536], start: usize, from: usize, active: &[u8; 256], p: usize) -> usize
-    requires { ⌜ (from + 352 ≤ 65536) × (p < 16) ⌝ }
-    ensures { λ r. ⌜ r ≤ from + 352 ⌝ }
-{
-    let mut at = from;
-    for a in 0..16usize {
-        at = put_active(out, start, at, active[a * 16 + p] == 1, p, a);
-    }
-    at
-}
-
-// The active pairs, by ASP, then by AS.
-fn put_rows(out: &mut [u8; 65536], start: usize, active: &[u8; 256]) -> usize
-    requires { ⌜ start + 5632 ≤ 65536 ⌝ }
-    ensures { λ r. ⌜ r ≤ start + 5632 ⌝ }
-{
-    let mut at = start;
-    for p in 0..16usize {
-        at = put_row(out, start, at, active, p);
-    }
-    at
-}
-
-// The first places of a column, after its name.
-fn put_column(out: &mut [u8; 65536], at: usize, name: &[u8], marks: &[u8], n: u8) -> usize
-    requires { ⌜ (at + 300 ≤ 65536) × (length (now name) ≤ 20) ⌝ }
-    ensures { λ r. ⌜ r ≤ at + 300 ⌝ }
-{
-    let next = put_bytes(out, at, name);
-    put_marks(out, next, first(marks, wide(n)))
-}
-
-// What stands before the links.
-fn put_ases(out: &mut [u8; 65536], at: usize, g: Gateway) -> usize
-    requires { ⌜ at + 7000 ≤ 65536 ⌝ }
-    ensures { λ r. ⌜ r ≤ at + 7000 ⌝ }
-{
-    let up = put_column(out, at, b"up=", &g.up, g.asps);
-    let start = put_bytes(out, up, b" active=");
-    let pairs = put_rows(out, start, &g.active);
-    put_column(out, pairs, b" waiting=", &g.waiting, g.ases)
-}
-
-fn put_state(out: &mut [u8; 65536], at: usize, g: Gateway) -> usize
-    requires { ⌜ at + 17000 ≤ 65536 ⌝ }
-    ensures { λ r. ⌜ r ≤ at + 17000 ⌝ }
-{
-    let next = put_ases(out, at, g);
-    put_column(out, next, b" links=", &g.state, g.links)
-}
-
 fn show_state(out: &mut [u8; 65536], s: State) -> State
-    requires { ⌜ s .used + 17000 ≤ 65536 ⌝ }
-    ensures { λ r. ⌜ r .used ≤ s .used + 17000 ⌝ }
+    requires { ⌜ s .used + 18000 ≤ 65536 ⌝ }
+    ensures { λ r. ⌜ r .used ≤ s .used + 18000 ⌝ }
 {
     let g = s.gateway;
-    at(s, put_state(out, s.used, g))
+    at(s, stateline::put_state(out, s.used, g))
 }
 
 // ---- `write CLASS TYPE BUFLEN LIST`
 
 fn write(rest: &[u8], bytes: &mut [u8; 32768], out: &mut [u8; 65536], s: State) -> State
-    requires { ⌜ s .used + 17000 ≤ 65536 ⌝ }
-    ensures { λ r. ⌜ r .used ≤ s .used + 17000 ⌝ }
+    requires { ⌜ s .used + 18000 ≤ 65536 ⌝ }
+    ensures { λ r. ⌜ r .used ≤ s .used + 18000 ⌝ }
 {
     at(s, writing::put_message(rest, bytes, out, s.used))
 }
@@ -254,58 +158,99 @@ fn write(rest: &[u8], bytes: &mut [u8; 32768], out: &mut [u8; 65536], s: State) 
 // ---- `msg`, `lost`, `recovery`, `up`, `down`, `linkmsg`
 
 // The text of an outcome; its gateway becomes the current one.
-fn told(o: Outcome, list: &[u32; 2048], out: &mut [u8; 65536], used: usize) -> State
-    requires { ⌜ (used + 17000 ≤ 65536) × (o .count ≤ 258) ⌝ }
-    ensures { λ r. ⌜ r .used ≤ used + 17000 ⌝ }
+fn told(o: Outcome, list: &[u32; 2048], out: &mut [u8; 65536], s: State) -> State
+    requires { ⌜ (s .used + 18000 ≤ 65536) × (o .count ≤ 386) ⌝ }
+    ensures { λ r. ⌜ r .used ≤ s .used + 18000 ⌝ }
 {
-    let next = put_outcome(out, used, o.refusal, o.count as u32, list);
+    let next = put_outcome(out, s.used, o.refusal, o.count as u32, list);
     let gateway = o.gateway;
     State {
         used: next,
+        lends: s.lends,
         gateway: gateway,
     }
 }
 
-fn happen(e: Event, bytes: &[u8; 32768], out: &mut [u8; 65536], s: State) -> State
-    requires { ⌜ s .used + 17000 ≤ 65536 ⌝ }
-    ensures { λ r. ⌜ r .used ≤ s .used + 17000 ⌝ }
+// The bytes of the hold that is lent: at most 65,536.
+fn lent_bytes(n: u32) -> usize
+    ensures { λ r. ⌜ r ≤ 65536 ⌝ }
+{
+    if n < 65536 { n as usize } else { 65536 }
+}
+
+// The event with a hold of so many bytes: the one that is kept where it has as many, else another.
+fn run_with(
+    e: Event,
+    msg: &[u8],
+    hold: &mut [u8; 34944],
+    size: usize,
+    words: &mut [u32],
+    g: Gateway,
+) -> Outcome
+    requires { ⌜ size ≤ 65536 ⌝ }
+    ensures { λ r. ⌜ r .count ≤ 386 ⌝ }
+{
+    let kind = e.kind;
+    if size == 34944 {
+        return eventrun::happen(kind, e.index, msg, hold, words, g);
+    }
+    let mut other = io::large_buffer();
+    eventrun::happen(kind, e.index, msg, &mut other[..size], words, g)
+}
+
+fn happen(
+    e: Event,
+    bytes: &[u8; 32768],
+    hold: &mut [u8; 34944],
+    out: &mut [u8; 65536],
+    s: State,
+) -> State
+    requires { ⌜ s .used + 18000 ≤ 65536 ⌝ }
+    ensures { λ r. ⌜ r .used ≤ s .used + 18000 ⌝ }
 {
     let mut list = [0u32; 2048];
     let n = lent(e.words);
-    let kind = e.kind;
+    let size = lent_bytes(s.lends);
     let g = s.gateway;
-    let o = eventrun::happen(kind, e.index, first(bytes, e.size), &mut list[..n], g);
-    told(o, &list, out, s.used)
+    let o = run_with(e, first(bytes, e.size), hold, size, &mut list[..n], g);
+    told(o, &list, out, s)
 }
 
-fn event(line: &[u8], bytes: &mut [u8; 32768], out: &mut [u8; 65536], s: State) -> State
-    requires { ⌜ (s .used + 17000 ≤ 65536) × (length (now line) ≤ 65535) ⌝ }
-    ensures { λ r. ⌜ r .used ≤ s .used + 17000 ⌝ }
+fn event(
+    line: &[u8],
+    bytes: &mut [u8; 32768],
+    hold: &mut [u8; 34944],
+    out: &mut [u8; 65536],
+    s: State,
+) -> State
+    requires { ⌜ (s .used + 18000 ≤ 65536) × (length (now line) ≤ 65535) ⌝ }
+    ensures { λ r. ⌜ r .used ≤ s .used + 18000 ⌝ }
 {
     let parsed = event_of(line, bytes);
     let Parsed::Line(e) = parsed else {
         return bad(out, s);
     };
-    happen(e, bytes, out, s)
+    happen(e, bytes, hold, out, s)
 }
 
 // ---- `reach` with one of these lines
 
 // The ASes that an event reaches; the gateway stays as it is.
 fn show_reach(e: Event, bytes: &[u8; 32768], out: &mut [u8; 65536], s: State) -> State
-    requires { ⌜ s .used + 17000 ≤ 65536 ⌝ }
-    ensures { λ r. ⌜ r .used ≤ s .used + 17000 ⌝ }
+    requires { ⌜ s .used + 18000 ≤ 65536 ⌝ }
+    ensures { λ r. ⌜ r .used ≤ s .used + 18000 ⌝ }
 {
     let room = lent(e.words);
     let kind = e.kind;
     let g = s.gateway;
-    let row = eventrun::reached_by(kind, e.index, first(bytes, e.size), room, g);
+    let size = lent_bytes(s.lends);
+    let row = eventrun::reached_by(kind, e.index, first(bytes, e.size), room, size, g);
     at(s, put_reached(out, s.used, &row))
 }
 
 fn reach(rest: &[u8], bytes: &mut [u8; 32768], out: &mut [u8; 65536], s: State) -> State
-    requires { ⌜ (s .used + 17000 ≤ 65536) × (length (now rest) ≤ 65535) ⌝ }
-    ensures { λ r. ⌜ r .used ≤ s .used + 17000 ⌝ }
+    requires { ⌜ (s .used + 18000 ≤ 65536) × (length (now rest) ≤ 65535) ⌝ }
+    ensures { λ r. ⌜ r .used ≤ s .used + 18000 ⌝ }
 {
     let parsed = event_of(rest, bytes);
     let Parsed::Line(e) = parsed else {
@@ -318,10 +263,28 @@ fn reach(rest: &[u8], bytes: &mut [u8; 32768], out: &mut [u8; 65536], s: State) 
 
 // The text of a message that is written.
 fn shown(w: Written, message: &[u8; 8192], out: &mut [u8; 65536], s: State) -> State
-    requires { ⌜ s .used + 17000 ≤ 65536 ⌝ }
-    ensures { λ r. ⌜ r .used ≤ s .used + 17000 ⌝ }
+    requires { ⌜ s .used + 18000 ≤ 65536 ⌝ }
+    ensures { λ r. ⌜ r .used ≤ s .used + 18000 ⌝ }
 {
     at(s, writing::put_written(w, message, out, s.used))
+}
+
+// The action with a hold of so many bytes, as an event's.
+fn write_with(
+    e: Event,
+    place: u32,
+    msg: &[u8],
+    hold: &[u8; 34944],
+    size: usize,
+    out: &mut [u8],
+    g: Gateway,
+) -> Written {
+    let kind = e.kind;
+    if size == 34944 {
+        return eventrun::written_by(kind, e.index, msg, hold, place, out, g);
+    }
+    let other = io::large_buffer();
+    eventrun::written_by(kind, e.index, msg, first(&other, size), place, out, g)
 }
 
 // An action of an event as bytes; the gateway stays as it is.
@@ -330,21 +293,23 @@ fn show_bytes(
     place: u32,
     room: u32,
     bytes: &[u8; 32768],
+    hold: &[u8; 34944],
     out: &mut [u8; 65536],
     s: State,
 ) -> State
-    requires { ⌜ s .used + 17000 ≤ 65536 ⌝ }
-    ensures { λ r. ⌜ r .used ≤ s .used + 17000 ⌝ }
+    requires { ⌜ s .used + 18000 ≤ 65536 ⌝ }
+    ensures { λ r. ⌜ r .used ≤ s .used + 18000 ⌝ }
 {
     let mut message = [0u8; 8192];
     let n = writing::lent(room as usize);
-    let kind = e.kind;
+    let size = lent_bytes(s.lends);
     let g = s.gateway;
-    let w = eventrun::written_by(
-        kind,
-        e.index,
-        first(bytes, e.size),
+    let w = write_with(
+        e,
         place,
+        first(bytes, e.size),
+        hold,
+        size,
         &mut message[..n],
         g,
     );
@@ -356,11 +321,12 @@ fn action_in(
     place: u32,
     rest: &[u8],
     bytes: &mut [u8; 32768],
+    hold: &[u8; 34944],
     out: &mut [u8; 65536],
     s: State,
 ) -> State
-    requires { ⌜ (s .used + 17000 ≤ 65536) × (length (now rest) ≤ 65535) ⌝ }
-    ensures { λ r. ⌜ r .used ≤ s .used + 17000 ⌝ }
+    requires { ⌜ (s .used + 18000 ≤ 65536) × (length (now rest) ≤ 65535) ⌝ }
+    ensures { λ r. ⌜ r .used ≤ s .used + 18000 ⌝ }
 {
     let number = number_of(word_of(rest));
     let Number::Value(room) = number else {
@@ -370,19 +336,111 @@ fn action_in(
     let Parsed::Line(e) = parsed else {
         return bad(out, s);
     };
-    show_bytes(e, place, room, bytes, out, s)
+    show_bytes(e, place, room, bytes, hold, out, s)
 }
 
 // The place among its actions, and what follows it.
-fn one_action(rest: &[u8], bytes: &mut [u8; 32768], out: &mut [u8; 65536], s: State) -> State
-    requires { ⌜ (s .used + 17000 ≤ 65536) × (length (now rest) ≤ 65535) ⌝ }
-    ensures { λ r. ⌜ r .used ≤ s .used + 17000 ⌝ }
+fn one_action(
+    rest: &[u8],
+    bytes: &mut [u8; 32768],
+    hold: &[u8; 34944],
+    out: &mut [u8; 65536],
+    s: State,
+) -> State
+    requires { ⌜ (s .used + 18000 ≤ 65536) × (length (now rest) ≤ 65535) ⌝ }
+    ensures { λ r. ⌜ r .used ≤ s .used + 18000 ⌝ }
 {
     let number = number_of(word_of(rest));
     let Number::Value(place) = number else {
         return bad(out, s);
     };
-    action_in(place, rest_of(rest), bytes, out, s)
+    action_in(place, rest_of(rest), bytes, hold, out, s)
+}
+
+// ---- `hold LEN`, `paint N`, `held A K`
+
+// The answer `0`.
+fn done(out: &mut [u8; 65536], s: State) -> State
+    requires { ⌜ s .used + 18000 ≤ 65536 ⌝ }
+    ensures { λ r. ⌜ r .used ≤ s .used + 18000 ⌝ }
+{
+    at(s, put_byte(out, s.used, b'0'))
+}
+
+// How many bytes the events that follow are lent.
+fn lend(rest: &[u8], out: &mut [u8; 65536], s: State) -> State
+    requires { ⌜ s .used + 18000 ≤ 65536 ⌝ }
+    ensures { λ r. ⌜ r .used ≤ s .used + 18000 ⌝ }
+{
+    let number = number_of(rest);
+    let Number::Value(n) = number else {
+        return bad(out, s);
+    };
+    let mut t = s;
+    t.lends = n;
+    done(out, t)
+}
+
+// Every byte of the hold that is kept becomes x.
+fn fill(hold: &mut [u8; 34944], x: u8) {
+    for i in 0..34944usize {
+        hold[i] = x;
+    }
+}
+
+fn paint(rest: &[u8], hold: &mut [u8; 34944], out: &mut [u8; 65536], s: State) -> State
+    requires { ⌜ s .used + 18000 ≤ 65536 ⌝ }
+    ensures { λ r. ⌜ r .used ≤ s .used + 18000 ⌝ }
+{
+    let number = number_of(rest);
+    let Number::Value(n) = number else {
+        return bad(out, s);
+    };
+    if n > 255 {
+        return bad(out, s);
+    }
+    fill(hold, n as u8);
+    done(out, s)
+}
+
+// The bytes of place k of AS a (Rule 5.22).
+fn show_place(hold: &[u8; 34944], a: usize, k: usize, out: &mut [u8; 65536], s: State) -> State
+    requires { ⌜ (s .used + 18000 ≤ 65536) × (a < 16) × (k < 8) ⌝ }
+    ensures { λ r. ⌜ r .used ≤ s .used + 18000 ⌝ }
+{
+    let from = a * 2184 + k * 273;
+    let to = from + 273;
+    let all: &[u8] = hold;
+    at(s, put_hex(out, s.used, &all[from..to]))
+}
+
+// The place, the last word.
+fn held_at(a: u32, rest: &[u8], hold: &[u8; 34944], out: &mut [u8; 65536], s: State) -> State
+    requires { ⌜ (s .used + 18000 ≤ 65536) × (a < 16) ⌝ }
+    ensures { λ r. ⌜ r .used ≤ s .used + 18000 ⌝ }
+{
+    let number = number_of(rest);
+    let Number::Value(k) = number else {
+        return bad(out, s);
+    };
+    if k > 7 {
+        return bad(out, s);
+    }
+    show_place(hold, a as usize, k as usize, out, s)
+}
+
+fn held(rest: &[u8], hold: &[u8; 34944], out: &mut [u8; 65536], s: State) -> State
+    requires { ⌜ s .used + 18000 ≤ 65536 ⌝ }
+    ensures { λ r. ⌜ r .used ≤ s .used + 18000 ⌝ }
+{
+    let number = number_of(word_of(rest));
+    let Number::Value(a) = number else {
+        return bad(out, s);
+    };
+    if a > 15 {
+        return bad(out, s);
+    }
+    held_at(a, rest_of(rest), hold, out, s)
 }
 
 // ---- Lines
@@ -392,19 +450,23 @@ fn answer(
     command: Command,
     line: &[u8],
     bytes: &mut [u8; 32768],
+    hold: &mut [u8; 34944],
     out: &mut [u8; 65536],
     s: State,
 ) -> State
-    requires { ⌜ (s .used + 17000 ≤ 65536) × (length (now line) ≤ 65535) ⌝ }
-    ensures { λ r. ⌜ r .used ≤ s .used + 17000 ⌝ }
+    requires { ⌜ (s .used + 18000 ≤ 65536) × (length (now line) ≤ 65535) ⌝ }
+    ensures { λ r. ⌜ r .used ≤ s .used + 18000 ⌝ }
 {
     match command {
         Command::Plan => plan(rest_of(line), bytes, out, s),
         Command::State => show_state(out, s),
         Command::Write => write(rest_of(line), bytes, out, s),
-        Command::Event => event(line, bytes, out, s),
+        Command::Event => event(line, bytes, hold, out, s),
         Command::Reach => reach(rest_of(line), bytes, out, s),
-        Command::Bytes => one_action(rest_of(line), bytes, out, s),
+        Command::Bytes => one_action(rest_of(line), bytes, hold, out, s),
+        Command::Hold => lend(rest_of(line), out, s),
+        Command::Paint => paint(rest_of(line), hold, out, s),
+        Command::Held => held(rest_of(line), hold, out, s),
         Command::Other => bad(out, s),
     }
 }
@@ -414,29 +476,36 @@ fn answer_line(
     command: Command,
     line: &[u8],
     bytes: &mut [u8; 32768],
+    hold: &mut [u8; 34944],
     out: &mut [u8; 65536],
     s: State,
 ) -> State
-    requires { ⌜ (s .used + 17001 ≤ 65536) × (length (now line) ≤ 65535) ⌝ }
-    ensures { λ r. ⌜ r .used ≤ s .used + 17001 ⌝ }
+    requires { ⌜ (s .used + 18001 ≤ 65536) × (length (now line) ≤ 65535) ⌝ }
+    ensures { λ r. ⌜ r .used ≤ s .used + 18001 ⌝ }
 {
-    let t = answer(command, line, bytes, out, s);
+    let t = answer(command, line, bytes, hold, out, s);
     at(t, put_byte(out, t.used, b'\n'))
 }
 
 // A line that is no command of this crate.
 fn other(line: &[u8], bytes: &mut [u8; 32768], out: &mut [u8; 65536], s: State) -> State
-    requires { ⌜ s .used + 17001 ≤ 65536 ⌝ }
-    ensures { λ r. ⌜ r .used ≤ s .used + 17001 ⌝ }
+    requires { ⌜ s .used + 18001 ≤ 65536 ⌝ }
+    ensures { λ r. ⌜ r .used ≤ s .used + 18001 ⌝ }
 {
     let t = script::run(line, bytes, out, script::State { used: s.used });
     at(s, t.used)
 }
 
-// A line of a script.
-pub fn run(line: &[u8], bytes: &mut [u8; 32768], out: &mut [u8; 65536], s: State) -> State
-    requires { ⌜ s .used + 17001 ≤ 65536 ⌝ }
-    ensures { λ r. ⌜ r .used ≤ s .used + 17001 ⌝ }
+// A line of a script, with the hold that is kept.
+pub fn run(
+    line: &[u8],
+    bytes: &mut [u8; 32768],
+    hold: &mut [u8; 34944],
+    out: &mut [u8; 65536],
+    s: State,
+) -> State
+    requires { ⌜ s .used + 18001 ≤ 65536 ⌝ }
+    ensures { λ r. ⌜ r .used ≤ s .used + 18001 ⌝ }
 {
     if line.len() > 65535 {
         return other(line, bytes, out, s);
@@ -445,5 +514,5 @@ pub fn run(line: &[u8], bytes: &mut [u8; 32768], out: &mut [u8; 65536], s: State
     if let Command::Other = command {
         return other(line, bytes, out, s);
     }
-    answer_line(command, line, bytes, out, s)
+    answer_line(command, line, bytes, hold, out, s)
 }

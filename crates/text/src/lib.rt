@@ -2,7 +2,7 @@
 ghost use mathlib.Core.Path.{_≡_};
 ghost use Prim.Native.Nat.{_+_, _*_, _-_, _%_, _≤_, _<_};
 ghost use lib.ListN.{length, take};
-ghost use mathlib.Core.List.{[], _∷_};
+ghost use mathlib.Core.List.{[], _∷_, _++_};
 ghost use Rattle.text.specs.Put.{Put};
 ghost use Rattle.text.specs.Digits.{glyph, digits, places, decimal, pair, hex};
 ghost use Rattle.text.specs.Word.{wordIn, restIn, same};
@@ -103,6 +103,16 @@ pub fn put_number(out: &mut [u8; 65536], at: usize, n: u32) -> usize
     let k = width(n);
     put_digits(out, at, n, k);
     at + k
+}
+
+// A number, and a character after it.
+pub fn put_field(out: &mut [u8; 65536], at: usize, n: u32, end: u8) -> usize
+    requires { ⌜ at + 11 ≤ 65536 ⌝ }
+    ensures { λ r. ⌜ Put (now (out .entry)) (now (out .exit)) at (decimal n ++ (end ∷ [])) r ⌝ }
+    ensures { λ r. ⌜ (at < r) × (r ≤ at + 11) ⌝ }
+{
+    let next = put_number(out, at, n);
+    put_byte(out, next, end)
 }
 
 // A byte as two hex digits.

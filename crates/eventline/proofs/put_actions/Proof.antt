@@ -5,7 +5,7 @@ use Rattle.eventline.proofs.put_actions.Statement.{statement}
 use Rattle.eventline.proofs.put_actions.Tie as tie
 
 abbrev Inv-loop : tie.InvT-loop
-Inv-loop out₀ from list n at₀ i₀ out at i = (i ≤ n) × (at ≤ from + 46 * i) × (from + 11868 ≤ 65536) × (n ≤ 258) × (4 * n ≤ length list)
+Inv-loop out₀ from list n at₀ i₀ out at i = (i ≤ n) × (at ≤ from + 46 * i) × (from + 17756 ≤ 65536) × (n ≤ 386) × (4 * n ≤ length list)
 
 abbrev μ-loop : tie.MeasureT-loop
 μ-loop out₀ from list n at₀ i₀ out at i = n - i

@@ -9,14 +9,14 @@ use lib.ListN.{length}
 use borrow.Author.Tests.{eqb-true}
 use Rattle.laws.specs.Inner.Every.{and-left, and-right}
 use Rattle.laws.specs.Below.{allBelow}
+use Rattle.gateway.specs.declared.Gateway.{Gateway}
 use Rattle.gateway.specs.declared.Units.{Units}
 use Rattle.gateway.specs.Sound.{soundTables, noUnits, sized, unitsOk, blankAt, allUnits, soundUnits}
 
--- the tables of the columns that a state lends
-abbrev pub soundTablesOf : ℕ → ℕ → ℕ → ℕ → List ℕ → List ℕ → List ℕ → List ℕ → List ℕ → List ℕ → List ℕ → List ℕ → List ℕ → Bool
-soundTablesOf asps ases links spare aspid up member active mode waiting iid owner state =
-    soundTables
-    (record {
+-- the state of the columns that it lends
+abbrev pub gatewayOf : ℕ → ℕ → ℕ → ℕ → List ℕ → List ℕ → List ℕ → List ℕ → List ℕ → List ℕ → List ℕ → List ℕ → List ℕ → Units → Gateway
+gatewayOf asps ases links spare aspid up member active mode waiting iid owner state held =
+    record {
       asps = asps;
       ases = ases;
       links = links;
@@ -30,8 +30,13 @@ soundTablesOf asps ases links spare aspid up member active mode waiting iid owne
       iid = iid;
       owner = owner;
       state = state;
-      held = noUnits;
-    })
+      held = held;
+    }
+
+-- its tables
+abbrev pub soundTablesOf : ℕ → ℕ → ℕ → ℕ → List ℕ → List ℕ → List ℕ → List ℕ → List ℕ → List ℕ → List ℕ → List ℕ → List ℕ → Bool
+soundTablesOf asps ases links spare aspid up member active mode waiting iid owner state =
+    soundTables (gatewayOf asps ases links spare aspid up member active mode waiting iid owner state noUnits)
 
 -- the units of the columns that a state lends
 abbrev pub unitsOf : List ℕ → List ℕ → List ℕ → List ℕ → List ℕ → List ℕ → Units

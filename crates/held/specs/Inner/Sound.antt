@@ -7,29 +7,13 @@ use lib.Dec.{eqb, leb}
 use Rattle.laws.specs.Below.{allBelow}
 use Rattle.laws.specs.Columns.{numberAt, isSet}
 use Rattle.gateway.specs.Sound.{isLinkOf, isSound}
-use Rattle.gateway.specs.Inner.Sound.{unitsOf}
+use Rattle.gateway.specs.Inner.Sound.{gatewayOf, unitsOf}
 
 -- the state of the columns that it lends
 abbrev pub isSoundOf : ℕ → ℕ → ℕ → ℕ → List ℕ → List ℕ → List ℕ → List ℕ → List ℕ → List ℕ → List ℕ → List ℕ → List ℕ
     → List ℕ → List ℕ → List ℕ → List ℕ → List ℕ → List ℕ → Bool
 isSoundOf asps ases links spare aspid up member active mode waiting iid owner state count tag length marked id correlation =
-    isSound
-    (record {
-      asps = asps;
-      ases = ases;
-      links = links;
-      spare = spare;
-      aspid = aspid;
-      up = up;
-      member = member;
-      active = active;
-      mode = mode;
-      waiting = waiting;
-      iid = iid;
-      owner = owner;
-      state = state;
-      held = unitsOf count tag length marked id correlation;
-    })
+    isSound (gatewayOf asps ases links spare aspid up member active mode waiting iid owner state (unitsOf count tag length marked id correlation))
 
 -- n places of three columns, or of two, are zero
 abbrev pub narrowAt : List ℕ → List ℕ → List ℕ → ℕ → ℕ → Bool

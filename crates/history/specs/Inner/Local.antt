@@ -2,11 +2,8 @@
 -- reads; an event hands back, and writes, by what it reads alone.
 use mathlib.Core.Path.{_≡_, refl, sym, _∙_}
 use mathlib.Core.Bool.{Bool, true, false}
+use Rattle.laws.specs.Inner.Every.{false-of}
 use Rattle.history.specs.Inner.Trade.{Commute}
-
-pub false-of : (t : Bool) → (t ≡ true → ⊥) → t ≡ false
-false-of true h = absurd (h refl)
-false-of false h = refl
 
 module _ {B E K : Type 0} {W : K → Type 0} (get : B → (k : K) → W k) (reads writes : B → E → K → Bool) where
   -- b′ holds what b holds wherever e reads

@@ -1,16 +1,16 @@
 -- What a sound state says of the record of an AS, and that each change keeps it.
 -- Assumes nothing.
 use Prim.Native.Nat.{ℕ, _≤_, _<_}
-use mathlib.Core.Path.{_≡_, refl, ap, _∙_, sym}
+use mathlib.Core.Path.{_≡_, ap, _∙_, sym}
 use mathlib.Core.Bool.{Bool, true, false, _||_, _&&_, not, false≢true}
 use mathlib.Core.List.{List}
 use native.Mathlib.Omega.{arith}
 use lib.Dec.{eqb, ltb}
-use borrow.Author.Tests.{eqb-true}
+use borrow.Author.Tests.{eqb-true, not-true}
 use Rattle.laws.specs.Below.{one, countBelow}
 use Rattle.laws.specs.Columns.{flagAt}
 use Rattle.laws.specs.Inner.Columns.{getD-tabulate}
-use Rattle.laws.specs.Inner.Every.{and-left, and-right}
+use Rattle.laws.specs.Inner.Every.{and-left, and-right, or-case}
 use Rattle.laws.specs.Inner.Count.{count-single, count-fewer}
 use Rattle.server.specs.declared.AsRecord.{AsRecord}
 use Rattle.server.specs.declared.Change.{Change}
@@ -48,14 +48,6 @@ at-joined x p q b = getD-tabulate 16 (λ q. flagAt x q || eqb q p) q false b
 at-turned : (x : List Bool) (mode p q : ℕ) → q < 16 → flagAt (activated x mode p) q ≡ ((flagAt x q && not (eqb mode 1)) || eqb q p)
 unfolding activated
 at-turned x mode p q b = getD-tabulate 16 (λ q. (flagAt x q && not (eqb mode 1)) || eqb q p) q false b
-
-not-true : (t : Bool) → not t ≡ true → t ≡ false
-not-true true h = absurd (false≢true h)
-not-true false h = refl
-
-or-case : {C : Type 0} (u v : Bool) → (u || v) ≡ true → (u ≡ true → C) → (v ≡ true → C) → C
-or-case true v h f g = f refl
-or-case false v h f g = g h
 
 one-most : (t : Bool) → one t ≤ 1
 one-most true = omega arith

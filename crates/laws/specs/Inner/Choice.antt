@@ -34,6 +34,11 @@ module _ {X : Type 0} (x y : X) {z : X} where
 
 pub ruleset choices = (at-lt, at-ge, at-eq, at-ne, at-le, at-gt, at-yes, at-no)
 
+-- what holds of a choice, from what its test says
+pub by-cond : {A : Type 0} (t : Bool) (F : A → Type 0) {x y : A} → (t ≡ true → F x) → (t ≡ false → F y) → F (cond t x y)
+by-cond true F hx hy = hx refl
+by-cond false F hx hy = hy refl
+
 pub or-not : (c v : ℕ) → (c ≡ 0 → ⊥) → c orElse v ≡ c
 or-not zero v ne = absurd (ne refl)
 or-not (suc c) v ne = refl

@@ -1,8 +1,8 @@
--- Further laws on `allBelow`: equal tests, and two tests at once. And two Bools that hold together.
+-- Further laws on `allBelow`: equal tests, and two tests at once. And two Bools that hold together, or cannot.
 -- Assumes nothing.
 use Prim.Native.Nat.{ℕ, zero, suc, _<_, _≤_}
 use mathlib.Core.Path.{_≡_, refl, _∙_, sym}
-use mathlib.Core.Bool.{Bool, true, false, _&&_, false≢true}
+use mathlib.Core.Bool.{Bool, true, false, _&&_, _||_, false≢true}
 use native.Mathlib.Omega.{arith}
 use native.Mathlib.Decide.{decLt}
 use Rattle.laws.specs.Below.{allBelow, countBelow, anyBelow}
@@ -24,6 +24,19 @@ and-right false v h = absurd (false≢true h)
 
 pub and-both : (u v : Bool) → u ≡ true → v ≡ true → (u && v) ≡ true
 and-both u v p q = rw (p, q)
+
+-- of two tests one holds
+pub or-case : {A : Type 0} (u v : Bool) → (u || v) ≡ true → (u ≡ true → A) → (v ≡ true → A) → A
+or-case true v h f g = f refl
+or-case false v h f g = g h
+
+-- a test that fails and holds
+pub clash : {A : Type 0} (t : Bool) → t ≡ false → t ≡ true → A
+clash t f h = absurd (false≢true (sym f ∙ h))
+
+pub false-of : (t : Bool) → (t ≡ true → ⊥) → t ≡ false
+false-of true h = absurd (h refl)
+false-of false h = refl
 
 pub count-not : (f : ℕ → Bool) (n : ℕ) → ((i : ℕ) → i < n → f i ≡ false) → countBelow f n ≡ 0
 unfolding countBelow

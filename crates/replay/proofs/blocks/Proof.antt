@@ -4,10 +4,10 @@ use Rattle.replay.proofs.blocks.Statement.{statement}
 use Rattle.replay.proofs.blocks.Tie as tie
 
 abbrev Inv-loop : tie.InvT-loop
-Inv-loop line₀ bytes₀ out₀ t₀ left₀ line bytes out t left = Sound t
+Inv-loop line₀ bytes₀ hold₀ out₀ t₀ left₀ line bytes hold out t left = Sound t
 
 abbrev μ-loop : tie.MeasureT-loop
-μ-loop line₀ bytes₀ out₀ t₀ left₀ line bytes out t left = left
+μ-loop line₀ bytes₀ hold₀ out₀ t₀ left₀ line bytes hold out t left = left
 
 pub blocks-spec : {M : Type 1} → statement M
 blocks-spec =

@@ -16,7 +16,7 @@ use Rattle.gateway.specs.Sound.{mostHeld, isSound}
 use Rattle.gateway.specs.declared.Gateway.{Gateway}
 use Rattle.server.specs.Inner.Change.{fits}
 use Rattle.servers.specs.Inner.Changed.{allActions-short}
-use Rattle.rules.specs.Event.{EventKind, message, lost, recovery, linkUp, linkDown, linkMessage, Event}
+use Rattle.rules.specs.Event.{EventKind, linkMessage, Event}
 use Rattle.rules.specs.Effect.{Effect, send, setLink, changeIn, takeIn, actionsOf}
 use Rattle.rules.specs.Link.{toRecipients, recipientsOf, isPending, arrival, holdEffect, linkMessageEffect}
 use Rattle.rules.specs.Identifiers.{linkOf, ownerAt}
@@ -55,9 +55,8 @@ shapes =
       say-two = λ x y u e d. omega (arith, two x y u);
       turn-one = λ l n x e. omega arith;
       turn-all = λ l n who k s v e. toAll-short who k s v;
-      change-none = λ k named f. (omega arith, f);
-      change-one = λ x k named e f. (omega arith, f);
-      change-two = λ x y u k named e d f. (two x y u, f);
+      change-one = λ x k named e f o. (omega arith, f);
+      change-two = λ x y u k named e d f o. (two x y u, f);
     }
 
 -- what the link side sends is held, turned away, or passed on
@@ -74,12 +73,8 @@ link-short g s = go (eqb (readingOf s .msgtype) 1 && isPending g (ownerAt g l)) 
     go false v = toAll-short (recipientsOf g l) (readingOf s .class * 256 + readingOf s .msgtype) (numberAt (g .iid) l) 0
 
 effect-short : (g : Gateway) (k : EventKind) → isSound g ≡ true → inPlan g k ≡ true → Short (effectOf g k)
-effect-short g (message p s) c i = effect-by shapes g (message p s) c i refl
-effect-short g (lost p) c i = effect-by shapes g (lost p) c i refl
-effect-short g (recovery a) c i = effect-by shapes g (recovery a) c i refl
-effect-short g (linkUp l) c i = effect-by shapes g (linkUp l) c i refl
-effect-short g (linkDown l) c i = effect-by shapes g (linkDown l) c i refl
-effect-short g (linkMessage s) c i = link-short g s
+unfolding Short
+effect-short g k c i = effect-by shapes g k c i (λ c named f. (omega arith, f)) (λ s e. link-short g s)
 
 -- ---- the law
 

@@ -1,12 +1,13 @@
 -- The effects of every event but a message of the link side, case by case: what holds of each shape of effect holds of them all.
 -- Assumes nothing.
 use Prim.Native.Nat.{ℕ, _<_}
-use mathlib.Core.Path.{_≡_, refl, sym}
-use mathlib.Core.Bool.{Bool, true, false, cond, _&&_, false≢true}
+use mathlib.Core.Path.{_≡_, refl}
+use mathlib.Core.Bool.{Bool, true, false, cond, _&&_}
 use mathlib.Core.List.{List, [], _∷_}
 use native.Mathlib.Omega.{arith}
 use lib.Dec.{eqb}
 use borrow.Author.Tests.{lt-ltb, ltb-true}
+use Rattle.laws.specs.Inner.Choice.{by-cond}
 use Rattle.wire.specs.Walk.{Par}
 use Rattle.message.specs.declared.Reading.{Reading}
 use Rattle.action.specs.declared.Action.{Action}
@@ -16,16 +17,24 @@ use Rattle.gateway.specs.Inner.Laws.{counts-within}
 use Rattle.gateway.specs.Sound.{isSound}
 use Rattle.gateway.specs.declared.Gateway.{Gateway}
 use Rattle.server.specs.declared.Change.{Change}
-use Rattle.server.specs.declared.Change.the-variants.{AspDown, Activate, Recover}
+use Rattle.server.specs.declared.Change.the-variants.{AspUp, AspDown, Deactivate, Activate, Recover}
 use Rattle.server.specs.Inner.Change.{fits}
 use Rattle.rules.specs.Event.{EventKind, message, lost, recovery, linkUp, linkDown, linkMessage}
 use Rattle.rules.specs.Effect.{Effect, send, setLink, changeIn}
 use Rattle.rules.specs.Asp.{upEffect, downEffect, lostEffect, activeEffect, inactiveEffect, trafficEffect}
 use Rattle.rules.specs.Link.{establish, release, dataEffect, linkEffect, classSixEffect, toRecipients, linkUpEffect, linkDownEffect}
 use Rattle.rules.specs.Rules.{readEffect, messageEffect, effectOf, inPlan}
-use Rattle.rules.specs.Sent.{isData, isPassed}
+use Rattle.rules.specs.Sent.{isData}
 
--- Q holds of each shape. No action of its own is Data to an ASP, and who becomes active is an ASP.
+-- a change that ends a recovery time
+abbrev pub isOver : Change → Bool
+isOver (AspUp p) = false
+isOver (AspDown p) = false
+isOver (Deactivate p) = false
+isOver (Activate p) = false
+isOver Recover = true
+
+-- Q holds of each shape. No action of its own is Data to an ASP, and who becomes active is an ASP. A change with replies is that of a message.
 pub record Shapes (Q : Effect → Type 0) : Type 0 where
   pub say-none : Q (send [])
   pub say-one : (x : Action) → isData x ≡ false → Q (send (x ∷ []))
@@ -33,9 +42,8 @@ pub record Shapes (Q : Effect → Type 0) : Type 0 where
   pub say-two : (x y : Action) (u : Bool) → isData x ≡ false → isData y ≡ false → Q (send (x ∷ cond u (y ∷ []) []))
   pub turn-one : (l n : ℕ) (x : Action) → isData x ≡ false → Q (setLink l n (x ∷ []))
   pub turn-all : (l n : ℕ) (who : List Bool) (k s v : ℕ) → eqb k userData ≡ false → Q (setLink l n (toAll who k s v))
-  pub change-none : (k : Change) (named : List Bool) → fits k ≡ true → Q (changeIn [] k named)
-  pub change-one : (x : Action) (k : Change) (named : List Bool) → isData x ≡ false → fits k ≡ true → Q (changeIn (x ∷ []) k named)
-  pub change-two : (x y : Action) (u : Bool) (k : Change) (named : List Bool) → isData x ≡ false → isData y ≡ false → fits k ≡ true → Q (changeIn (x ∷ cond u (y ∷ []) []) k named)
+  pub change-one : (x : Action) (k : Change) (named : List Bool) → isData x ≡ false → fits k ≡ true → isOver k ≡ false → Q (changeIn (x ∷ []) k named)
+  pub change-two : (x y : Action) (u : Bool) (k : Change) (named : List Bool) → isData x ≡ false → isData y ≡ false → fits k ≡ true → isOver k ≡ false → Q (changeIn (x ∷ cond u (y ∷ []) []) k named)
 
 -- ---- no Data to an ASP
 
@@ -60,8 +68,7 @@ by-type false = refl
 
 module _ {Q : Effect → Type 0} (f : Shapes Q) where
   by-test : (u : Bool) (x y : Effect) → Q x → Q y → Q (cond u x y)
-  by-test true x y a b = a
-  by-test false x y a b = b
+  by-test u x y a b = by-cond u Q (λ _. a) (λ _. b)
 
   -- each as `search` takes it
   none : Q (send [])
@@ -107,15 +114,27 @@ module _ {Q : Effect → Type 0} (f : Shapes Q) where
     unfolding readEffect
     read s r = search (shapes, up, down, traffic, active, inactive, six) depth 16
 
-    of-message : (s : List ℕ) → Q (messageEffect g p s)
+    pub of-message : (s : List ℕ) → Q (messageEffect g p s)
     unfolding messageEffect
     of-message s = search (shapes, read) depth 8
 
-  pub effect-by : (g : Gateway) (k : EventKind) → isSound g ≡ true → inPlan g k ≡ true → isPassed k ≡ false → Q (effectOf g k)
-  unfolding lostEffect linkUpEffect linkDownEffect toRecipients
-  effect-by g (message p s) c i n = of-message g p (omega (arith, counts-within g c .asps, ltb-true p (g .asps) i)) s
-  effect-by g (lost p) c i n = f .change-none (AspDown p) _ refl
-  effect-by g (recovery a) c i n = f .change-none Recover _ refl
-  effect-by g (linkUp l) c i n = search (shapes, f .turn-all) depth 8
-  effect-by g (linkDown l) c i n = search (shapes, f .turn-all, by-type) depth 8
-  effect-by g (linkMessage s) c i n = absurd (false≢true (sym n))
+  pub of-up : (g : Gateway) (l : ℕ) → Q (linkUpEffect g l)
+  unfolding linkUpEffect toRecipients
+  of-up g l = search (shapes, f .turn-all) depth 8
+
+  pub of-down : (g : Gateway) (l : ℕ) → Q (linkDownEffect g l)
+  unfolding linkDownEffect toRecipients
+  of-down g l = search (shapes, f .turn-all, by-type) depth 8
+
+  -- with the changes that have no replies, and what the link side sends
+  pub effect-by : (g : Gateway) (k : EventKind) → isSound g ≡ true → inPlan g k ≡ true
+      → ((c : Change) (named : List Bool) → fits c ≡ true → Q (changeIn [] c named))
+      → ((s : List ℕ) → k ≡ linkMessage s → Q (effectOf g (linkMessage s)))
+      → Q (effectOf g k)
+  unfolding lostEffect
+  effect-by g (message p s) c i h j = of-message g p (omega (arith, counts-within g c .asps, ltb-true p (g .asps) i)) s
+  effect-by g (lost p) c i h j = h (AspDown p) _ refl
+  effect-by g (recovery a) c i h j = h Recover _ refl
+  effect-by g (linkUp l) c i h j = of-up g l
+  effect-by g (linkDown l) c i h j = of-down g l
+  effect-by g (linkMessage s) c i h j = j s refl

@@ -9,13 +9,13 @@ use lib.Dec.{eqb, ltb}
 use borrow.Author.Tests.{ltb-true, eqb-true, eq-eqb}
 use Rattle.laws.specs.Inner.Below.{any-in}
 use Rattle.laws.specs.Inner.Every.{and-left, and-right, and-both}
+use Rattle.laws.specs.Inner.Choice.{by-cond}
 use Rattle.laws.specs.Columns.{isSet, numberAt}
-use Rattle.wire.specs.Walk.{Par}
 use Rattle.message.specs.Verdict.{verdict}
 use Rattle.message.specs.Meaning.{readingOf}
-use Rattle.message.specs.declared.Reading.{Reading}
 use Rattle.message.specs.Inner.GoodUnit.{GoodUnit}
 use Rattle.message.proofs.GoodUnit.{good-unit, correlation-marked}
+use Rattle.action.specs.declared.Action.{Action}
 use Rattle.gateway.specs.Sound.{isSound, isLinkOf}
 use Rattle.gateway.specs.Inner.Laws.{counts-within, owner-within}
 use Rattle.gateway.specs.declared.Gateway.{Gateway}
@@ -23,65 +23,13 @@ use Rattle.lookup.specs.Links.{indexOf, known}
 use Rattle.lookup.specs.Inner.Links.{index-is}
 use Rattle.server.specs.declared.Arrival.{Arrival}
 use Rattle.server.specs.Record.{some, recordFrom, recordOf, stateIn}
-use Rattle.rules.specs.Event.{EventKind, message, lost, recovery, linkUp, linkDown, linkMessage, Event}
+use Rattle.rules.specs.Event.{EventKind, linkMessage, Event}
 use Rattle.rules.specs.Identifiers.{isKnown, linkOf, ownerAt}
 use Rattle.rules.specs.Effect.{Effect, send, setLink, changeIn, takeIn}
-use Rattle.rules.specs.Asp.{upEffect, downEffect, lostEffect, activeEffect, inactiveEffect, trafficEffect}
-use Rattle.rules.specs.Link.{establish, release, dataEffect, linkEffect, classSixEffect, linkUpEffect, linkDownEffect, isPending, arrival, holdEffect, linkMessageEffect}
-use Rattle.rules.specs.Rules.{readEffect, messageEffect, effectOf, fromLink, inPlan, refusal}
+use Rattle.rules.specs.Link.{isPending, arrival, holdEffect, linkMessageEffect}
+use Rattle.rules.specs.Rules.{effectOf, fromLink, inPlan, refusal}
 use Rattle.rules.specs.Inner.Accepted.{accepted}
-
--- ---- whatever the state is
-
--- the effect takes no unit in
-unfoldable pub TakesNone : Effect → Type 0
-TakesNone (send os) = Unit {0}
-TakesNone (setLink l v os) = Unit {0}
-TakesNone (changeIn os k named) = Unit {0}
-TakesNone (takeIn a x) = ⊥
-
-by-none : (u : Bool) (x y : Effect) → TakesNone x → TakesNone y → TakesNone (cond u x y)
-by-none true x y a b = a
-by-none false x y a b = b
-
-say-none : (os : _) → TakesNone (send os)
-unfolding TakesNone
-say-none os = tt
-
-turn-none : (l v : ℕ) (os : _) → TakesNone (setLink l v os)
-unfolding TakesNone
-turn-none l v os = tt
-
-change-none : (os : _) (k : _) (named : List Bool) → TakesNone (changeIn os k named)
-unfolding TakesNone
-change-none os k named = tt
-
-ruleset nones = (by-none, say-none, turn-none, change-none)
-
-traffic-none : (g : Gateway) (p : ℕ) (r : Reading) (ps : List Par) (act : List Bool → Effect) → ((named : List Bool) → TakesNone (act named)) → TakesNone (trafficEffect g p r ps act)
-unfolding trafficEffect
-traffic-none g p r ps act h = search (nones, h) depth 12
-
-active-none : (g : Gateway) (p mode : ℕ) (named : List Bool) → TakesNone (activeEffect g p mode named)
-unfolding activeEffect
-active-none g p mode named = search nones depth 6
-
-inactive-none : (p : ℕ) (named : List Bool) → TakesNone (inactiveEffect p named)
-unfolding inactiveEffect
-inactive-none p named = search nones depth 6
-
-six-none : (g : Gateway) (p : ℕ) (r : Reading) → TakesNone (classSixEffect g p r)
-unfolding classSixEffect linkEffect establish release dataEffect
-six-none g p r = search nones depth 16
-
-read-none : (g : Gateway) (p : ℕ) (s : List ℕ) (r : Reading) → TakesNone (readEffect g p s r)
-unfolding readEffect upEffect downEffect
-read-none g p s r = search (nones, traffic-none, active-none, inactive-none, six-none) depth 16
-
--- a message of an ASP never does
-message-none : (g : Gateway) (p : ℕ) (s : List ℕ) → TakesNone (messageEffect g p s)
-unfolding messageEffect
-message-none g p s = search (nones, read-none) depth 6
+use Rattle.rules.specs.Inner.Shapes.{Shapes, effect-by}
 
 -- ---- a message of the link side
 
@@ -93,33 +41,25 @@ pub record Takes (g : Gateway) (s : List ℕ) (a : ℕ) (x : Arrival) : Type 0 w
   pub pending : isPending g a ≡ true
   pub room : numberAt (g .held .count) a < 8
 
-abbrev TakesIn : Gateway → List ℕ → Effect → Type 0
-TakesIn g s (send os) = Unit {0}
-TakesIn g s (setLink l v os) = Unit {0}
-TakesIn g s (changeIn os k named) = Unit {0}
-TakesIn g s (takeIn a x) = Takes g s a x
-
-by-take : (u : Bool) (F : Effect → Type 0) {x y : Effect} → (u ≡ true → F x) → F y → F (cond u x y)
-by-take true F hx hy = hx refl
-by-take false F hx hy = hy
-
-link-takes : (g : Gateway) (s : List ℕ) → TakesIn g s (linkMessageEffect g s (readingOf s))
+-- it is taken in, or all else is a list of actions: what holds of both holds of whatever the link side sends
+pub link-cases : (g : Gateway) (s : List ℕ) (F : Effect → Type 0) → ((os : List Action) → F (send os)) → ((a : ℕ) (x : Arrival) → Takes g s a x → F (takeIn a x)) → F (linkMessageEffect g s (readingOf s))
 unfolding linkMessageEffect holdEffect
-link-takes g s =
+link-cases g s F say take =
     let a = ownerAt g (linkOf g (readingOf s .id)) in
     let m = eqb (readingOf s .msgtype) 1 in
-    by-take (m && isPending g a) (TakesIn g s)
-    (λ t. by-take (ltb (numberAt (g .held .count) a) 8) (TakesIn g s)
+    by-cond (m && isPending g a) F
+    (λ t. by-cond (ltb (numberAt (g .held .count) a) 8) F
     (λ u.
-    record {
+    take a (arrival s (readingOf s))
+    (record {
       owner = refl;
       unit = refl;
       is-data = eqb-true (readingOf s .msgtype) 1 (and-left m (isPending g a) t);
       pending = and-right m (isPending g a) t;
       room = ltb-true (numberAt (g .held .count) a) 8 u;
-    })
-    tt)
-    tt
+    }))
+    (λ _. say _))
+    (λ _. say _)
 
 -- ---- the laws
 
@@ -140,14 +80,28 @@ pub record TakenFrom (g : Gateway) (k : EventKind) (a : ℕ) (x : Arrival) : Typ
   pub kind : k ≡ linkMessage from
   pub takes : Takes g from a x
 
-pub taken-from : (g : Gateway) (k : EventKind) (a : ℕ) (x : Arrival) → effectOf g k ≡ takeIn a x → TakenFrom g k a x
-unfolding TakesNone lostEffect linkUpEffect linkDownEffect
-taken-from g (message p s) a x e = absurd (subst TakesNone e (message-none g p s))
-taken-from g (lost p) a x e = absurd (subst TakesNone e tt)
-taken-from g (recovery c) a x e = absurd (subst TakesNone e tt)
-taken-from g (linkUp l) a x e = absurd (subst TakesNone e (search nones depth 6))
-taken-from g (linkDown l) a x e = absurd (subst TakesNone e (search nones depth 6))
-taken-from g (linkMessage s) a x e = record { from = s; kind = refl; takes = subst (TakesIn g s) e (link-takes g s) }
+abbrev TakenBy : Gateway → EventKind → Effect → Type 0
+TakenBy g k (send os) = Unit {0}
+TakenBy g k (setLink l v os) = Unit {0}
+TakenBy g k (changeIn os c named) = Unit {0}
+TakenBy g k (takeIn a x) = TakenFrom g k a x
+
+others : (g : Gateway) (k : EventKind) → Shapes (TakenBy g k)
+others g k =
+    record {
+      say-none = tt;
+      say-one = λ x e. tt;
+      say-two = λ x y u e d. tt;
+      turn-one = λ l n x e. tt;
+      turn-all = λ l n who c s v e. tt;
+      change-one = λ x c named e f o. tt;
+      change-two = λ x y u c named e d f o. tt;
+    }
+
+pub taken-from : (g : Gateway) (k : EventKind) (a : ℕ) (x : Arrival) → isSound g ≡ true → inPlan g k ≡ true → effectOf g k ≡ takeIn a x → TakenFrom g k a x
+taken-from g k a x ok i d =
+    subst (TakenBy g k) d
+    (effect-by (others g k) g k ok i (λ c named f. tt) (λ s e. link-cases g s (TakenBy g k) (λ os. tt) (λ c y t. record { from = s; kind = e; takes = t })))
 
 -- a message of the link side that the plan knows, in a sound state: it reads, and its unit is one of an AS of the plan, with its link and its bytes
 pub record TakenIn (g : Gateway) (s : List ℕ) (a : ℕ) (x : Arrival) : Type 0 where
@@ -216,6 +170,6 @@ pub record TakeIn (g : Gateway) (k : EventKind) (a : ℕ) (x : Arrival) : Type 0
 
 pub take-in : (g : Gateway) (e : Event) (a : ℕ) (x : Arrival) → refusal g e ≡ 0 → effectOf g (e .kind) ≡ takeIn a x → TakeIn g (e .kind) a x
 take-in g e a x h d =
-    let t = taken-from g (e .kind) a x d in
     let z = accepted (isSound g) (inPlan g (e .kind)) (e .hold) (e .room) h in
+    let t = taken-from g (e .kind) a x (z .sound-yes) (z .known-yes) d in
     record { from = t .from; kind = t .kind; taken = taken-in g (t .from) a x (z .sound-yes) (subst (λ (k : EventKind). inPlan g k ≡ true) (t .kind) (z .known-yes)) (t .takes) }

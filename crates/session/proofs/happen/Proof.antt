@@ -4,12 +4,12 @@ use borrow.Author.Needs.{needs}
 use Rattle.session.proofs.happen.Statement.{statement}
 use Rattle.session.proofs.happen.Tie as tie
 
-slice-aggregate-happen : tie.Need-slice-aggregate-happen
-slice-aggregate-happen c = sym (length-take-le _ _ (c .before .before .before .before .lent .ensures))
+slice-aggregate-run-with : tie.Need-slice-aggregate-run-with
+slice-aggregate-run-with c = sym (length-take-le _ _ (c .before .before .before .before .before .before .lent .ensures))
 
 pub happen-spec : {M : Type 1} → statement M
 happen-spec =
     tie.close
     (tie.spec
-    (λ c κs. search needs) (λ c κs. search needs) (λ c. search needs) slice-aggregate-happen (λ c κs. search needs) (λ c κs. search needs)
-    (λ c. search needs))
+    (λ c κs. search needs) (λ c κs. search needs) (λ c κs. search needs) (λ c. search needs) slice-aggregate-run-with (λ c κs. search needs)
+    (λ c κs. search needs) (λ c. search needs))

@@ -1,8 +1,8 @@
 use borrow.Author.Needs.{needs}
 use Prim.Native.Nat.{_≤_, _-_, _+_}
 use lib.ListN.{length}
-use Rattle.session.proofs.put_marks.Statement.{statement}
-use Rattle.session.proofs.put_marks.Tie as tie
+use Rattle.stateline.proofs.put_marks.Statement.{statement}
+use Rattle.stateline.proofs.put_marks.Tie as tie
 
 abbrev Inv-loop : tie.InvT-loop
 Inv-loop out₀ at marks i₀ out i = (i ≤ length marks) × (at + length marks ≤ 65536)

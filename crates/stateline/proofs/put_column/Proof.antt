@@ -2,8 +2,8 @@ use borrow.Author.Needs.{needs}
 use native.Mathlib.Omega.{arith}
 use Rattle.text.proofs.Puts.{take-short}
 use borrow.Author.Needs.{needs}
-use Rattle.session.proofs.put_column.Statement.{statement}
-use Rattle.session.proofs.put_column.Tie as tie
+use Rattle.stateline.proofs.put_column.Statement.{statement}
+use Rattle.stateline.proofs.put_column.Tie as tie
 
 put-marks-requires : tie.Need-put-marks-requires
 put-marks-requires c κs = omega (arith, take-short _ (c .before .before .before .before .before .before .before .args .marks .now) (c .before .wide .result) (c .first .ensures))

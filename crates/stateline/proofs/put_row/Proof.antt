@@ -1,7 +1,7 @@
 use borrow.Author.Needs.{needs}
 use Prim.Native.Nat.{_≤_, _<_, _-_, _+_, _*_}
-use Rattle.session.proofs.put_row.Statement.{statement}
-use Rattle.session.proofs.put_row.Tie as tie
+use Rattle.stateline.proofs.put_row.Statement.{statement}
+use Rattle.stateline.proofs.put_row.Tie as tie
 
 abbrev Inv-loop : tie.InvT-loop
 Inv-loop out₀ start from active p at₀ a₀ out at a = (a ≤ 16) × (at ≤ from + 22 * a) × (p < 16) × (from + 352 ≤ 65536)

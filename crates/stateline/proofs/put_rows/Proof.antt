@@ -1,7 +1,7 @@
 use borrow.Author.Needs.{needs}
 use Prim.Native.Nat.{_≤_, _-_, _+_, _*_}
-use Rattle.session.proofs.put_rows.Statement.{statement}
-use Rattle.session.proofs.put_rows.Tie as tie
+use Rattle.stateline.proofs.put_rows.Statement.{statement}
+use Rattle.stateline.proofs.put_rows.Tie as tie
 
 abbrev Inv-loop : tie.InvT-loop
 Inv-loop out₀ start active at₀ p₀ out at p = (p ≤ 16) × (at ≤ start + 352 * p) × (start + 5632 ≤ 65536)
