@@ -1,5 +1,3 @@
-pub mod Words
-pub mod Units
 pub mod Part
 pub mod There
 pub mod Alike

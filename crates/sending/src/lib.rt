@@ -5,23 +5,17 @@ use encode::Written;
 use events::m2ua_run;
 use gateway::Gateway;
 use outgoing::Batch;
-use outgoing::Unit;
+use sent::Sent;
 ghost use mathlib.Core.Path.{_≡_};
-ghost use mathlib.Core.Bool.{true, cond, not, _&&_};
-ghost use Prim.Native.Nat.{ℕ, _+_, _-_, _*_, _<_, _≤_};
+ghost use mathlib.Core.Bool.{true};
+ghost use Prim.Native.Nat.{_+_, _-_, _<_, _≤_};
 ghost use lib.Dec.{leb};
 ghost use lib.ListN.{length, take, drop};
-ghost use Rattle.laws.specs.Below.{when};
-ghost use Rattle.laws.specs.Columns.{numberAt};
 ghost use Rattle.put.specs.Bytes.{overlay};
-ghost use Rattle.select.specs.Inner.Picks.{PutBytes};
-ghost use Rattle.rules.specs.Sent.{isData};
 ghost use Rattle.ask.specs.Happened.{happened};
 ghost use Rattle.outgoing.specs.Send.{Sends, SendsMany};
 ghost use Rattle.outgoing.specs.Inner.Kinds.{lentBy};
-ghost use Rattle.sending.specs.Inner.Words.{actionIn, dataIn};
-ghost use Rattle.sending.specs.Inner.Units.{goneRow, goneList};
-ghost use Rattle.sending.specs.Inner.Part.{heldOf, sentOf, partOf, lentOf, partIn, Ready};
+ghost use Rattle.sending.specs.Inner.Part.{partOf, lentOf, partIn, Ready};
 ghost use Rattle.sending.specs.Inner.Alike.{areAlike, repeatsIn};
 ghost use Rattle.sending.specs.Inner.Batch.{Ended, StandsBefore};
 ghost use Rattle.sending.specs.Inner.Many.{batchOf};
@@ -32,179 +26,6 @@ const SHORT_BUFFER: u32 = 103;
 const NO_SUCH_ACTION: u32 = 104;
 
 const LINK_SIDE: u32 = 255;
-
-// The bytes that the hold has for a unit (Rule 5.22).
-const PLACE: usize = 273;
-
-// The action at a place of a list of words.
-fn action_at(words: &[u32; 1544], n: usize) -> Action
-    requires { ⌜ n < 386 ⌝ }
-    ensures { λ r. ⌜ r ≡ actionIn (now (words .entry)) n ⌝ }
-{
-    let at = n * 4;
-    Action {
-        to: words[at],
-        classtype: words[at + 1],
-        subject: words[at + 2],
-        value: words[at + 3],
-    }
-}
-
-// ---- the unit that an action sends
-
-// Data to an ASP.
-fn is_data(o: Action) -> bool
-    ensures { λ r. ⌜ r ≡ isData o ⌝ }
-{
-    (o.classtype == USER_DATA) & (o.to != LINK_SIDE)
-}
-
-// How many of the first n actions are that.
-fn data_before(words: &[u32; 1544], n: usize) -> usize
-    requires { ⌜ n ≤ 386 ⌝ }
-    ensures { λ r. ⌜ r ≡ dataIn (now (words .entry)) n ⌝ }
-{
-    let mut d: usize = 0;
-    for m in 0..n {
-        d = d + gateway::unit(is_data(action_at(words, m)));
-    }
-    d
-}
-
-// The index of a unit in a list, where it is wanted; the place after it.
-fn add_if(list: &mut [u8], n: usize, yes: bool, i: usize) -> usize
-    requires { ⌜ (n < length (now list)) × (i < 256) ⌝ }
-    ensures { λ r. ⌜ PutBytes (now (list .entry)) n (when yes i) r (now (list .exit)) ⌝ }
-{
-    if yes {
-        list[n] = i as u8;
-        return n + 1;
-    }
-    n
-}
-
-// Those of the units that AS a has let go, which had so many before and has so many after.
-fn add_row(list: &mut [u8], n: usize, a: usize, before: u8, after: u8) -> usize
-    requires { ⌜ (a < 16) × (n + 8 ≤ length (now list)) ⌝ }
-    ensures { λ r. ⌜ PutBytes (now (list .entry)) n (goneRow before after a) r (now (list .exit)) ⌝ }
-{
-    if before == 0 {
-        return n;
-    }
-    if after != 0 {
-        return n;
-    }
-    let mut at = n;
-    for k in 0..8usize {
-        at = add_if(list, at, k < gateway::wide(before), a * 8 + k);
-    }
-    at
-}
-
-// Those of all ASes, in the sequence in which the units go out; zeros behind them.
-fn gone<'a>(before: &'a [u8; 16], after: &'a [u8; 16]) -> [u8; 128]
-    ensures { λ r. ⌜ r ≡ goneList (now (before .entry)) (now (after .entry)) ⌝ }
-{
-    let mut list = [0u8; 128];
-    let mut n: usize = 0;
-    for a in 0..16usize {
-        n = add_row(&mut list, n, a, before[a], after[a]);
-    }
-    list
-}
-
-// The index at a place of that list; beyond it 0.
-fn index_at(list: &[u8], d: usize) -> usize
-    ensures { λ r. ⌜ r ≡ numberAt (now (list .entry)) d ⌝ }
-{
-    if d < list.len() {
-        return gateway::wide(list[d]);
-    }
-    0
-}
-
-// The index of the unit that the action at place n sends, where it sends one.
-fn unit_for<'a>(
-    held: bool,
-    words: &[u32; 1544],
-    n: usize,
-    before: &'a [u8; 16],
-    after: &'a [u8; 16],
-) -> usize
-    requires { ⌜ n ≤ 386 ⌝ }
-    ensures { λ r. ⌜ r ≡ cond held (numberAt (goneList (now (before .entry)) (now (after .entry))) (dataIn (now (words .entry)) n)) 0 ⌝ }
-{
-    if held {
-        let list = gone(before, after);
-        return index_at(&list, data_before(words, n));
-    }
-    0
-}
-
-// An action, and what its message is made of: whether it passes the received message on; and whether it sends a unit, from where to where that lies in the
-// hold, and the unit.
-pub struct Sent {
-    pub o: Action,
-    pub passed: bool,
-    pub held: bool,
-    pub from: usize,
-    pub to: usize,
-    pub unit: Unit,
-}
-
-// Where the bytes of the unit at index i begin; 0 where none is wanted.
-fn start_if(held: bool, i: usize) -> usize
-    requires { ⌜ i < 128 ⌝ }
-    ensures { λ r. ⌜ (r ≡ cond held (i * 273) 0) × (r ≤ 34671) ⌝ }
-{
-    if held {
-        return i * PLACE;
-    }
-    0
-}
-
-// Where they end, of a parameter of so many bytes.
-fn stop_if(held: bool, from: usize, len: u16) -> usize
-    requires { ⌜ (from ≤ 34671) × (held ≡ true → 4 ≤ len) ⌝ }
-    ensures { λ r. ⌜ r ≡ cond held (from + len - 4) from ⌝ }
-{
-    if held {
-        return from + len as usize - 4;
-    }
-    from
-}
-
-// An action with all that; i is the index of the unit that it sends, if it sends one.
-fn sent_at<'a>(
-    o: Action,
-    passed: bool,
-    i: usize,
-    tags: &'a [u16; 128],
-    lengths: &'a [u16; 128],
-    marks: &'a [u16; 128],
-    correlations: &'a [u32; 128],
-) -> Sent
-    requires { ⌜ (i < 128) × (heldOf passed o ≡ true → 4 ≤ numberAt (now lengths) i) ⌝ }
-    ensures { λ r. ⌜ r ≡ sentOf (now (tags .entry)) (now (lengths .entry)) (now (marks .entry)) (now (correlations .entry)) passed i o ⌝ }
-{
-    let held = is_data(o) & !passed;
-    let from = start_if(held, i);
-    let to = stop_if(held, from, lengths[i]);
-    Sent {
-        o,
-        passed,
-        held,
-        from,
-        to,
-        unit: Unit {
-            tag: tags[i],
-            marked: marks[i] == 1,
-            correlation: correlations[i],
-        },
-    }
-}
-
-// ---- what is written for an action
 
 // The message whose parameters go out again: none where the event has none.
 fn received(kind: u32, msg: &[u8]) -> &[u8]
@@ -217,17 +38,6 @@ fn received(kind: u32, msg: &[u8]) -> &[u8]
         return msg;
     }
     &msg[..0]
-}
-
-// The data that its message shows: a part of the hold where the unit was held, else of the received message.
-fn body<'a>(msg: &'a [u8], hold: &'a [u8], held: bool, from: usize, to: usize) -> &'a [u8]
-    requires { ⌜ (from ≤ to) × (to ≤ length (cond held (now hold) (now msg))) ⌝ }
-    ensures { λ r. ⌜ now r ≡ cond held (take (to - from) (drop from (now (hold .entry)))) (take (to - from) (drop from (now (msg .entry)))) ⌝ }
-{
-    if held {
-        return &hold[from..to];
-    }
-    &msg[from..to]
 }
 
 // How many bytes are written for an action: none where it goes to the link side.
@@ -319,7 +129,7 @@ pub extern "C" fn m2ua_order<'a>(
             length: 0,
         };
     }
-    let o = action_at(&words, place);
+    let o = sent::action_at(&words, place);
     if o.to == LINK_SIDE {
         return Written {
             code: NO_SUCH_ACTION,
@@ -328,8 +138,14 @@ pub extern "C" fn m2ua_order<'a>(
     }
     let passed = kind == ask::LINK_MESSAGE;
     let after = done.gateway.held.count;
-    let u = unit_for(is_data(o) & !passed, &words, place, &g.held.count, &after);
-    let x = sent_at(
+    let u = sent::unit_for(
+        sent::is_data(o) & !passed,
+        &words,
+        place,
+        &g.held.count,
+        &after,
+    );
+    let x = sent::sent_at(
         o,
         passed,
         u,
@@ -340,7 +156,7 @@ pub extern "C" fn m2ua_order<'a>(
     );
     let links = gateway::wide(g.links);
     let lent = received(kind, msg);
-    let shown = body(lent, hold, x.held, x.from, x.to);
+    let shown = sent::body(lent, hold, x.held, x.from, x.to);
     let size = part_size(x, lent, shown, &g.iid, &g.owner, links);
     if out.len() < size {
         return Written {
@@ -390,8 +206,8 @@ fn repeats(words: &[u32; 1544], place: usize, n: usize, passed: bool) -> bool
         return false;
     }
     alike(
-        action_at(words, place + n),
-        action_at(words, place + n - 1),
+        sent::action_at(words, place + n),
+        sent::action_at(words, place + n - 1),
         passed,
     )
 }
@@ -482,7 +298,7 @@ fn put_many<'a, 'b>(
 {
     let count = run.count;
     let place = run.place;
-    let mut d = data_before(words, place);
+    let mut d = sent::data_before(words, place);
     let mut n: usize = 0;
     let mut at: usize = 0;
     let mut size: usize = 0;
@@ -499,10 +315,10 @@ fn put_many<'a, 'b>(
                 length: at,
             };
         }
-        let o = action_at(words, place + n);
-        let i = index_at(list, d);
-        let x = sent_at(o, run.passed, i, tags, lengths, marks, correlations);
-        let shown = body(msg, hold, x.held, x.from, x.to);
+        let o = sent::action_at(words, place + n);
+        let i = sent::index_at(list, d);
+        let x = sent::sent_at(o, run.passed, i, tags, lengths, marks, correlations);
+        let shown = sent::body(msg, hold, x.held, x.from, x.to);
         let same = repeats(words, place, n, run.passed);
         size = next_size(same, size, x, msg, shown, iid, owner, run.links);
         if out.len() - at < size {
@@ -513,7 +329,7 @@ fn put_many<'a, 'b>(
         }
         put_next(same, x, size, msg, shown, iid, owner, run.links, out, at);
         lens[n] = size as u32;
-        d += gateway::unit(is_data(o));
+        d += gateway::unit(sent::is_data(o));
         at += size;
         n += 1;
     }
@@ -575,7 +391,7 @@ pub extern "C" fn m2ua_orders<'a>(
         links: gateway::wide(g.links),
     };
     let after = done.gateway.held.count;
-    let list = gone(&g.held.count, &after);
+    let list = sent::gone(&g.held.count, &after);
     let lent = received(kind, msg);
     let reached = put_many(
         run,

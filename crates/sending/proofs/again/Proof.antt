@@ -33,27 +33,9 @@ Inv-loop2 out₀ at size from block i j₀ out j = (j ≤ size) × (out ≡ over
 abbrev μ-loop2 : tie.MeasureT-loop2
 μ-loop2 out₀ at size from block i j₀ out j = size - j
 
-sub-from : tie.Need-sub-from Inv-loop μ-loop Inv-loop2 μ-loop2
-sub-from c = search needs
-
 loop-holds : tie.Need-loop-holds Inv-loop μ-loop Inv-loop2 μ-loop2
 unfolding overlay
 loop-holds c = (omega arith, refl, refl)
-
-add-block : tie.Need-add-block Inv-loop μ-loop Inv-loop2 μ-loop2
-add-block c = search needs
-
-slice-read-block : tie.Need-slice-read-block Inv-loop μ-loop Inv-loop2 μ-loop2
-slice-read-block c = omega arith
-
-array-write-block : tie.Need-array-write-block Inv-loop μ-loop Inv-loop2 μ-loop2
-array-write-block c = omega arith
-
-add-i : tie.Need-add-i Inv-loop μ-loop Inv-loop2 μ-loop2
-add-i c = search needs
-
-loop-less : tie.Need-loop-less Inv-loop μ-loop Inv-loop2 μ-loop2
-loop-less c = search needs
 
 loop-again : tie.Need-loop-again Inv-loop μ-loop Inv-loop2 μ-loop2
 loop-again c = let a = c .before .before .before .args in
@@ -73,20 +55,8 @@ loop2-holds c = let a = c .before .before .args in
     let e = rw (take-all (c .before .loop .i) v (omega (arith, n))) at (inv .2) in
     (omega arith, refl, ap length e ∙ length-over _ 0 v ∙ inv .1, rw e (take-over _ v (omega (arith, n, p .0, inv .1))))
 
-array-read-out : tie.Need-array-read-out Inv-loop μ-loop Inv-loop2 μ-loop2
-array-read-out c = omega arith
-
-add-out : tie.Need-add-out Inv-loop μ-loop Inv-loop2 μ-loop2
-add-out c = search needs
-
 slice-write-out : tie.Need-slice-write-out Inv-loop μ-loop Inv-loop2 μ-loop2
 slice-write-out c = rw (c .before .loop2 .inv .1, length-over) (omega arith)
-
-add-j : tie.Need-add-j Inv-loop μ-loop Inv-loop2 μ-loop2
-add-j c = search needs
-
-loop2-less : tie.Need-loop2-less Inv-loop μ-loop Inv-loop2 μ-loop2
-loop2-less c = search needs
 
 loop2-again : tie.Need-loop2-again Inv-loop μ-loop Inv-loop2 μ-loop2
 loop2-again c = let a = c .before .before .before .before .args in
@@ -110,24 +80,5 @@ pub again-spec : {M : Type 1} → statement M
 again-spec =
     tie.close
     (tie.spec
-    Inv-loop
-    μ-loop
-    Inv-loop2
-    μ-loop2
-    sub-from
-    loop-holds
-    add-block
-    slice-read-block
-    array-write-block
-    add-i
-    loop-less
-    loop-again
-    loop2-holds
-    array-read-out
-    add-out
-    slice-write-out
-    add-j
-    loop2-less
-    loop2-again
-    same-length
-    returns)
+    Inv-loop μ-loop Inv-loop2 μ-loop2 (λ c. search needs) loop-holds (λ c. search needs) (λ c. omega arith) (λ c. omega arith) (λ c. search needs) (λ c. search needs) loop-again loop2-holds (λ c. omega arith)
+    (λ c. search needs) slice-write-out (λ c. search needs) (λ c. search needs) loop2-again same-length returns)

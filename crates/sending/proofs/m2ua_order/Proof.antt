@@ -13,10 +13,11 @@ use Rattle.gateway.specs.declared.Gateway.{Gateway}
 use Rattle.rules.specs.Event.{EventKind}
 use Rattle.ask.specs.Happened.{happened}
 use Rattle.outgoing.specs.Send.{partAt}
-use Rattle.sending.specs.declared.Sent.{Sent}
-use Rattle.sending.specs.Inner.Words.{dataIn}
-use Rattle.sending.specs.Inner.Units.{goneList, index-small, if-small}
-use Rattle.sending.specs.Inner.Part.{heldOf, shown, partOf, Long, Lies, lies}
+use Rattle.sent.specs.declared.Sent.{Sent}
+use Rattle.sent.specs.Inner.Words.{dataIn}
+use Rattle.sent.specs.Inner.Units.{goneList, index-small, if-small}
+use Rattle.sent.specs.Inner.Made.{heldOf, shown, Long, Lies, lies}
+use Rattle.sending.specs.Inner.Part.{partOf}
 use Rattle.sending.specs.Inner.There.{part-small}
 use Rattle.sending.specs.Inner.Ran.{Ran, Found, found, no-101, ran, part-called, long-called, part-is, sends-refused, sends-beyond, sends-side, sends-short, sends-all}
 use borrow.Author.Needs.{needs}

@@ -13,9 +13,10 @@ use Rattle.laws.specs.Below.{one}
 use Rattle.laws.specs.Columns.{numberAt}
 use Rattle.action.specs.declared.Action.{Action}
 use Rattle.rules.specs.Sent.{isData}
-use Rattle.sending.specs.declared.Sent.{Sent}
-use Rattle.sending.specs.Inner.Words.{actionIn, dataIn, data-more, data-small}
-use Rattle.sending.specs.Inner.Part.{Lent, lentOf, heldOf, sentOf, indexIn, sentIn, shown, shownIn, Lies, lies, partOf, partIn, part-of}
+use Rattle.sent.specs.declared.Sent.{Sent}
+use Rattle.sent.specs.Inner.Words.{actionIn, dataIn, data-more, data-small}
+use Rattle.sent.specs.Inner.Made.{heldOf, sentOf, shown, Lies, lies}
+use Rattle.sending.specs.Inner.Part.{Lent, lentOf, indexIn, sentIn, shownIn, partOf, partIn, part-of}
 use Rattle.sending.specs.Inner.Alike.{repeats-part}
 use Rattle.sending.specs.Inner.Batch.{Filled, filled-none, filled-lens, filled-out, filled-more, filled-before, ends-all, ends-slots, ends-room}
 use borrow.Author.Needs.{needs}

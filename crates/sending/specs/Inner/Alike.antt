@@ -16,8 +16,8 @@ use Rattle.action.specs.Words.{linkSide}
 use Rattle.action.specs.Types.{userData}
 use Rattle.outgoing.specs.Inner.Form.{formPars, formOf, other-form, other-pars}
 use Rattle.outgoing.specs.declared.Unit.{Unit}
-use Rattle.sending.specs.declared.Sent.{Sent}
-use Rattle.sending.specs.Inner.Words.{actionIn}
+use Rattle.sent.specs.declared.Sent.{Sent}
+use Rattle.sent.specs.Inner.Words.{actionIn}
 use Rattle.sending.specs.Inner.Part.{Lent, formIn, partOf, sentIn, shownIn, partIn, part-of, asp-part}
 
 -- both go to an ASP, nothing but the ASP differs, and they send no unit

@@ -23,8 +23,8 @@ use Rattle.outgoing.specs.Send.{partAt, parts, partLengths, endsAt, fitting, ba
 use Rattle.outgoing.specs.declared.Batch.{Batch}
 use Rattle.outgoing.specs.Inner.Kinds.{lentBy, kinds}
 use Rattle.sending.specs.declared.Run.{Run}
-use Rattle.sending.specs.Inner.Words.{actionIn, dataIn}
-use Rattle.sending.specs.Inner.Units.{goneList, index-small}
+use Rattle.sent.specs.Inner.Words.{actionIn, dataIn}
+use Rattle.sent.specs.Inner.Units.{goneList, index-small}
 use Rattle.sending.specs.Inner.Part.{Lent, lentOf, partIn, Ready}
 use Rattle.sending.specs.Inner.There.{not-sent, part-small}
 use Rattle.sending.specs.Inner.Refusals.{refused-first, accepted-rest}

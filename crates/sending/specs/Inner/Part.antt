@@ -24,39 +24,11 @@ use Rattle.outgoing.specs.Message.{heldBody, sentPars, sentBytes}
 use Rattle.outgoing.specs.Inner.Form.{formPars, classOf, typeOf, formOf, unitOf, sent-form, form-cases, form-class, other-form, other-pars}
 use Rattle.outgoing.specs.declared.Form.{Form}
 use Rattle.sending.specs.declared.Run.{Run}
-use Rattle.sending.specs.declared.Sent.{Sent}
-use Rattle.sending.specs.Inner.Words.{actionIn, dataIn}
+use Rattle.sent.specs.declared.Sent.{Sent}
+use Rattle.sent.specs.Inner.Words.{actionIn, dataIn}
+use Rattle.sent.specs.Inner.Made.{heldOf, sentOf, shown, Long}
 
 -- ---- what is written for an action
-
--- it sends a unit held
-abbrev pub heldOf : Bool → Action → Bool
-heldOf passed o = isData o && not passed
-
--- the action with the unit at index i, of the columns of units
-abbrev pub sentOf : List ℕ → List ℕ → List ℕ → List ℕ → Bool → ℕ → Action → Sent
-sentOf tags lengths marks correlations passed i o =
-    record {
-      o = o;
-      passed = passed;
-      held = heldOf passed o;
-      from = cond (heldOf passed o) (i * 273) 0;
-      to = cond (heldOf passed o) (cond (heldOf passed o) (i * 273) 0 + numberAt lengths i - 4) (cond (heldOf passed o) (i * 273) 0);
-      unit = record { tag = numberAt tags i; marked = eqb (numberAt marks i) 1; correlation = numberAt correlations i };
-    }
-
-pub sent-is : (tags lengths marks correlations : List ℕ) (passed : Bool) (i : ℕ) (o : Action) (b : Bool) (from to : ℕ) → b ≡ heldOf passed o → from ≡ cond b (i * 273) 0 → to ≡ cond b (from + numberAt lengths i - 4) from
-    → _≡_ {A = Sent}
-    (record { o = o; passed = passed; held = b; from = from; to = to; unit = record { tag = numberAt tags i; marked = eqb (numberAt marks i) 1; correlation = numberAt correlations i } })
-    (sentOf tags lengths marks correlations passed i o)
-sent-is tags lengths marks correlations passed i o b from to e f t =
-    (λ y. record { o = o; passed = passed; held = b; from = from; to = t y; unit = record { tag = numberAt tags i; marked = eqb (numberAt marks i) 1; correlation = numberAt correlations i } })
-    ∙ (λ y. record { o = o; passed = passed; held = b; from = f y; to = cond b (f y + numberAt lengths i - 4) (f y); unit = record { tag = numberAt tags i; marked = eqb (numberAt marks i) 1; correlation = numberAt correlations i } })
-    ∙ (λ y. record { o = o; passed = passed; held = e y; from = cond (e y) (i * 273) 0; to = cond (e y) (cond (e y) (i * 273) 0 + numberAt lengths i - 4) (cond (e y) (i * 273) 0); unit = record { tag = numberAt tags i; marked = eqb (numberAt marks i) 1; correlation = numberAt correlations i } })
-
--- the data that its message shows, of the hold h or of the message s
-unfoldable pub shown : List ℕ → List ℕ → Sent → List ℕ
-shown s h x = cond (x .held) (take (x .to - x .from) (drop (x .from) h)) (take (x .to - x .from) (drop (x .from) s))
 
 abbrev pub formIn : Sent → Form
 formIn x = formOf (x .passed) (x .o) (x .unit)
@@ -121,11 +93,6 @@ pub part-of : (v : Lent) (j : ℕ) (x : Sent) (b : List ℕ) → j < v .run .cou
 unfolding partIn
 part-of v j x b h e q = rw (lt-ltb j (v .run .count) h) ((λ y. partOf (v .iid) (v .owner) (v .run .links) (v .msg) (q y) x) ∙ (λ y. partOf (v .iid) (v .owner) (v .run .links) (v .msg) (shownIn v (e y)) (e y)))
 
--- the length that the parameter of a unit has
-pub record Long (n : ℕ) : Type 0 where
-  pub least : 5 ≤ n
-  pub longest : n ≤ 277
-
 -- all that the loop asks for
 pub record Ready (v : Lent) : Type 0 where
   pub few : v .run .count ≤ 386
@@ -157,32 +124,6 @@ module _ (iid owner : List ℕ) (n : ℕ) (s body : List ℕ) (x : Sent) where
 
     pub asp-size : length (partOf iid owner n s body x) ≡ sizeOf (formPars iid owner n (walk s 8 .pars) body (formIn x))
     asp-size = ap length asp-part ∙ length-encode _ _ _
-
--- ---- where what is shown lies
-
--- a unit of a length that a unit has lies in the hold; where none is sent nothing is asked
-pub record Lies (s h : List ℕ) (x : Sent) : Type 0 where
-  pub forth : x .from ≤ x .to
-  pub inside : x .to ≤ length (cond (x .held) h s)
-  pub short : length (shown s h x) ≤ 273
-
-module _ (s h tags lengths marks correlations : List ℕ) (passed : Bool) (i : ℕ) (o : Action) where
-  pub lies : length h ≡ 34944 → i < 128 → (heldOf passed o ≡ true → Long (numberAt lengths i)) → Lies s h (sentOf tags lengths marks correlations passed i o)
-  unfolding shown
-  lies w l long = let p = go (heldOf passed o) refl in record { forth = p .0; inside = p .1; short = p .2 }
-    where
-      go : (b : Bool) → heldOf passed o ≡ b
-          → (cond b (i * 273) 0 ≤ cond b (cond b (i * 273) 0 + numberAt lengths i - 4) (cond b (i * 273) 0))
-          × (cond b (cond b (i * 273) 0 + numberAt lengths i - 4) (cond b (i * 273) 0) ≤ length (cond b h s))
-          × (length (cond b (take (cond b (cond b (i * 273) 0 + numberAt lengths i - 4) (cond b (i * 273) 0) - cond b (i * 273) 0) (drop (cond b (i * 273) 0) h)) (take (cond b (cond b (i * 273) 0 + numberAt lengths i - 4) (cond b (i * 273) 0) - cond b (i * 273) 0) (drop (cond b (i * 273) 0) s))) ≤ 273)
-      go true e =
-          let q = long e in
-          let a = q .least in
-          let b = q .longest in
-          let d = length-drop (i * 273) h in
-          let t = length-take-le (i * 273 + numberAt lengths i - 4 - i * 273) (drop (i * 273) h) (omega arith) in
-          (omega arith, omega arith, omega arith)
-      go false e = (omega arith, omega arith, omega arith)
 
 -- ---- what the message has
 

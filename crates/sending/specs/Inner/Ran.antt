@@ -26,9 +26,10 @@ use Rattle.action.specs.declared.Action.{Action}
 use Rattle.outgoing.specs.Inner.Kinds.{lentBy, kinds}
 use Rattle.rules.specs.Sent.{actionsOn, actionAt, isSent, gone, dataBefore, unitFor, isPassed}
 use Rattle.outgoing.specs.Send.{messageAt, sendCode, Sends, partAt}
-use Rattle.sending.specs.Inner.Words.{actionIn, action-in, dataIn, data-in}
-use Rattle.sending.specs.Inner.Units.{goneList, gone-at}
-use Rattle.sending.specs.Inner.Part.{heldOf, partFrom, Long}
+use Rattle.sent.specs.Inner.Words.{actionIn, action-in, dataIn, data-in}
+use Rattle.sent.specs.Inner.Units.{goneList, gone-at}
+use Rattle.sent.specs.Inner.Made.{heldOf, Long}
+use Rattle.sending.specs.Inner.Part.{partFrom}
 use Rattle.sending.specs.Inner.There.{is-sent, unit-long, part-there}
 use Rattle.sending.specs.Inner.Refusals.{refused-first, accepted-rest}
 

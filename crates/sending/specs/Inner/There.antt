@@ -23,7 +23,8 @@ use Rattle.releases.proofs.Releases.{every-unit}
 use Rattle.outgoing.specs.Send.{messageAt, partAt}
 use Rattle.readable.proofs.Readable.{every-short}
 use Rattle.readable.proofs.Held.{kept}
-use Rattle.sending.specs.Inner.Part.{heldOf, sentFrom, partFrom, to-side, sent-part, Long}
+use Rattle.sent.specs.Inner.Made.{heldOf, Long}
+use Rattle.sending.specs.Inner.Part.{sentFrom, partFrom, to-side, sent-part}
 
 -- a class that has a row is one byte
 class-small : (c : ℕ) → hasClass table c ≡ true → c < 256

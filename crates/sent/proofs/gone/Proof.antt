@@ -1,4 +1,4 @@
--- `sending::gone`: AS by AS. Assumes nothing.
+-- `sent::gone`: AS by AS. Assumes nothing.
 use Prim.Native.Nat.{ℕ, _-_, _≤_}
 use mathlib.Core.Path.{_≡_, sym, ap, _∙_}
 use native.Mathlib.Omega.{arith}
@@ -7,10 +7,10 @@ use Rattle.laws.specs.Columns.{numberAt}
 use Rattle.put.specs.Bytes.{overlay}
 use Rattle.select.specs.Inner.Picks.{PutBytes}
 use Rattle.select.proofs.Runs.{run-none, run-two, put-length}
-use Rattle.sending.specs.Inner.Units.{zeros, length-zeros, goneRow, goneRows, goneList, rows-none, rows-more, rows-short}
+use Rattle.sent.specs.Inner.Units.{zeros, length-zeros, goneRow, goneRows, goneList, rows-none, rows-more, rows-short}
 use borrow.Author.Needs.{needs}
-use Rattle.sending.proofs.gone.Statement.{statement}
-use Rattle.sending.proofs.gone.Tie as tie
+use Rattle.sent.proofs.gone.Statement.{statement}
+use Rattle.sent.proofs.gone.Tie as tie
 
 abbrev Inv-loop : tie.InvT-loop
 Inv-loop before after list₀ n₀ a₀ list n a = PutBytes zeros 0 (goneRows before after a) n list × (a ≤ 16)

@@ -1,4 +1,4 @@
--- `sending::add_row`: unit by unit. Assumes nothing.
+-- `sent::add_row`: unit by unit. Assumes nothing.
 use Prim.Native.Nat.{_-_, _≤_}
 use mathlib.Core.Path.{_≡_, sym, _∙_}
 use native.Mathlib.Omega.{arith}
@@ -8,10 +8,10 @@ use Rattle.laws.specs.Below.{when}
 use Rattle.gateway.specs.Sound.{unitIndex}
 use Rattle.select.specs.Inner.Picks.{PutBytes}
 use Rattle.select.proofs.Runs.{run-none, run-two, put-length}
-use Rattle.sending.specs.Inner.Units.{rowTo, goneRow, row-none, row-more, row-empty, row-length}
+use Rattle.sent.specs.Inner.Units.{rowTo, goneRow, row-none, row-more, row-empty, row-length}
 use borrow.Author.Needs.{needs}
-use Rattle.sending.proofs.add_row.Statement.{statement}
-use Rattle.sending.proofs.add_row.Tie as tie
+use Rattle.sent.proofs.add_row.Statement.{statement}
+use Rattle.sent.proofs.add_row.Tie as tie
 
 abbrev Inv-loop : tie.InvT-loop
 Inv-loop list₀ n a before after at₀ k₀ list at k = PutBytes list₀ n (rowTo before after a k) at list × (k ≤ 8)

@@ -1,10 +1,10 @@
--- `sending::start_if`: so many places of 273 bytes. Assumes nothing.
+-- `sent::start_if`: so many places of 273 bytes. Assumes nothing.
 use mathlib.Core.Path.{refl}
 use native.Mathlib.Omega.{arith}
 use Rattle.laws.specs.Inner.Choice.{at-yes, at-no}
 use borrow.Author.Needs.{needs}
-use Rattle.sending.proofs.start_if.Statement.{statement}
-use Rattle.sending.proofs.start_if.Tie as tie
+use Rattle.sent.proofs.start_if.Statement.{statement}
+use Rattle.sent.proofs.start_if.Tie as tie
 
 returns : tie.Need-returns
 returns c = (at-yes _ _ _ (c .if1 .taken) refl, omega arith)

@@ -1,9 +1,9 @@
--- `sending::action_at`: the four words. Assumes nothing.
+-- `sent::action_at`: the four words. Assumes nothing.
 use mathlib.Core.Path.{refl}
-use Rattle.sending.specs.Inner.Words.{actionIn}
+use Rattle.sent.specs.Inner.Words.{actionIn}
 use borrow.Author.Needs.{needs}
-use Rattle.sending.proofs.action_at.Statement.{statement}
-use Rattle.sending.proofs.action_at.Tie as tie
+use Rattle.sent.proofs.action_at.Statement.{statement}
+use Rattle.sent.proofs.action_at.Tie as tie
 
 mul-at : tie.Need-mul-at
 mul-at c = search needs

@@ -1,8 +1,8 @@
--- `sending::is_data`: the two tests. Assumes nothing.
+-- `sent::is_data`: the two tests. Assumes nothing.
 use mathlib.Core.Path.{refl}
 use Rattle.rules.specs.Sent.{isData}
-use Rattle.sending.proofs.is_data.Statement.{statement}
-use Rattle.sending.proofs.is_data.Tie as tie
+use Rattle.sent.proofs.is_data.Statement.{statement}
+use Rattle.sent.proofs.is_data.Tie as tie
 
 returns : tie.Need-returns
 unfolding isData

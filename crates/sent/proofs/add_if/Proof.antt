@@ -1,10 +1,10 @@
--- `sending::add_if`: one store, or none. Assumes nothing.
+-- `sent::add_if`: one store, or none. Assumes nothing.
 use mathlib.Core.Path.{refl}
 use Rattle.put.specs.Bytes.{overlay}
 use Rattle.select.proofs.Runs.{run-none}
 use borrow.Author.Needs.{needs}
-use Rattle.sending.proofs.add_if.Statement.{statement}
-use Rattle.sending.proofs.add_if.Tie as tie
+use Rattle.sent.proofs.add_if.Statement.{statement}
+use Rattle.sent.proofs.add_if.Tie as tie
 
 returns : tie.Need-returns
 unfolding overlay

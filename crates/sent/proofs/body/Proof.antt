@@ -1,10 +1,10 @@
--- `sending::body`: a part of the one slice, or of the other. Assumes nothing.
+-- `sent::body`: a part of the one slice, or of the other. Assumes nothing.
 use mathlib.Core.Path.{refl}
 use native.Mathlib.Omega.{arith}
 use Rattle.laws.specs.Inner.Choice.{at-yes, at-no}
 use borrow.Author.Needs.{needs}
-use Rattle.sending.proofs.body.Statement.{statement}
-use Rattle.sending.proofs.body.Tie as tie
+use Rattle.sent.proofs.body.Statement.{statement}
+use Rattle.sent.proofs.body.Tie as tie
 
 part-result-end : tie.Need-part-result-end
 part-result-end c = rw (c .if1 .taken) at (c .before .pre .1)

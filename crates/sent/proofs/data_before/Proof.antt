@@ -1,12 +1,12 @@
--- `sending::data_before`: one count more for each. Assumes nothing.
+-- `sent::data_before`: one count more for each. Assumes nothing.
 use Prim.Native.Nat.{_-_, _≤_}
 use mathlib.Core.Path.{_≡_, sym}
 use native.Mathlib.Omega.{arith}
 use Rattle.laws.specs.Inner.Below.{at-end}
-use Rattle.sending.specs.Inner.Words.{dataIn, data-none, data-more}
+use Rattle.sent.specs.Inner.Words.{dataIn, data-none, data-more}
 use borrow.Author.Needs.{needs}
-use Rattle.sending.proofs.data_before.Statement.{statement}
-use Rattle.sending.proofs.data_before.Tie as tie
+use Rattle.sent.proofs.data_before.Statement.{statement}
+use Rattle.sent.proofs.data_before.Tie as tie
 
 abbrev Inv-loop : tie.InvT-loop
 Inv-loop words n d₀ m₀ d m = (d ≡ dataIn words m) × (d ≤ m) × (m ≤ n) × (n ≤ 386)

@@ -1,10 +1,10 @@
--- `sending::stop_if`: the parameter's bytes but for its head. Assumes nothing.
+-- `sent::stop_if`: the parameter's bytes but for its head. Assumes nothing.
 use mathlib.Core.Path.{refl}
 use native.Mathlib.Omega.{arith}
 use Rattle.laws.specs.Inner.Choice.{at-yes, at-no}
 use borrow.Author.Needs.{needs}
-use Rattle.sending.proofs.stop_if.Statement.{statement}
-use Rattle.sending.proofs.stop_if.Tie as tie
+use Rattle.sent.proofs.stop_if.Statement.{statement}
+use Rattle.sent.proofs.stop_if.Tie as tie
 
 sub-result : tie.Need-sub-result
 sub-result c = omega (arith, c .before .pre .1 (c .if1 .taken))

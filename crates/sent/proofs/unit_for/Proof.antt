@@ -1,10 +1,10 @@
--- `sending::unit_for`: of the list, the index at the number of Data before. Assumes nothing.
+-- `sent::unit_for`: of the list, the index at the number of Data before. Assumes nothing.
 use mathlib.Core.Path.{_∙_, sym}
 use Rattle.laws.specs.Columns.{numberAt}
 use Rattle.laws.specs.Inner.Choice.{at-yes}
 use borrow.Author.Needs.{needs}
-use Rattle.sending.proofs.unit_for.Statement.{statement}
-use Rattle.sending.proofs.unit_for.Tie as tie
+use Rattle.sent.proofs.unit_for.Statement.{statement}
+use Rattle.sent.proofs.unit_for.Tie as tie
 
 returns : tie.Need-returns
 returns c = at-yes _ _ _ (c .before .before .before .before .if1 .taken) (c .index-at .ensures ∙ (λ y. numberAt (c .before .before .before .gone .ensures y) (c .before .data-before .ensures y)))

@@ -1,10 +1,10 @@
--- `sending::index_at`: the element, and 0 beyond the list. Assumes nothing.
+-- `sent::index_at`: the element, and 0 beyond the list. Assumes nothing.
 use mathlib.Core.Path.{_≡_, sym}
 use native.Mathlib.Omega.{arith}
 use lib.ListN.{length, List·getD-eq-default}
 use borrow.Author.Needs.{needs}
-use Rattle.sending.proofs.index_at.Statement.{statement}
-use Rattle.sending.proofs.index_at.Tie as tie
+use Rattle.sent.proofs.index_at.Statement.{statement}
+use Rattle.sent.proofs.index_at.Tie as tie
 
 returns-2 : tie.Need-returns-2
 returns-2 c = sym (List·getD-eq-default (c .before .before .args .list .now) 0 (omega arith))

@@ -1,10 +1,10 @@
--- `sending::sent_at`: the record, field by field. Assumes nothing.
+-- `sent::sent_at`: the record, field by field. Assumes nothing.
 use mathlib.Core.Path.{_≡_, sym, ap, _∙_}
 use mathlib.Core.Bool.{Bool, not, _&&_}
-use Rattle.sending.specs.Inner.Part.{sent-is}
+use Rattle.sent.specs.Inner.Made.{sent-is}
 use borrow.Author.Needs.{needs}
-use Rattle.sending.proofs.sent_at.Statement.{statement}
-use Rattle.sending.proofs.sent_at.Tie as tie
+use Rattle.sent.proofs.sent_at.Statement.{statement}
+use Rattle.sent.proofs.sent_at.Tie as tie
 
 stop-if-requires : tie.Need-stop-if-requires
 stop-if-requires c κs = (search needs, λ t. c .before .before .before .pre .1 (ap (λ (b : Bool). b && not (c .before .before .before .args .passed)) (sym (c .before .before .is-data .ensures)) ∙ t))

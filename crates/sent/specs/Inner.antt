@@ -1,0 +1,3 @@
+pub mod Words
+pub mod Units
+pub mod Made
