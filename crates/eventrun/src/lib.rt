@@ -72,11 +72,11 @@ fn number(kind: EventKind) -> u32
 }
 
 // One of its actions as bytes.
-pub fn written_by(
+pub fn written_by<'a>(
     kind: EventKind,
     index: u32,
-    msg: &[u8],
-    hold: &[u8],
+    msg: &'a [u8],
+    hold: &'a [u8],
     place: u32,
     out: &mut [u8],
     g: Gateway,

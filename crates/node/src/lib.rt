@@ -110,11 +110,11 @@ impl Node {
     // ---- one action of an event as bytes (Rule 8.15)
 
     // Of a message of ASP p.
-    pub fn message_order(
+    pub fn message_order<'a>(
         self,
         p: usize,
-        msg: &[u8],
-        hold: &[u8],
+        msg: &'a [u8],
+        hold: &'a [u8],
         place: usize,
         out: &mut [u8],
     ) -> Written
@@ -152,10 +152,10 @@ impl Node {
     }
 
     // Of a message of the link side.
-    pub fn link_message_order(
+    pub fn link_message_order<'a>(
         self,
-        msg: &[u8],
-        hold: &[u8],
+        msg: &'a [u8],
+        hold: &'a [u8],
         place: usize,
         out: &mut [u8],
     ) -> Written
