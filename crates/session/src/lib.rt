@@ -270,11 +270,11 @@ fn shown(w: Written, message: &[u8; 8192], out: &mut [u8; 65536], s: State) -> S
 }
 
 // The action with a hold of so many bytes, as an event's.
-fn write_with(
+fn write_with<'a>(
     e: Event,
     place: u32,
-    msg: &[u8],
-    hold: &[u8; 34944],
+    msg: &'a [u8],
+    hold: &'a [u8; 34944],
     size: usize,
     out: &mut [u8],
     g: Gateway,
@@ -288,12 +288,12 @@ fn write_with(
 }
 
 // An action of an event as bytes; the gateway stays as it is.
-fn show_bytes(
+fn show_bytes<'a>(
     e: Event,
     place: u32,
     room: u32,
-    bytes: &[u8; 32768],
-    hold: &[u8; 34944],
+    bytes: &'a [u8; 32768],
+    hold: &'a [u8; 34944],
     out: &mut [u8; 65536],
     s: State,
 ) -> State
