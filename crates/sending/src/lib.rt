@@ -7,7 +7,6 @@ use gateway::Gateway;
 use outgoing::Batch;
 use sent::Sent;
 ghost use mathlib.Core.Path.{_≡_};
-ghost use mathlib.Core.Bool.{true};
 ghost use Prim.Native.Nat.{_+_, _-_, _<_, _≤_};
 ghost use lib.Dec.{leb};
 ghost use lib.ListN.{length, take, drop};
@@ -15,9 +14,9 @@ ghost use Rattle.put.specs.Bytes.{overlay};
 ghost use Rattle.ask.specs.Happened.{happened};
 ghost use Rattle.outgoing.specs.Send.{Sends, SendsMany};
 ghost use Rattle.outgoing.specs.Inner.Kinds.{lentBy};
-ghost use Rattle.sending.specs.Inner.Part.{partOf, lentOf, partIn, Ready};
+ghost use Rattle.sending.specs.Inner.Part.{partOf, partMade, PutIf, Fits, lentOf, partIn, Ready};
 ghost use Rattle.sending.specs.Inner.Alike.{areAlike, repeatsIn};
-ghost use Rattle.sending.specs.Inner.Batch.{Ended, StandsBefore};
+ghost use Rattle.sending.specs.Inner.Batch.{Ended};
 ghost use Rattle.sending.specs.Inner.Many.{batchOf};
 
 // A buffer that is short; no action at the place that goes to an ASP.
@@ -100,6 +99,42 @@ fn put_part<'a>(
     );
 }
 
+// An action whose message is made: its unit's index, whether it passes the received message on, how many links there are, and where it goes.
+pub struct Turn {
+    pub o: Action,
+    pub index: usize,
+    pub passed: bool,
+    pub links: usize,
+    pub at: usize,
+}
+
+// What is written for an action, where it goes in; the bytes that it has.
+fn put_new<'a, 'b>(
+    t: Turn,
+    msg: &'b [u8],
+    hold: &'b [u8],
+    iid: &'a [u32; 128],
+    owner: &'a [u8; 128],
+    tags: &'a [u16; 128],
+    lengths: &'a [u16; 128],
+    marks: &'a [u16; 128],
+    correlations: &'a [u32; 128],
+    out: &mut [u8],
+) -> usize
+    requires { ⌜ Fits (now iid) (now owner) (now tags) (now lengths) (now marks) (now correlations) t (now msg) (now hold) (now out) ⌝ }
+    ensures { λ r. ⌜ PutIf (now (out .entry)) (t .at) (partMade (now (iid .entry)) (now (owner .entry)) (now (tags .entry)) (now (lengths .entry)) (now (marks .entry)) (now (correlations .entry)) (t .links) (now (msg .entry)) (now (hold .entry)) (t .passed) (t .index) (t .o)) r (now (out .exit)) ⌝ }
+{
+    let o = t.o;
+    let x = sent::sent_at(o, t.passed, t.index, tags, lengths, marks, correlations);
+    let shown = sent::body(msg, hold, x.held, x.from, x.to);
+    let size = part_size(x, msg, shown, iid, owner, t.links);
+    if out.len() - t.at < size {
+        return size;
+    }
+    put_part(x, size, msg, shown, iid, owner, t.links, out, t.at);
+    size
+}
+
 // The message of the action at a place of an event's actions, written at a buffer's start (Rule 8.15). The event is run with a list of words of its own; of the hold,
 // which only a unit that comes in changes, it is lent nothing.
 #[no_mangle]
@@ -145,26 +180,32 @@ pub extern "C" fn m2ua_order<'a>(
         &g.held.count,
         &after,
     );
-    let x = sent::sent_at(
+    let turn = Turn {
         o,
+        index: u,
         passed,
-        u,
+        links: gateway::wide(g.links),
+        at: 0,
+    };
+    let lent = received(kind, msg);
+    let size = put_new(
+        turn,
+        lent,
+        hold,
+        &g.iid,
+        &g.owner,
         &g.held.tag,
         &g.held.length,
         &g.held.marked,
         &g.held.correlation,
+        out,
     );
-    let links = gateway::wide(g.links);
-    let lent = received(kind, msg);
-    let shown = sent::body(lent, hold, x.held, x.from, x.to);
-    let size = part_size(x, lent, shown, &g.iid, &g.owner, links);
     if out.len() < size {
         return Written {
             code: SHORT_BUFFER,
             length: 0,
         };
     }
-    put_part(x, size, lent, shown, &g.iid, &g.owner, links, out, 0);
     Written {
         code: 0,
         length: size,
@@ -231,47 +272,16 @@ fn again(out: &mut [u8], at: usize, size: usize)
     }
 }
 
-// How many bytes are written for an action: as many as the last time, where it has the same message.
-fn next_size<'a>(
-    same: bool,
-    last: usize,
-    x: Sent,
-    msg: &[u8],
-    body: &[u8],
-    iid: &'a [u32; 128],
-    owner: &'a [u8; 128],
-    links: usize,
-) -> usize
-    requires { ⌜ (links ≤ 128) × (length (now body) ≤ 273) × (length (partOf (now iid) (now owner) links (now msg) (now body) x) ≤ 2048) × (same ≡ true → last ≡ length (partOf (now iid) (now owner) links (now msg) (now body) x)) ⌝ }
-    ensures { λ r. ⌜ r ≡ length (partOf (now (iid .entry)) (now (owner .entry)) links (now (msg .entry)) (now (body .entry)) x) ⌝ }
+// The same, where they go in; how many they are.
+fn put_again(out: &mut [u8], at: usize, size: usize) -> usize
+    requires { ⌜ (size ≤ 2048) × (size ≤ at) × (at ≤ length (now out)) ⌝ }
+    ensures { λ r. ⌜ PutIf (now (out .entry)) at (take size (drop (at - size) (now (out .entry)))) r (now (out .exit)) ⌝ }
 {
-    if same {
-        return last;
+    if out.len() - at < size {
+        return size;
     }
-    part_size(x, msg, body, iid, owner, links)
-}
-
-// What is written for an action, at a position: where it has the same message as the last time, the bytes before.
-fn put_next<'a>(
-    same: bool,
-    x: Sent,
-    size: usize,
-    msg: &[u8],
-    body: &[u8],
-    iid: &'a [u32; 128],
-    owner: &'a [u8; 128],
-    links: usize,
-    out: &mut [u8],
-    at: usize,
-)
-    requires { ⌜ (links ≤ 128) × (length (now body) ≤ 273) × (size ≡ length (partOf (now iid) (now owner) links (now msg) (now body) x)) × (size ≤ 2048) × (at + size ≤ length (now out)) × (same ≡ true → StandsBefore (now out) at (partOf (now iid) (now owner) links (now msg) (now body) x)) ⌝ }
-    ensures { λ _. ⌜ now (out .exit) ≡ overlay (now (out .entry)) at (partOf (now (iid .entry)) (now (owner .entry)) links (now (msg .entry)) (now (body .entry)) x) ⌝ }
-{
-    if same {
-        again(out, at, size);
-        return;
-    }
-    put_part(x, size, msg, body, iid, owner, links, out, at);
+    again(out, at, size);
+    size
 }
 
 // From a place on what is written for each action, one behind the other, and its length: up to the last action, the last length of the list, or the first message
@@ -316,18 +326,35 @@ fn put_many<'a, 'b>(
             };
         }
         let o = sent::action_at(words, place + n);
-        let i = sent::index_at(list, d);
-        let x = sent::sent_at(o, run.passed, i, tags, lengths, marks, correlations);
-        let shown = sent::body(msg, hold, x.held, x.from, x.to);
-        let same = repeats(words, place, n, run.passed);
-        size = next_size(same, size, x, msg, shown, iid, owner, run.links);
+        if repeats(words, place, n, run.passed) {
+            size = put_again(out, at, size);
+        } else {
+            let turn = Turn {
+                o,
+                index: sent::index_at(list, d),
+                passed: run.passed,
+                links: run.links,
+                at,
+            };
+            size = put_new(
+                turn,
+                msg,
+                hold,
+                iid,
+                owner,
+                tags,
+                lengths,
+                marks,
+                correlations,
+                out,
+            );
+        }
         if out.len() - at < size {
             return Reached {
                 count: n,
                 length: at,
             };
         }
-        put_next(same, x, size, msg, shown, iid, owner, run.links, out, at);
         lens[n] = size as u32;
         d += gateway::unit(sent::is_data(o));
         at += size;

@@ -10,7 +10,7 @@ use borrow.Author.Tests.{ne-eqb}
 use Rattle.wire.specs.Walk.{walk}
 use Rattle.gateway.specs.declared.Gateway.{Gateway}
 use Rattle.action.specs.declared.Action.{Action}
-use Rattle.ask.specs.Happened.{messageKind, lostKind, recoveryKind, linkUpKind, linkDownKind, linkMessageKind, happened}
+use Rattle.ask.specs.Happened.{messageKind, linkMessageKind, happened}
 use Rattle.rules.specs.Event.{messageOf}
 use Rattle.rules.specs.Sent.{isPassed}
 use Rattle.outgoing.specs.Message.{heldBody, sentPars}

@@ -1,7 +1,5 @@
 -- `sending::m2ua_orders`: the event's refusal, 104, or what the loop wrote. Assumes nothing.
-use mathlib.Core.Path.{_≡_, refl, sym, ap, _∙_}
-use mathlib.Core.List.{List}
-use Prim.Native.Nat.{ℕ}
+use mathlib.Core.Path.{refl}
 use Rattle.gateway.specs.Inner.Laws.{counts-within}
 use Rattle.rules.specs.Event.{EventKind}
 use Rattle.ask.specs.Happened.{happened}

@@ -1,8 +1,6 @@
 -- `sending::part_size`: nothing for the link side, else the message's length. Assumes nothing.
-use Prim.Native.Nat.{ℕ, _≤_}
-use mathlib.Core.Path.{_≡_, sym, ap, _∙_}
+use mathlib.Core.Path.{sym, _∙_}
 use native.Mathlib.Omega.{arith}
-use Rattle.encode.specs.Encode.{sizeOf}
 use Rattle.sending.specs.Inner.Part.{side-size, asp-size}
 use borrow.Author.Needs.{needs}
 use Rattle.sending.proofs.part_size.Statement.{statement}

@@ -1,9 +1,7 @@
 -- `sending::put_part`: nothing for the link side, else the message. Assumes nothing.
-use Prim.Native.Nat.{ℕ, _≤_}
-use mathlib.Core.Path.{_≡_, sym, ap, _∙_}
+use mathlib.Core.Path.{sym, ap, _∙_}
 use native.Mathlib.Omega.{arith}
 use Rattle.put.specs.Bytes.{overlay}
-use Rattle.put.proofs.Sets.{length-over}
 use Rattle.sending.specs.Inner.Part.{side-put, asp-part, asp-size}
 use borrow.Author.Needs.{needs}
 use Rattle.sending.proofs.put_part.Statement.{statement}

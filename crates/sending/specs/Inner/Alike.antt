@@ -18,7 +18,8 @@ use Rattle.outgoing.specs.Inner.Form.{formPars, formOf, other-form, other-pars}
 use Rattle.outgoing.specs.declared.Unit.{Unit}
 use Rattle.sent.specs.declared.Sent.{Sent}
 use Rattle.sent.specs.Inner.Words.{actionIn}
-use Rattle.sending.specs.Inner.Part.{Lent, formIn, partOf, sentIn, shownIn, partIn, part-of, asp-part}
+use Rattle.sent.specs.Inner.Made.{sentOf}
+use Rattle.sending.specs.Inner.Part.{Lent, formIn, partOf, indexIn, partIn, part-of, asp-part}
 
 -- both go to an ASP, nothing but the ASP differs, and they send no unit
 unfoldable pub areAlike : Bool → Action → Action → Bool
@@ -73,6 +74,9 @@ pub repeats-part : (v : Lent) (m : ℕ) → v .run .place + m < v .run .count �
 unfolding repeatsIn
 repeats-part v m l h = go (ℕ-discrete m 0)
   where
+    sentIn : ℕ → Sent
+    sentIn j = sentOf (v .tags) (v .lengths) (v .marks) (v .correlations) (v .run .passed) (indexIn v j) (actionIn (v .words) j)
+
     go : Dec (m ≡ 0) → (0 < m) × (partIn v (v .run .place + m) ≡ partIn v (v .run .place + (m - 1)))
     go (yes z) = absurd (false≢true (rw (eq-eqb m 0 z) at h))
     go (no z) =
@@ -80,7 +84,7 @@ repeats-part v m l h = go (ℕ-discrete m 0)
         let j = v .run .place + m in
         let k = v .run .place + (m - 1) in (
           omega arith,
-          sym (part-of v j (sentIn v j) (shownIn v (sentIn v j)) l refl refl)
-              ∙ alike-part (v .iid) (v .owner) (v .run .links) (v .msg) (shownIn v (sentIn v j)) (shownIn v (sentIn v k)) (sentIn v j) (sentIn v k) refl (rw (ne-eqb m 0 z, q) at h)
-              ∙ part-of v k (sentIn v k) (shownIn v (sentIn v k)) (omega arith) refl refl,
+          sym (part-of v j _ _ l refl refl)
+              ∙ alike-part (v .iid) (v .owner) (v .run .links) (v .msg) _ _ (sentIn j) (sentIn k) refl (rw (ne-eqb m 0 z, q) at h)
+              ∙ part-of v k _ _ (omega arith) refl refl,
         )

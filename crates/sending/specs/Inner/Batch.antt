@@ -1,6 +1,6 @@
 -- A loop that writes parts one behind the other, as many as go in, and the length of each.
 -- Assumes nothing.
-use Prim.Native.Nat.{ℕ, suc, _+_, _-_, _<_, _≤_}
+use Prim.Native.Nat.{ℕ, _+_, _-_, _<_, _≤_}
 use mathlib.Core.Path.{_≡_, refl, ap, sym, _∙_}
 use mathlib.Core.Bool.{Bool, true, false, _||_}
 use mathlib.Core.List.{List, [], _∷_, _++_, append-assoc}
@@ -13,7 +13,7 @@ use native.Mathlib.Decide.{decLt}
 use borrow.Author.Tests.{lt-leb, le-leb, lt-ltb, le-ltb}
 use Rattle.laws.specs.Below.{concatBelow, firstBelow}
 use Rattle.laws.specs.Columns.{tabulate}
-use Rattle.laws.specs.Inner.Below.{concat-none, concat-more, first-none, first-more, first-at}
+use Rattle.laws.specs.Inner.Below.{concat-more, first-more, first-at}
 use Rattle.laws.specs.Inner.Columns.{length-tabulate}
 use Rattle.put.specs.Bytes.{overlay}
 use Rattle.put.proofs.Sets.{over-append, over-two, length-over}
@@ -77,6 +77,10 @@ module _ {part : ℕ → List ℕ} {all : ℕ → Bool} {lens₀ out₀ : List �
         goes-in = c;
         none = first-more (endsIn part all (length lens₀) (length out₀)) n (h .none) (rw (a, lt-leb (length lens₀) n b, longer, le-ltb (length out₀) (at + length (part n)) c));
       }
+
+  -- the buffer under another name
+  pub filled-as : (out′ : List ℕ) → out′ ≡ out → Filled part all lens₀ out₀ n at lens out′
+  filled-as out′ e = record { at-is = h .at-is; lens-are = h .lens-are; out-is = e ∙ h .out-is; goes-in = h .goes-in; none = h .none }
 
   -- the part before stands there
   pub filled-before : (p : List ℕ) → 0 < n → p ≡ part (n - 1) → StandsBefore out at p

@@ -2,15 +2,15 @@
 -- Assumes nothing.
 use Prim.Native.Nat.{ℕ, _+_, _<_, _≤_}
 use mathlib.Core.Path.{_≡_, refl, sym, ap, _∙_, subst}
-use mathlib.Core.Bool.{Bool, true, false, cond, not, _||_}
-use mathlib.Core.List.{List, []}
+use mathlib.Core.Bool.{cond}
+use mathlib.Core.List.{List}
 use native.Mathlib.Omega.{arith}
 use native.Mathlib.Decide.{ℕ-discrete, decLt}
-use lib.Dec.{eqb, ltb, leb}
+use lib.Dec.{eqb, leb}
 use lib.ListN.{length}
 use borrow.Author.Tests.{eq-eqb, ne-eqb, le-leb, lt-leb, lt-ltb, le-ltb}
 use Rattle.laws.specs.Choice.{_orElse_, _if_}
-use Rattle.laws.specs.Below.{concatBelow, firstBelow}
+use Rattle.laws.specs.Below.{concatBelow}
 use Rattle.laws.specs.Columns.{numberAt, tabulate}
 use Rattle.put.specs.Bytes.{overlay}
 use Rattle.gateway.specs.Sound.{isSound}
@@ -18,17 +18,16 @@ use Rattle.gateway.specs.declared.Gateway.{Gateway}
 use Rattle.rules.specs.Event.{EventKind}
 use Rattle.rules.specs.Rules.{inPlan, refusalOf, leastRoom}
 use Rattle.ask.specs.Happened.{happened}
-use Rattle.rules.specs.Sent.{actionsOn, isSent, isPassed}
+use Rattle.rules.specs.Sent.{actionsOn, isSent}
 use Rattle.outgoing.specs.Send.{partAt, parts, partLengths, endsAt, fitting, batchCode, SendsMany}
 use Rattle.outgoing.specs.declared.Batch.{Batch}
-use Rattle.outgoing.specs.Inner.Kinds.{lentBy, kinds}
-use Rattle.sending.specs.declared.Run.{Run}
-use Rattle.sent.specs.Inner.Words.{actionIn, dataIn}
+use Rattle.outgoing.specs.Inner.Kinds.{lentBy}
+use Rattle.sent.specs.Inner.Words.{dataIn}
 use Rattle.sent.specs.Inner.Units.{goneList, index-small}
 use Rattle.sending.specs.Inner.Part.{Lent, lentOf, partIn, Ready}
 use Rattle.sending.specs.Inner.There.{not-sent, part-small}
 use Rattle.sending.specs.Inner.Refusals.{refused-first, accepted-rest}
-use Rattle.sending.specs.Inner.Batch.{Filled, Ended, endsIn, ends}
+use Rattle.sending.specs.Inner.Batch.{Ended, endsIn, ends}
 use Rattle.sending.specs.Inner.Ran.{Ran, part-called, long-called}
 
 -- what is handed back of n actions and so many bytes: 103 where there is none

@@ -2,16 +2,17 @@
 -- Assumes nothing.
 use Prim.Native.Nat.{ℕ, _+_, _-_, _*_, _/_, _%_, _<_, _≤_}
 use mathlib.Core.Path.{_≡_, refl, sym, ap, _∙_}
-use mathlib.Core.Bool.{Bool, true, false, cond, not, _&&_, false≢true}
+use mathlib.Core.Bool.{Bool, true, false, cond, not, _&&_}
 use mathlib.Core.List.{List, []}
 use native.Mathlib.Omega.{arith}
 use lib.Dec.{eqb, ltb}
-use lib.ListN.{length, take, drop, length-drop}
-use lib.Seq.{length-take-le}
-use borrow.Author.Tests.{eq-eqb, ne-eqb, lt-ltb}
+use lib.ListN.{length}
+use borrow.Author.Tests.{eq-eqb, ne-eqb, lt-ltb, le-ltb}
 use Rattle.laws.specs.Columns.{numberAt}
+use Rattle.laws.specs.Inner.Choice.{at-lt, at-ge}
 use Rattle.wire.specs.Walk.{Par, walk}
 use Rattle.put.specs.Bytes.{overlay}
+use Rattle.put.proofs.Sets.{length-over}
 use Rattle.encode.specs.Encode.{sizeOf, encode}
 use Rattle.encode.proofs.Verdicts.{length-encode}
 use Rattle.gateway.specs.declared.Gateway.{Gateway}
@@ -24,6 +25,7 @@ use Rattle.outgoing.specs.Message.{heldBody, sentPars, sentBytes}
 use Rattle.outgoing.specs.Inner.Form.{formPars, classOf, typeOf, formOf, unitOf, sent-form, form-cases, form-class, other-form, other-pars}
 use Rattle.outgoing.specs.declared.Form.{Form}
 use Rattle.sending.specs.declared.Run.{Run}
+use Rattle.sending.specs.declared.Turn.{Turn}
 use Rattle.sent.specs.declared.Sent.{Sent}
 use Rattle.sent.specs.Inner.Words.{actionIn, dataIn}
 use Rattle.sent.specs.Inner.Made.{heldOf, sentOf, shown, Long}
@@ -37,12 +39,57 @@ unfoldable pub partOf : List ℕ → List ℕ → ℕ → List ℕ → List ℕ 
 partOf iid owner n s body x =
     cond (eqb (x .o .to) linkSide) [] (encode (formIn x .class) (formIn x .msgtype) (formPars iid owner n (walk s 8 .pars) body (formIn x)))
 
+-- of the columns of links and units: n links, the message s, the hold h, and the action o with the unit at index i
+abbrev pub partMade : List ℕ → List ℕ → List ℕ → List ℕ → List ℕ → List ℕ → ℕ → List ℕ → List ℕ → Bool → ℕ → Action → List ℕ
+partMade iid owner tags lengths marks correlations n s h passed i o =
+    partOf iid owner n s (shown s h (sentOf tags lengths marks correlations passed i o)) (sentOf tags lengths marks correlations passed i o)
+
 -- of the state g with the hold h: n links, the message s, and the action o with the unit at index i
 abbrev pub sentFrom : Gateway → Bool → ℕ → Action → Sent
 sentFrom g passed i o = sentOf (g .held .tag) (g .held .length) (g .held .marked) (g .held .correlation) passed i o
 
 abbrev pub partFrom : Gateway → List ℕ → ℕ → List ℕ → Bool → ℕ → Action → List ℕ
-partFrom g h n s passed i o = partOf (g .iid) (g .owner) n s (shown s h (sentFrom g passed i o)) (sentFrom g passed i o)
+partFrom g h n s passed i o = partMade (g .iid) (g .owner) (g .held .tag) (g .held .length) (g .held .marked) (g .held .correlation) n s h passed i o
+
+-- the bytes p are written over out at a position where they go in: how many they are, and the whole buffer
+pub record PutIf (out : List ℕ) (at : ℕ) (p : List ℕ) (r : ℕ) (out′ : List ℕ) : Type 0 where
+  pub size-is : r ≡ length p
+  pub bytes : out′ ≡ cond (ltb (length out - at) r) out (overlay out at p)
+
+module _ (out : List ℕ) (at : ℕ) (p : List ℕ) {r : ℕ} (e : r ≡ length p) where
+  pub put-short : length out - at < r → PutIf out at p r out
+  put-short l = record { size-is = e; bytes = at-lt _ _ (length out - at) r l refl }
+
+  pub put-fits : {out′ : List ℕ} → r ≤ length out - at → out′ ≡ overlay out at p → PutIf out at p r out′
+  put-fits l q = record { size-is = e; bytes = at-ge _ _ (length out - at) r l q }
+
+-- a buffer keeps its length
+pub put-length : {out : List ℕ} {at : ℕ} {p : List ℕ} {r : ℕ} {out′ : List ℕ} → PutIf out at p r out′ → length out′ ≡ length out
+put-length {out} {at} {p} {r} w = ap length (w .bytes) ∙ go (ltb (length out - at) r)
+  where
+    go : (b : Bool) → length (cond b out (overlay out at p)) ≡ length out
+    go true = refl
+    go false = length-over out at p
+
+module _ {out : List ℕ} {at : ℕ} {p : List ℕ} {r : ℕ} {out′ : List ℕ} (w : PutIf out at p r out′) where
+  pub put-as : {q : List ℕ} {r₁ : ℕ} {out₁ : List ℕ} → p ≡ q → r₁ ≡ r → out₁ ≡ out′ → PutIf out at q r₁ out₁
+  put-as e f o = record { size-is = f ∙ w .size-is ∙ ap length e; bytes = o ∙ w .bytes ∙ (λ y. cond (ltb (length out - at) (sym f y)) out (overlay out at (e y))) }
+
+  -- told by what is left of the buffer after it
+  pub put-none : length out′ - at < r → out′ ≡ out
+  put-none l = w .bytes ∙ rw (lt-ltb (length out - at) r (omega (arith, l, put-length w)))
+
+  pub put-done : r ≤ length out′ - at → out′ ≡ overlay out at p
+  put-done l = w .bytes ∙ rw (le-ltb (length out - at) r (omega (arith, l, put-length w)))
+
+-- what the writer of one asks for
+pub record Fits (iid owner tags lengths marks correlations : List ℕ) (t : Turn) (s h out : List ℕ) : Type 0 where
+  pub links : t .links ≤ 128
+  pub whole : length h ≡ 34944
+  pub place : t .index < 128
+  pub long : heldOf (t .passed) (t .o) ≡ true → Long (numberAt lengths (t .index))
+  pub small : length (partMade iid owner tags lengths marks correlations (t .links) s h (t .passed) (t .index) (t .o)) ≤ 2048
+  pub room : t .at ≤ length out
 
 -- ---- what is lent to the writer of many
 
@@ -75,23 +122,20 @@ lentOf run words list msg hold iid owner tags lengths marks correlations =
       correlations = correlations;
     }
 
--- the unit that the action at a place sends, and the action with it
+-- the unit that the action at a place sends
 abbrev pub indexIn : Lent → ℕ → ℕ
 indexIn v j = numberAt (v .list) (dataIn (v .words) j)
 
-abbrev pub sentIn : Lent → ℕ → Sent
-sentIn v j = sentOf (v .tags) (v .lengths) (v .marks) (v .correlations) (v .run .passed) (indexIn v j) (actionIn (v .words) j)
-
-abbrev pub shownIn : Lent → Sent → List ℕ
-shownIn v x = shown (v .msg) (v .hold) x
-
 -- what is written for it; nothing beyond the actions
-unfoldable pub partIn : Lent → ℕ → List ℕ
-partIn v j = cond (ltb j (v .run .count)) (partOf (v .iid) (v .owner) (v .run .links) (v .msg) (shownIn v (sentIn v j)) (sentIn v j)) []
+abbrev pub madeIn : Lent → ℕ → Action → List ℕ
+madeIn v i o = partMade (v .iid) (v .owner) (v .tags) (v .lengths) (v .marks) (v .correlations) (v .run .links) (v .msg) (v .hold) (v .run .passed) i o
 
-pub part-of : (v : Lent) (j : ℕ) (x : Sent) (b : List ℕ) → j < v .run .count → x ≡ sentIn v j → b ≡ shownIn v x → partOf (v .iid) (v .owner) (v .run .links) (v .msg) b x ≡ partIn v j
+unfoldable pub partIn : Lent → ℕ → List ℕ
+partIn v j = cond (ltb j (v .run .count)) (madeIn v (indexIn v j) (actionIn (v .words) j)) []
+
+pub part-of : (v : Lent) (j i : ℕ) (o : Action) → j < v .run .count → i ≡ indexIn v j → o ≡ actionIn (v .words) j → madeIn v i o ≡ partIn v j
 unfolding partIn
-part-of v j x b h e q = rw (lt-ltb j (v .run .count) h) ((λ y. partOf (v .iid) (v .owner) (v .run .links) (v .msg) (q y) x) ∙ (λ y. partOf (v .iid) (v .owner) (v .run .links) (v .msg) (shownIn v (e y)) (e y)))
+part-of v j i o h e q = rw (lt-ltb j (v .run .count) h) (λ y. madeIn v (e y) (q y))
 
 -- all that the loop asks for
 pub record Ready (v : Lent) : Type 0 where

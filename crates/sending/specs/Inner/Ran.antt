@@ -1,30 +1,29 @@
 -- The event that was run, and what the entries promise in each case.
 -- Assumes nothing.
 use Prim.Native.Nat.{ℕ, _*_, _<_, _≤_}
-use mathlib.Core.Path.{_≡_, refl, sym, ap, _∙_}
-use mathlib.Core.Bool.{Bool, true, false, cond, not, _&&_}
-use mathlib.Core.List.{List, [], _++_}
+use mathlib.Core.Path.{_≡_, refl, sym, ap, _∙_, subst}
+use mathlib.Core.Bool.{true, false, not}
+use mathlib.Core.List.{List, _++_}
 use native.Mathlib.Omega.{arith}
-use lib.Dec.{eqb, ltb, leb}
+use lib.Dec.{eqb, ltb}
 use lib.ListN.{length, drop, getD}
-use borrow.Author.Tests.{eq-eqb, ne-eqb, lt-ltb, le-ltb, le-leb, lt-leb}
+use borrow.Author.Tests.{eq-eqb, ne-eqb, lt-ltb, le-ltb}
 use Rattle.laws.specs.Choice.{_orElse_, _if_}
 use Rattle.laws.specs.Columns.{numberAt}
 use Rattle.put.specs.Bytes.{overlay}
-use Rattle.encode.specs.declared.Written.{Written}
 use Rattle.gateway.specs.Sound.{isSound}
 use Rattle.gateway.specs.declared.Gateway.{Gateway}
-use Rattle.action.specs.Words.{wordsOf, linkSide}
-use Rattle.rules.specs.Event.{EventKind, messageOf}
+use Rattle.action.specs.Words.{wordsOf}
+use Rattle.rules.specs.Event.{EventKind}
 use Rattle.rules.specs.Rules.{inPlan, effectOf, refusal, refusalOf, leastRoom}
 use Rattle.rules.specs.Effect.{stateAfter}
 use Rattle.rules.specs.Entry.{Runs, actions, next}
-use Rattle.rules.specs.Inner.Accepted.{Accepted, accepted}
+use Rattle.rules.specs.Inner.Accepted.{accepted}
 use Rattle.rules.specs.declared.Outcome.{Outcome}
 use Rattle.ask.specs.Happened.{happened, eventOf}
 use Rattle.action.specs.declared.Action.{Action}
 use Rattle.outgoing.specs.Inner.Kinds.{lentBy, kinds}
-use Rattle.rules.specs.Sent.{actionsOn, actionAt, isSent, gone, dataBefore, unitFor, isPassed}
+use Rattle.rules.specs.Sent.{actionsOn, actionAt, isSent, gone, dataBefore, unitFor}
 use Rattle.outgoing.specs.Send.{messageAt, sendCode, Sends, partAt}
 use Rattle.sent.specs.Inner.Words.{actionIn, action-in, dataIn, data-in}
 use Rattle.sent.specs.Inner.Units.{goneList, gone-at}
@@ -151,8 +150,10 @@ module _ (g : Gateway) (h : List ℕ) (k : EventKind) (n : ℕ) (out : List ℕ)
 
     module _ (asp : o .to ≡ 255 → ⊥) where
       -- the buffer is short
-      pub sends-short : {size : ℕ} → size ≡ length (messageAt g h k n) → length out < size → Sends g h k n out (record { code = 103; length = 0 }) out
-      sends-short q l = sends-none 103 (sym (behind (f .sound) (f .planned) (f .whole) ∙ rw (goes f asp, lt-ltb (length out) (length (messageAt g h k n)) (omega (arith, q, l))))) (λ z. omega (arith, z))
+      pub sends-short : {size : ℕ} {out′ : List ℕ} → size ≡ length (messageAt g h k n) → length out < size → out′ ≡ out → Sends g h k n out (record { code = 103; length = 0 }) out′
+      sends-short q l e =
+          subst (λ (o : List ℕ). Sends g h k n out (record { code = 103; length = 0 }) o) (sym e)
+          (sends-none 103 (sym (behind (f .sound) (f .planned) (f .whole) ∙ rw (goes f asp, lt-ltb (length out) (length (messageAt g h k n)) (omega (arith, q, l))))) (λ z. omega (arith, z)))
 
       pub sends-all : {size : ℕ} {out′ : List ℕ} → size ≡ length (messageAt g h k n) → size ≤ length out → out′ ≡ overlay out 0 (messageAt g h k n)
           → Sends g h k n out (record { code = 0; length = size }) out′

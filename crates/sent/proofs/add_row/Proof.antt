@@ -1,6 +1,6 @@
 -- `sent::add_row`: unit by unit. Assumes nothing.
 use Prim.Native.Nat.{_-_, _≤_}
-use mathlib.Core.Path.{_≡_, sym, _∙_}
+use mathlib.Core.Path.{_≡_}
 use native.Mathlib.Omega.{arith}
 use lib.Dec.{ltb}
 use mathlib.Core.Logic.{inl, inr}
@@ -8,7 +8,7 @@ use Rattle.laws.specs.Below.{when}
 use Rattle.gateway.specs.Sound.{unitIndex}
 use Rattle.select.specs.Inner.Picks.{PutBytes}
 use Rattle.select.proofs.Runs.{run-none, run-two, put-length}
-use Rattle.sent.specs.Inner.Units.{rowTo, goneRow, row-none, row-more, row-empty, row-length}
+use Rattle.sent.specs.Inner.Units.{rowTo, row-none, row-more, row-empty, row-length}
 use borrow.Author.Needs.{needs}
 use Rattle.sent.proofs.add_row.Statement.{statement}
 use Rattle.sent.proofs.add_row.Tie as tie

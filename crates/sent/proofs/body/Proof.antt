@@ -1,6 +1,5 @@
 -- `sent::body`: a part of the one slice, or of the other. Assumes nothing.
 use mathlib.Core.Path.{refl}
-use native.Mathlib.Omega.{arith}
 use Rattle.laws.specs.Inner.Choice.{at-yes, at-no}
 use borrow.Author.Needs.{needs}
 use Rattle.sent.proofs.body.Statement.{statement}

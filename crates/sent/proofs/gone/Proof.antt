@@ -2,7 +2,6 @@
 use Prim.Native.Nat.{ℕ, _-_, _≤_}
 use mathlib.Core.Path.{_≡_, sym, ap, _∙_}
 use native.Mathlib.Omega.{arith}
-use lib.ListN.{length}
 use Rattle.laws.specs.Columns.{numberAt}
 use Rattle.put.specs.Bytes.{overlay}
 use Rattle.select.specs.Inner.Picks.{PutBytes}

@@ -1,7 +1,7 @@
 -- `sent::index_at`: the element, and 0 beyond the list. Assumes nothing.
-use mathlib.Core.Path.{_≡_, sym}
+use mathlib.Core.Path.{sym}
 use native.Mathlib.Omega.{arith}
-use lib.ListN.{length, List·getD-eq-default}
+use lib.ListN.{List·getD-eq-default}
 use borrow.Author.Needs.{needs}
 use Rattle.sent.proofs.index_at.Statement.{statement}
 use Rattle.sent.proofs.index_at.Tie as tie

@@ -1,5 +1,5 @@
 -- `sent::sent_at`: the record, field by field. Assumes nothing.
-use mathlib.Core.Path.{_≡_, sym, ap, _∙_}
+use mathlib.Core.Path.{sym, ap, _∙_}
 use mathlib.Core.Bool.{Bool, not, _&&_}
 use Rattle.sent.specs.Inner.Made.{sent-is}
 use borrow.Author.Needs.{needs}

@@ -1,5 +1,5 @@
 -- `sent::unit_for`: of the list, the index at the number of Data before. Assumes nothing.
-use mathlib.Core.Path.{_∙_, sym}
+use mathlib.Core.Path.{_∙_}
 use Rattle.laws.specs.Columns.{numberAt}
 use Rattle.laws.specs.Inner.Choice.{at-yes}
 use borrow.Author.Needs.{needs}
