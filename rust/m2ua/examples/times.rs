@@ -128,22 +128,23 @@ fn main() {
         asp: 0,
         message: &up,
     };
+    let mut batch = || {
+        sys::orders(
+            black_box(g.raw()),
+            0,
+            0,
+            &up,
+            &bytes,
+            0,
+            &mut lens,
+            &mut out,
+        )
+    };
     compare(
         "its messages: iterator, against one batch",
         100,
         || g.messages(black_box(&event), &hold).count(),
-        || {
-            sys::orders(
-                black_box(g.raw()),
-                0,
-                0,
-                &up,
-                &bytes,
-                0,
-                &mut lens,
-                &mut out,
-            )
-        },
+        &mut batch,
     );
     compare(
         "its messages: lent buffers, against one batch",
@@ -157,17 +158,6 @@ fn main() {
                 &mut [0; 16384],
             )
         },
-        || {
-            sys::orders(
-                black_box(g.raw()),
-                0,
-                0,
-                &up,
-                &bytes,
-                0,
-                &mut lens,
-                &mut out,
-            )
-        },
+        &mut batch,
     );
 }

@@ -11,6 +11,14 @@ fn full() -> Gateway {
     Gateway::load(&file).unwrap()
 }
 
+/// Every ASP of the full plan comes up.
+fn all_up(mut g: Gateway, up: &[u8], hold: &mut Hold, orders: &mut Orders) -> Gateway {
+    for asp in 0..16 {
+        g = sent(&g, &Event::Message { asp, message: up }, hold, orders);
+    }
+    g
+}
+
 /// The event is done, its orders are as bytes what they are as words, and the next state is handed back.
 fn sent(g: &Gateway, event: &Event<'_>, hold: &mut Hold, orders: &mut Orders) -> Gateway {
     let next = g.event(event, hold, orders).unwrap();
@@ -63,14 +71,7 @@ fn every_kind_of_event() {
         &[Parameter::new(sys::TAG_INTERFACE_ID, &[0, 0, 1, 0])],
     )
     .unwrap();
-    for asp in 0..16 {
-        g = sent(
-            &g,
-            &Event::Message { asp, message: &up },
-            &mut hold,
-            &mut orders,
-        );
-    }
+    g = all_up(g, &up, &mut hold, &mut orders);
     for message in [&active, &beat, &establish, &unknown] {
         g = sent(
             &g,
@@ -273,14 +274,7 @@ fn the_most_orders_and_the_most_bytes() {
         plain(MessageType::Inactive),
     );
     let mut g = full();
-    for asp in 0..16 {
-        g = sent(
-            &g,
-            &Event::Message { asp, message: &up },
-            &mut hold,
-            &mut orders,
-        );
-    }
+    g = all_up(g, &up, &mut hold, &mut orders);
     for message in [&active, &inactive] {
         let event = Event::Message { asp: 0, message };
         g = sent(&g, &event, &mut hold, &mut orders);
