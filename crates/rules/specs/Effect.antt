@@ -1,7 +1,8 @@
 -- What an accepted event does: its actions, and the next state (Rule 7.1).
 -- Assumes nothing.
 use Prim.Native.Nat.{ℕ, _+_, _*_, _-_}
-use mathlib.Core.Bool.{Bool}
+use mathlib.Core.Path.{_≡_}
+use mathlib.Core.Bool.{Bool, true, false}
 use mathlib.Core.List.{List, [], _∷_, _++_}
 use lib.ListN.{take, drop}
 use Rattle.laws.specs.Columns.{numberAt}
@@ -53,6 +54,17 @@ holdAfter g s (send os) h = h
 holdAfter g s (setLink l v os) h = h
 holdAfter g s (changeIn os k named) h = h
 holdAfter g s (takeIn a x) h = overlay h (holdAt a (numberAt (g .held .count) a)) (take (x .length - 4) (drop (x .start) s))
+
+-- whether a unit comes in
+abbrev pub takesIn : Effect → Bool
+takesIn (send os) = false
+takesIn (setLink l v os) = false
+takesIn (changeIn os k named) = false
+takesIn (takeIn a x) = true
+
+-- nothing else writes the hold: so no place is cleared as its unit goes out or is discarded
+abbrev pub HoldStays : Type 0
+HoldStays = (g : Gateway) (s : List ℕ) (d : Effect) (h : List ℕ) → takesIn d ≡ false → holdAfter g s d h ≡ h
 
 -- ---- actions
 
