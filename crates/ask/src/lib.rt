@@ -77,9 +77,16 @@ fn named(i: usize, n: usize) -> Place
     }
 }
 
-fn find(ask: Ask, asps: usize, ases: usize, links: usize, iid: &[u32; 128]) -> Place
+fn find<'a>(
+    ask: Ask,
+    asps: usize,
+    ases: usize,
+    links: usize,
+    iid: &'a [u32; 128],
+    highspeed: &'a [u8; 128],
+) -> Place
     requires { ⌜ (links ≤ 128) × (ascends (now iid) links ≡ true) ⌝ }
-    ensures { λ r. ⌜ (r .known ≡ askKnown asps ases links (now (iid .entry)) ask) × (r .known ≡ true → AskAt links (now (iid .entry)) ask (r .index)) ⌝ }
+    ensures { λ r. ⌜ (r .known ≡ askKnown asps ases links (now (iid .entry)) (now (highspeed .entry)) ask) × (r .known ≡ true → AskAt links (now (iid .entry)) ask (r .index)) ⌝ }
 {
     match ask {
         Ask::Up(p, _) => named(p, asps),
@@ -90,7 +97,7 @@ fn find(ask: Ask, asps: usize, ases: usize, links: usize, iid: &[u32; 128]) -> P
         Ask::Recovery(a) => named(a, ases),
         Ask::LinkUp(l) => named(l, links),
         Ask::LinkDown(l) => named(l, links),
-        Ask::LinkMessage(r) => named(links::place_of(iid, links, r), links),
+        Ask::LinkMessage(r) => named(links::place_of(iid, highspeed, links, r), links),
     }
 }
 
@@ -101,18 +108,19 @@ pub struct Found {
 }
 
 // The refusal of an event, or 0: `sound` says that the state is, `hold` and `room` are the lengths of what is lent. What it names is looked up only where the state is sound.
-pub fn refused(
+pub fn refused<'a>(
     sound: bool,
     asps: u8,
     ases: u8,
     links: u8,
-    iid: &[u32; 128],
+    iid: &'a [u32; 128],
+    highspeed: &'a [u8; 128],
     ask: Ask,
     hold: usize,
     room: usize,
 ) -> Found
     requires { ⌜ (sound ≡ true → (links ≤ 128) × (ascends (now iid) links ≡ true)) ⌝ }
-    ensures { λ r. ⌜ (r .code ≡ refusalOf sound (askKnown asps ases links (now (iid .entry)) ask) hold room) × (r .code ≡ 0 → AskAt links (now (iid .entry)) ask (r .index)) ⌝ }
+    ensures { λ r. ⌜ (r .code ≡ refusalOf sound (askKnown asps ases links (now (iid .entry)) (now (highspeed .entry)) ask) hold room) × (r .code ≡ 0 → AskAt links (now (iid .entry)) ask (r .index)) ⌝ }
 {
     if !sound {
         return Found {
@@ -126,6 +134,7 @@ pub fn refused(
         gateway::wide(ases),
         gateway::wide(links),
         iid,
+        highspeed,
     );
     let code = refusal(sound, n.known, hold, room);
     Found {

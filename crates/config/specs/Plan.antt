@@ -18,7 +18,7 @@ pub record Body : Type 0 where
   pub least : ℕ
   pub most : ℕ
 
--- ASPs: identifier, mask, spare. ASes: mode. Links: identifier, owner. (Rule 4.2)
+-- ASPs: identifier, mask, spare. ASes: mode. Links: identifier, kind, owner. (Rule 4.2)
 abbrev pub aspBody : Body
 aspBody = record { row = 8; least = 1; most = 16 }
 
@@ -71,7 +71,7 @@ linkWords s at n = column 128 n (λ l. be 4 s (at + linkBody .row * l))
 unfoldable pub aspIds : List ℕ → List ℕ
 aspIds s = aspWords s (offset s 0) (count s 0)
 
--- the second word of an ASP's row: a mask of 16 bits, and 16 spare bits
+-- the second word of an ASP's row: a mask of 16 bits, and 16 spare bits; that of a link's row: its kind, and its owner
 abbrev pub high : ℕ → ℕ
 high x = x / 65536
 
@@ -93,7 +93,10 @@ unfoldable pub linkIds : List ℕ → List ℕ
 linkIds s = linkWords s (offset s 2) (count s 2)
 
 unfoldable pub owners : List ℕ → List ℕ
-owners s = linkWords s (offset s 2 + 4) (count s 2)
+owners s = column 128 (count s 2) (λ l. low (be 4 s (offset s 2 + 4 + linkBody .row * l)))
+
+unfoldable pub kinds : List ℕ → List ℕ
+kinds s = column 128 (count s 2) (λ l. high (be 4 s (offset s 2 + 4 + linkBody .row * l)))
 
 -- bit a of a mask, 0 or 1, and the bits from a on as one number
 abbrev pub bit : ℕ → ℕ → ℕ
@@ -114,19 +117,23 @@ masksOk mask asps ases = allBelow (λ p. eqb (bitsFrom (numberAt mask p) ases) 0
 unfoldable pub sparesOk : List ℕ → ℕ → Bool
 sparesOk spare asps = allBelow (λ p. eqb (numberAt spare p) 0) asps
 
+-- the kinds of a link: 0 plain, 1 high-speed
+abbrev pub linkKinds : ℕ
+linkKinds = 2
+
 -- else 202 (Rule 4.5): besides, no two ASPs share an identifier, those of links ascend, and owners are the plan's
-unfoldable pub rowsOk : ℕ → ℕ → ℕ → List ℕ → List ℕ → List ℕ → List ℕ → List ℕ → List ℕ → Bool
-rowsOk asps ases links aspid mask spare mode iid owner =
+unfoldable pub rowsOk : ℕ → ℕ → ℕ → List ℕ → List ℕ → List ℕ → List ℕ → List ℕ → List ℕ → List ℕ → Bool
+rowsOk asps ases links aspid mask spare mode iid owner kind =
     (modesOk mode ases && (masksOk mask asps ases && sparesOk spare asps))
-    && (allBelow (differs aspid) asps && (ascends iid links && allUnder owner ases links))
+    && (allBelow (differs aspid) asps && (ascends iid links && (allUnder owner ases links && allUnder kind linkKinds links)))
 
 -- member or not, pair by pair, of the masks
 unfoldable pub members : List ℕ → List ℕ
 members mask = tabulate 256 (λ i. bit (numberAt mask (i % 16)) (i / 16))
 
 -- the state with the plan's tables in which nothing has happened yet (Rule 4.6)
-unfoldable pub fresh : ℕ → ℕ → ℕ → List ℕ → List ℕ → List ℕ → List ℕ → List ℕ → Gateway
-fresh asps ases links aspid mask mode iid owner =
+unfoldable pub fresh : ℕ → ℕ → ℕ → List ℕ → List ℕ → List ℕ → List ℕ → List ℕ → List ℕ → Gateway
+fresh asps ases links aspid mask mode iid owner kind =
     record {
       asps = asps;
       ases = ases;
@@ -141,6 +148,7 @@ fresh asps ases links aspid mask mode iid owner =
       iid = iid;
       owner = owner;
       state = replicate 128 0;
+      highspeed = kind;
       held = noUnits;
     }
 
@@ -151,14 +159,14 @@ abbrev pub accepted : Gateway → Loaded
 accepted g = record { code = 0; gateway = g }
 
 -- the answer to a file that is laid out well, from its counts and tables
-unfoldable pub built : ℕ → ℕ → ℕ → List ℕ → List ℕ → List ℕ → List ℕ → List ℕ → List ℕ → Loaded
-built asps ases links aspid mask spare mode iid owner =
-    cond (rowsOk asps ases links aspid mask spare mode iid owner)
-    (accepted (fresh asps ases links aspid mask mode iid owner))
+unfoldable pub built : ℕ → ℕ → ℕ → List ℕ → List ℕ → List ℕ → List ℕ → List ℕ → List ℕ → List ℕ → Loaded
+built asps ases links aspid mask spare mode iid owner kind =
+    cond (rowsOk asps ases links aspid mask spare mode iid owner kind)
+    (accepted (fresh asps ases links aspid mask mode iid owner kind))
     (refused 202)
 
 unfoldable pub loadOf : List ℕ → Loaded
 loadOf s =
     cond (layoutOk s)
-    (built (count s 0) (count s 1) (count s 2) (aspIds s) (masks s) (spares s) (modes s) (linkIds s) (owners s))
+    (built (count s 0) (count s 1) (count s 2) (aspIds s) (masks s) (spares s) (modes s) (linkIds s) (owners s) (kinds s))
     (refused 201)

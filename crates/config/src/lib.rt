@@ -7,7 +7,7 @@ ghost use lib.ListN.{length};
 ghost use Rattle.laws.specs.Below.{allBelow};
 ghost use Rattle.laws.specs.Columns.{numberAt};
 ghost use Rattle.laws.specs.Inner.Columns.{HalfCol};
-ghost use Rattle.config.specs.Plan.{offset, count, layoutOk, column, bit, bitsFrom, high, low, members, loadOf};
+ghost use Rattle.config.specs.Plan.{offset, count, layoutOk, column, bit, bitsFrom, high, low, members, linkKinds, loadOf};
 ghost use Rattle.config.specs.Inner.Layout.{Inside, placesOf, rowsAt, stateAt, AllBytes, codeOf, takenOf, made};
 ghost use Rattle.config.specs.Inner.Tables.{wordOf, RowsIn, AllIn, floorOf};
 use gateway::Gateway;
@@ -20,6 +20,9 @@ const ASP_ROW: usize = 8;
 const AS_ROW: usize = 4;
 
 const LINK_ROW: usize = 8;
+
+// The kinds of a link: 0 plain, 1 high-speed.
+const LINK_KINDS: u32 = 2;
 
 // The answer to a file: code 0 and a fresh state, or 201 or 202 and a state of zeros.
 #[repr(C)]
@@ -142,17 +145,17 @@ fn long(x: u32) -> u64
     x as u64
 }
 
-// Identifiers that ascend, each at least one more than the one before it, and owners: both of a row in one pass.
+// Identifiers that ascend, each at least one more than the one before it, owners and kinds: all of a row in one pass.
 fn links_ok(s: &[u8], at: usize, links: usize, ases: u32) -> bool
     requires { ⌜ (links ≤ 128) × (at + 8 * links ≤ length (now s)) ⌝ }
-    ensures { λ r. ⌜ r ≡ allBelow (λ l. leb (floorOf (wordOf (now (s .entry)) at 8) l) (wordOf (now (s .entry)) at 8 l) && ltb (wordOf (now (s .entry)) (at + 4) 8 l) ases) links ⌝ }
+    ensures { λ r. ⌜ r ≡ allBelow (λ l. leb (floorOf (wordOf (now (s .entry)) at 8) l) (wordOf (now (s .entry)) at 8 l) && (ltb (low (wordOf (now (s .entry)) (at + 4) 8 l)) ases && ltb (high (wordOf (now (s .entry)) (at + 4) 8 l)) linkKinds)) links ⌝ }
 {
     let mut ok = true;
     let mut least: u64 = 0;
     for l in 0..links {
         let id = long(wire::get32(s, at + LINK_ROW * l));
-        let owner = wire::get32(s, at + 4 + LINK_ROW * l);
-        ok = ok & ((least <= id) & (owner < ases));
+        let x = wire::get32(s, at + 4 + LINK_ROW * l);
+        ok = ok & ((least <= id) & ((x % 65536 < ases) & (x / 65536 < LINK_KINDS)));
         least = id + 1;
     }
     ok
@@ -295,6 +298,7 @@ fn build(s: &[u8], t: Places, code: u32) -> Loaded
             iid: iid,
             owner: owners,
             state: [0; 128],
+            highspeed: kinds,
             held: Units::none(),
         },
     }

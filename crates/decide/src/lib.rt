@@ -36,12 +36,13 @@ fn other_tree<'a>(
     iid: &'a [u32; 128],
     owner: &'a [u8; 128],
     state: &'a [u8; 128],
+    highspeed: &'a [u8; 128],
     p: usize,
     r: Reading,
     six: bool,
 ) -> Decision
     requires { ⌜ Table (now iid) (now owner) links × (p < 16) × (r .class < 256) × (r .msgtype < 256) ⌝ }
-    ensures { λ w. ⌜ DecidesOn (SixColumns links (now (up .entry)) (now (member .entry)) (now (active .entry)) (now (iid .entry)) (now (owner .entry)) (now (state .entry))) (λ g. otherTree (classSixEffect g p r) p r six) w ⌝ }
+    ensures { λ w. ⌜ DecidesOn (SixColumns links (now (up .entry)) (now (member .entry)) (now (active .entry)) (now (iid .entry)) (now (owner .entry)) (now (state .entry)) (now (highspeed .entry))) (λ g. otherTree (classSixEffect g p r) p r six) w ⌝ }
 {
     let t = r.class * 256 + r.msgtype;
     if t == action::BEAT {
@@ -52,7 +53,18 @@ fn other_tree<'a>(
     }
     if r.class == 6 {
         if six {
-            return links::class_six(links, up, member, active, iid, owner, state, p, r);
+            return links::class_six(
+                links,
+                up,
+                member,
+                active,
+                iid,
+                owner,
+                state,
+                highspeed,
+                p,
+                r,
+            );
         }
         return work::error(p, 6);
     }
@@ -68,19 +80,32 @@ pub fn other_work<'a>(
     iid: &'a [u32; 128],
     owner: &'a [u8; 128],
     state: &'a [u8; 128],
+    highspeed: &'a [u8; 128],
     p: usize,
     error: bool,
     r: Reading,
 ) -> Decision
     requires { ⌜ Table (now iid) (now owner) links × (p < 16) × (r .class < 256) × (r .msgtype < 256) ⌝ }
-    ensures { λ w. ⌜ DecidesOn (SixColumns links (now (up .entry)) (now (member .entry)) (now (active .entry)) (now (iid .entry)) (now (owner .entry)) (now (state .entry))) (λ g. otherEffect g p error r) w ⌝ }
+    ensures { λ w. ⌜ DecidesOn (SixColumns links (now (up .entry)) (now (member .entry)) (now (active .entry)) (now (iid .entry)) (now (owner .entry)) (now (state .entry)) (now (highspeed .entry))) (λ g. otherEffect g p error r) w ⌝ }
 {
     if error {
         return work::nothing();
     }
     if r.code == 0 {
         let six = from_asp(r.msgtype);
-        return other_tree(links, up, member, active, iid, owner, state, p, r, six);
+        return other_tree(
+            links,
+            up,
+            member,
+            active,
+            iid,
+            owner,
+            state,
+            highspeed,
+            p,
+            r,
+            six,
+        );
     }
     work::error(p, r.code)
 }

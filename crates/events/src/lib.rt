@@ -39,9 +39,10 @@ fn decided<'a>(
     iid: &'a [u32; 128],
     owner: &'a [u8; 128],
     state: &'a [u8; 128],
+    highspeed: &'a [u8; 128],
 ) -> Decision
     requires { ⌜ Table (now iid) (now owner) links × AskFits links (now iid) (now msg) ask × AskAt links (now iid) ask at ⌝ }
-    ensures { λ w. ⌜ DecidesOn (AskColumns links (now (aspid .entry)) (now (up .entry)) (now (member .entry)) (now (active .entry)) (now (mode .entry)) (now (waiting .entry)) (now (count .entry)) (now (iid .entry)) (now (owner .entry)) (now (state .entry))) (λ g. askEffect g (now (msg .entry)) ask) w ⌝ }
+    ensures { λ w. ⌜ DecidesOn (AskColumns links (now (aspid .entry)) (now (up .entry)) (now (member .entry)) (now (active .entry)) (now (mode .entry)) (now (waiting .entry)) (now (count .entry)) (now (iid .entry)) (now (owner .entry)) (now (state .entry)) (now (highspeed .entry))) (λ g. askEffect g (now (msg .entry)) ask) w ⌝ }
 {
     match ask {
         Ask::Up(p, r) => asps::up_work(aspid, member, active, p, r),
@@ -50,7 +51,19 @@ fn decided<'a>(
             traffic::traffic_work(on, msg, links, up, member, mode, iid, owner, p, r)
         }
         Ask::Other(p, error, r) => {
-            decide::other_work(links, up, member, active, iid, owner, state, p, error, r)
+            decide::other_work(
+                links,
+                up,
+                member,
+                active,
+                iid,
+                owner,
+                state,
+                highspeed,
+                p,
+                error,
+                r,
+            )
         }
         Ask::Lost(p) => asps::lost_work(member, p),
         Ask::Recovery(a) => asps::recovery_work(a),
@@ -231,6 +244,7 @@ pub extern "C" fn m2ua_run(
         &g.iid,
         &g.owner,
         &g.state,
+        &g.highspeed,
         &g.held.count,
         &g.held.tag,
         &g.held.length,
@@ -238,7 +252,17 @@ pub extern "C" fn m2ua_run(
         &g.held.id,
         &g.held.correlation,
     );
-    let found = ask::refused(sound, asps, ases, links, &g.iid, ask, size, words.len());
+    let found = ask::refused(
+        sound,
+        asps,
+        ases,
+        links,
+        &g.iid,
+        &g.highspeed,
+        ask,
+        size,
+        words.len(),
+    );
     if found.code != 0 {
         return Outcome {
             refusal: found.code,
@@ -261,6 +285,7 @@ pub extern "C" fn m2ua_run(
         &g.iid,
         &g.owner,
         &g.state,
+        &g.highspeed,
     );
     if 4 < w.what {
         let a = w.link;

@@ -40,6 +40,10 @@ blankFrom c n end = allBelow (λ i. ltb i n || eqb (numberAt c i) 0) end
 abbrev pub flagIf : ℕ → Bool → Bool
 flagIf x b = eqb x 0 || (eqb x 1 && b)
 
+-- place i of a column holds a flag, and 1 only among the first n
+unfoldable pub flagWithin : List ℕ → ℕ → ℕ → Bool
+flagWithin c n i = flagIf (numberAt c i) (ltb i n)
+
 -- ---- ASPs (Rule 5.7)
 
 -- the identifier of place p differs from those before it
@@ -47,12 +51,9 @@ unfoldable pub differs : List ℕ → ℕ → Bool
 differs aspid p = allBelow (λ q. not (eqb (numberAt aspid q) (numberAt aspid p))) p
 
 -- only an ASP of the plan is up
-unfoldable pub upAt : List ℕ → ℕ → ℕ → Bool
-upAt up asps q = flagIf (numberAt up q) (ltb q asps)
-
 unfoldable pub soundAsps : List ℕ → List ℕ → ℕ → Bool
 soundAsps aspid up asps =
-    (allBelow (differs aspid) asps && blankFrom aspid asps aspPlaces) && allBelow (upAt up asps) aspPlaces
+    (allBelow (differs aspid) asps && blankFrom aspid asps aspPlaces) && allBelow (flagWithin up asps) aspPlaces
 
 -- ---- ASes and pairs
 
@@ -108,6 +109,10 @@ unfoldable pub soundLinks : List ℕ → List ℕ → List ℕ → ℕ → ℕ �
 soundLinks iid owner state ases links =
     ((ascends iid links && allUnder owner ases links) && allUnder state linkStates links)
     && ((blankFrom iid links linkPlaces && blankFrom owner links linkPlaces) && blankFrom state links linkPlaces)
+
+-- only a link of the plan is a high-speed one (Rule 5.24)
+unfoldable pub soundKinds : List ℕ → ℕ → Bool
+soundKinds highspeed links = allBelow (flagWithin highspeed links) linkPlaces
 
 -- ---- units held (Rule 5.21)
 
@@ -165,7 +170,8 @@ soundTables g =
     (countsIn (g .asps) (g .ases) (g .links) && eqb (g .spare) 0)
     && (soundAsps (g .aspid) (g .up) (g .asps)
     && (soundAses (g .up) (g .member) (g .active) (g .mode) (g .waiting) (g .asps) (g .ases)
-    && soundLinks (g .iid) (g .owner) (g .state) (g .ases) (g .links)))
+    && (soundLinks (g .iid) (g .owner) (g .state) (g .ases) (g .links)
+    && soundKinds (g .highspeed) (g .links))))
 
 -- A new column has a condition of its own, which joins as one more conjunct.
 unfoldable pub isSound : Gateway → Bool
@@ -201,5 +207,6 @@ zeros =
       iid = replicate 128 0;
       owner = replicate 128 0;
       state = replicate 128 0;
+      highspeed = replicate 128 0;
       held = noUnits;
     }

@@ -8,13 +8,13 @@ ghost use Rattle.laws.specs.Below.{one, allBelow};
 ghost use Rattle.gateway.specs.Inner.Limits.{places, limit, limitsTo, flagsOf, Flags};
 ghost use Rattle.gateway.specs.Inner.Differ.{padWith, lacksFrom};
 ghost use Rattle.gateway.specs.Inner.Rows.{rowFails, soundMarks};
-ghost use Rattle.gateway.specs.Sound.{countsIn, blankFrom, differs, upAt, soundAsps, activeIn, modeAt, waitingAt, overrideAt, soundAses, ascends, allUnder, soundLinks, noUnits, zeros};
+ghost use Rattle.gateway.specs.Sound.{countsIn, blankFrom, flagWithin, differs, soundAsps, activeIn, modeAt, waitingAt, overrideAt, soundAses, ascends, allUnder, soundLinks, noUnits, zeros};
 ghost use Rattle.gateway.specs.Inner.Sound.{soundTablesOf};
 
 // Index of a pair: as * 16 + asp. Flags are 0 or 1. Traffic modes: 1 override, 2 load-share, 3 broadcast. States of a link:
 // 0 idle, 1 starting, 2 in service, 3 stopping. `iid` is the interface identifier, `waiting` that the recovery time runs.
 // `spare` is 0 (Rule 5.20): it stands where padding would, which goes out as whatever the stack held.
-// `held` are the units held.
+// `highspeed` is 1 for a link by Q.703 Annex A, whose sequence numbers have 12 bits, and 0 for a plain one. `held` are the units held.
 #[repr(C)]
 pub struct Gateway {
     pub asps: u8,
@@ -30,6 +30,7 @@ pub struct Gateway {
     pub iid: [u32; 128],
     pub owner: [u8; 128],
     pub state: [u8; 128],
+    pub highspeed: [u8; 128],
     pub held: Units,
 }
 
@@ -199,14 +200,14 @@ pub fn all_new(aspid: &[u32; 16], n: usize) -> bool
     many_new(aspid, n)
 }
 
-// Only an ASP of the plan is up (Rule 5.7): the flags are below their limits.
-fn ups_ok<'a>(place: &'a [u8; 128], up: &'a [u8; 16], n: u8) -> bool
-    requires { ⌜ now place ≡ places ⌝ }
-    ensures { λ r. ⌜ r ≡ allBelow (upAt (now (up .entry)) n) 16 ⌝ }
+// Flags, and 1 only in the first n places: they are below their limits.
+fn flags_within<'a>(place: &'a [u8; 128], c: &'a [u8], n: u8, end: usize) -> bool
+    requires { ⌜ (now place ≡ places) × (end ≤ 128) × (end ≤ length (now c)) ⌝ }
+    ensures { λ r. ⌜ r ≡ allBelow (flagWithin (now (c .entry)) n) end ⌝ }
 {
     let mut ok = true;
-    for q in 0..16usize {
-        ok = ok & (up[q] < limit(place[q] < n, 2));
+    for i in 0..end {
+        ok = ok & (c[i] < limit(place[i] < n, 2));
     }
     ok
 }
@@ -219,7 +220,7 @@ fn asps_ok<'a>(place: &'a [u8; 128], asps: u8, aspid: &'a [u32; 16], up: &'a [u8
     let n = within(asps, 16);
     let differ = all_new(aspid, n);
     let beyond = blank_wide(aspid, n, 16);
-    let flags = ups_ok(place, up, asps);
+    let flags = flags_within(place, up, asps, 16);
     (differ & beyond) & flags
 }
 
@@ -417,8 +418,9 @@ pub fn tables_ok<'a>(
     iid: &'a [u32; 128],
     owner: &'a [u8; 128],
     state: &'a [u8; 128],
+    highspeed: &'a [u8; 128],
 ) -> bool
-    ensures { λ r. ⌜ r ≡ soundTablesOf asps ases links spare (now (aspid .entry)) (now (up .entry)) (now (member .entry)) (now (active .entry)) (now (mode .entry)) (now (waiting .entry)) (now (iid .entry)) (now (owner .entry)) (now (state .entry)) ⌝ }
+    ensures { λ r. ⌜ r ≡ soundTablesOf asps ases links spare (now (aspid .entry)) (now (up .entry)) (now (member .entry)) (now (active .entry)) (now (mode .entry)) (now (waiting .entry)) (now (iid .entry)) (now (owner .entry)) (now (state .entry)) (now (highspeed .entry)) ⌝ }
 {
     let c = counts_ok(asps, ases, links);
     let e = spare == 0;
@@ -426,7 +428,8 @@ pub fn tables_ok<'a>(
     let x = asps_ok(&place, asps, aspid, up);
     let y = ases_ok(&place, asps, ases, up, member, active, mode, waiting);
     let z = links_ok(ases, links, iid, owner, state);
-    (c & e) & (x & (y & z))
+    let k = flags_within(&place, highspeed, links, 128);
+    (c & e) & (x & (y & (z & k)))
 }
 
 impl Units {
@@ -464,6 +467,7 @@ impl Gateway {
             iid: [0; 128],
             owner: [0; 128],
             state: [0; 128],
+            highspeed: [0; 128],
             held: Units::none(),
         }
     }

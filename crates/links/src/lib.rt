@@ -17,14 +17,17 @@ ghost use Rattle.laws.specs.Columns.{tabulate};
 ghost use Rattle.lookup.specs.Links.{indexOf};
 ghost use Rattle.lookup.specs.Servers.{receives};
 ghost use Rattle.ranges.specs.Inner.Laws.{Table};
-ghost use Rattle.rules.specs.Link.{establish, release, dataEffect, linkEffect, classSixEffect, linkUpEffect, linkDownEffect, holdEffect, linkMessageEffect};
+ghost use Rattle.rules.specs.Link.{establish, release, dataEffect, canHave, retrieve, linkEffect, classSixEffect, linkUpEffect, linkDownEffect, holdEffect, linkMessageEffect};
 ghost use Rattle.rules.specs.Effect.{send, setLink, takeIn};
 ghost use Rattle.rules.specs.Rules.{fromLink};
 ghost use Rattle.work.specs.Inner.Decides.{Decides, DecidesOn};
 ghost use Rattle.links.specs.Inner.Recipients.{recipientsAt, pendingAt, SideColumns, SideHeld};
 ghost use Rattle.links.specs.Inner.Six.{dataTree, sixAt, SixColumns};
-ghost use Rattle.links.specs.Inner.Side.{placeOf, Side, Fits};
+ghost use Rattle.links.specs.Inner.Side.{placeWith, placeOf, Side, Fits};
 ghost use Rattle.action.specs.Types.{establishConfirm, releaseConfirm, releaseIndication};
+
+// The largest sequence number of a plain link (Rule 5.23).
+const PLAIN_MOST: u32 = 127;
 
 // ---- class 6 of an ASP: p is the ASP, x the identifier, l the link's index, st its state
 
@@ -88,10 +91,28 @@ fn data_work(p: usize, x: u32, st: u8, r: Reading) -> Decision
     data_tree(p, x, st, r)
 }
 
+// A link can have the sequence number n (Rule 5.23).
+fn can_have(highspeed: u8, n: u32) -> bool
+    ensures { λ r. ⌜ r ≡ canHave highspeed n ⌝ }
+{
+    (highspeed == 1) | (n <= PLAIN_MOST)
+}
+
+// Retrieval Request (Rule 7.18).
+fn retrieve(p: usize, x: u32, highspeed: u8, r: Reading) -> Decision
+    requires { ⌜ p < 16 ⌝ }
+    ensures { λ w. ⌜ Decides w (retrieve p x highspeed r) ⌝ }
+{
+    if can_have(highspeed, r.sequence) {
+        return work::order(action::RETRIEVAL_REQUEST, x, r.retrieval);
+    }
+    work::error(p, 17)
+}
+
 // A message of class 6 whose sender may send it, by its type (Rules 7.15 to 7.19).
-fn link_work(p: usize, x: u32, l: usize, st: u8, r: Reading) -> Decision
+fn link_work(p: usize, x: u32, l: usize, st: u8, highspeed: u8, r: Reading) -> Decision
     requires { ⌜ (p < 16) × (l < 128) ⌝ }
-    ensures { λ w. ⌜ Decides w (linkEffect p x l st r) ⌝ }
+    ensures { λ w. ⌜ Decides w (linkEffect p x l st highspeed r) ⌝ }
 {
     if r.msgtype == 1 {
         return data_work(p, x, st, r);
@@ -106,7 +127,7 @@ fn link_work(p: usize, x: u32, l: usize, st: u8, r: Reading) -> Decision
         return work::order(action::STATE_REQUEST, x, r.state);
     }
     if r.msgtype == 10 {
-        return work::order(action::RETRIEVAL_REQUEST, x, r.retrieval);
+        return retrieve(p, x, highspeed, r);
     }
     work::nothing()
 }
@@ -120,19 +141,20 @@ fn six_at<'a>(
     iid: &'a [u32; 128],
     owner: &'a [u8; 128],
     state: &'a [u8; 128],
+    highspeed: &'a [u8; 128],
     p: usize,
     l: usize,
     r: Reading,
 ) -> Decision
     requires { ⌜ Table (now iid) (now owner) links × (p < 16) ⌝ }
-    ensures { λ w. ⌜ Decides w (sixAt links (now (up .entry)) (now (member .entry)) (now (active .entry)) (now (owner .entry)) (now (state .entry)) p l r) ⌝ }
+    ensures { λ w. ⌜ Decides w (sixAt links (now (up .entry)) (now (member .entry)) (now (active .entry)) (now (owner .entry)) (now (state .entry)) (now (highspeed .entry)) p l r) ⌝ }
 {
     if up[p] == 1 {
         if l < links {
             let a = owner[l] as usize;
             if member[a * 16 + p] == 1 {
                 if active[a * 16 + p] == 1 {
-                    return link_work(p, r.id, l, state[l], r);
+                    return link_work(p, r.id, l, state[l], highspeed[l], r);
                 }
                 return work::error(p, 6);
             }
@@ -152,14 +174,27 @@ pub fn class_six<'a>(
     iid: &'a [u32; 128],
     owner: &'a [u8; 128],
     state: &'a [u8; 128],
+    highspeed: &'a [u8; 128],
     p: usize,
     r: Reading,
 ) -> Decision
     requires { ⌜ Table (now iid) (now owner) links × (p < 16) ⌝ }
-    ensures { λ w. ⌜ DecidesOn (SixColumns links (now (up .entry)) (now (member .entry)) (now (active .entry)) (now (iid .entry)) (now (owner .entry)) (now (state .entry))) (λ g. classSixEffect g p r) w ⌝ }
+    ensures { λ w. ⌜ DecidesOn (SixColumns links (now (up .entry)) (now (member .entry)) (now (active .entry)) (now (iid .entry)) (now (owner .entry)) (now (state .entry)) (now (highspeed .entry))) (λ g. classSixEffect g p r) w ⌝ }
 {
     let l = lookup::index_of(iid, links, r.id);
-    six_at(links, up, member, active, iid, owner, state, p, l, r)
+    six_at(
+        links,
+        up,
+        member,
+        active,
+        iid,
+        owner,
+        state,
+        highspeed,
+        p,
+        l,
+        r,
+    )
 }
 
 // ---- to the recipients of the link at l
@@ -265,13 +300,33 @@ fn from_link(k: u32) -> bool
     (((k == 1) | (k == 8)) | (k == 9)) | ((11 <= k) & (k <= 14))
 }
 
+// The index l, if there is such a link and it can have the sequence number n; else the number of links.
+fn place_with(highspeed: &[u8; 128], links: usize, l: usize, n: u32) -> usize
+    requires { ⌜ links ≤ 128 ⌝ }
+    ensures { λ r. ⌜ r ≡ placeWith (now (highspeed .entry)) links l n ⌝ }
+{
+    if l < links {
+        if can_have(highspeed[l], n) {
+            return l;
+        }
+        return links;
+    }
+    links
+}
+
 // The index of the link that a message of the link side names, and the number of links where the message is refused (Rule 6.5).
-pub fn place_of(iid: &[u32; 128], links: usize, r: Reading) -> usize
+pub fn place_of<'a>(
+    iid: &'a [u32; 128],
+    highspeed: &'a [u8; 128],
+    links: usize,
+    r: Reading,
+) -> usize
     requires { ⌜ (links ≤ 128) × (ascends (now iid) links ≡ true) ⌝ }
-    ensures { λ l. ⌜ l ≡ placeOf (now (iid .entry)) links r ⌝ }
+    ensures { λ l. ⌜ l ≡ placeOf (now (iid .entry)) (now (highspeed .entry)) links r ⌝ }
 {
     if (r.code == 0) & ((r.class == 6) & from_link(r.msgtype)) {
-        return lookup::index_of(iid, links, r.id);
+        let l = lookup::index_of(iid, links, r.id);
+        return place_with(highspeed, links, l, r.sequence);
     }
     links
 }

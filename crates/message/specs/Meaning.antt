@@ -32,6 +32,8 @@ refusal n =
       correlation = 0;
       state = 0;
       retrieval = 0;
+      sequenced = 0;
+      sequence = 0;
     }
 
 -- an accepted message of a class and type with these parameters: what events and hosts ask of it
@@ -50,6 +52,8 @@ meaning c t ps =
       correlation = number 0x13 ps;
       state = number 0x302 ps;
       retrieval = number 0x306 ps;
+      sequenced = flag (has 0x307 ps);
+      sequence = number 0x307 ps;
     }
 
 -- what a verdict hands back of a message

@@ -81,6 +81,9 @@ pub struct Reading {
     pub state: u32,
     // of a Retrieval Request or Confirm
     pub retrieval: u32,
+    // 1 where a sequence number is given, and it
+    pub sequenced: u32,
+    pub sequence: u32,
 }
 
 fn unit(b: bool) -> u32
@@ -106,6 +109,8 @@ fn refused(code: u32) -> Reading
         correlation: 0,
         state: 0,
         retrieval: 0,
+        sequenced: 0,
+        sequence: 0,
     }
 }
 
@@ -163,6 +168,8 @@ fn meaning_at(c: u8, t: u8, state: u32, met: &[bool; 32], words: &[u32; 32]) -> 
         correlation: words[CORRELATION],
         state,
         retrieval: words[ACTION],
+        sequenced: unit(met[SEQUENCE]),
+        sequence: words[SEQUENCE],
     }
 }
 
@@ -298,6 +305,8 @@ fn bare(musts: u32, c: u8, t: u8) -> Reading
         correlation: 0,
         state: 0,
         retrieval: 0,
+        sequenced: 0,
+        sequence: 0,
     }
 }
 

@@ -32,7 +32,7 @@ limitsOf t =
     (cond (eqb t 0x304) (numberOf 0 3)
     (cond (eqb t 0x305) (numberOf 0 3)
     (cond (eqb t 0x306) (numberOf 1 2)
-    (cond (eqb t 0x307) (numberOf 0 127)
+    (cond (eqb t 0x307) (numberOf 0 4095)
     (cond (eqb t 0x308) (numberOf 0 1)
     (numberOf 0 0xffff_ffff)))))))))))))
 

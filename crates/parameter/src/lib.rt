@@ -190,7 +190,7 @@ fn limits_of(t: u16) -> Limits
         0x304 => number_of(0, 3),
         0x305 => number_of(0, 3),
         0x306 => number_of(1, 2),
-        0x307 => number_of(0, 127),
+        0x307 => number_of(0, 4095),
         0x308 => number_of(0, 1),
         _ => number_of(0, 0xffff_ffff),
     }

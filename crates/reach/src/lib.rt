@@ -186,6 +186,7 @@ pub fn of_event(g: Gateway, kind: u32, i: usize, msg: &[u8], room: usize, hold: 
         &g.iid,
         &g.owner,
         &g.state,
+        &g.highspeed,
         &g.held.count,
         &g.held.tag,
         &g.held.length,
@@ -193,7 +194,17 @@ pub fn of_event(g: Gateway, kind: u32, i: usize, msg: &[u8], room: usize, hold: 
         &g.held.id,
         &g.held.correlation,
     );
-    let found = ask::refused(sound, asps, ases, links, &g.iid, ask, hold, room);
+    let found = ask::refused(
+        sound,
+        asps,
+        ases,
+        links,
+        &g.iid,
+        &g.highspeed,
+        ask,
+        hold,
+        room,
+    );
     if found.code != 0 {
         return [false; 16];
     }

@@ -6,7 +6,7 @@ use mathlib.Core.List.{List, [], _∷_, _++_}
 use lib.ListN.{length, getD}
 use lib.Dec.{ltb, leb, eqb}
 use Rattle.laws.specs.Choice.{_orElse_, _if_}
-use Rattle.laws.specs.Columns.{tabulate}
+use Rattle.laws.specs.Columns.{numberAt, tabulate}
 use Rattle.wire.specs.Walk.{walk}
 use Rattle.message.specs.Verdict.{verdict}
 use Rattle.message.specs.Meaning.{readingOf}
@@ -16,10 +16,10 @@ use Rattle.gateway.specs.declared.Gateway.{Gateway}
 use Rattle.action.specs.Types.{aspUp, aspDown, beat, beatAck, aspActive, aspInactive}
 use Rattle.server.specs.declared.Change.the-variants.{AspUp, AspDown, Deactivate, Activate, Recover}
 use Rattle.rules.specs.Event.{EventKind, message, lost, recovery, linkUp, linkDown, linkMessage, Event}
-use Rattle.rules.specs.Identifiers.{isKnown}
+use Rattle.rules.specs.Identifiers.{isKnown, linkOf}
 use Rattle.rules.specs.Effect.{Effect, send, changeIn, holdBytes, oneAction, error}
 use Rattle.rules.specs.Asp.{upEffect, downEffect, lostEffect, activeEffect, inactiveEffect, trafficEffect}
-use Rattle.rules.specs.Link.{classSixEffect, linkUpEffect, linkDownEffect, linkMessageEffect}
+use Rattle.rules.specs.Link.{canHave, classSixEffect, linkUpEffect, linkDownEffect, linkMessageEffect}
 
 -- ---- a message of ASP p
 
@@ -71,7 +71,8 @@ effectOf g (linkMessage s) = linkMessageEffect g s (readingOf s)
 unfoldable pub fromLink : ℕ → Bool
 fromLink k = eqb k 1 || eqb k 8 || eqb k 9 || (leb 11 k && leb k 14)
 
--- what is not refused with 102: an ASP, AS or link of the plan; a message of the link side that reads, of such a type and of a known identifier (Rule 6.5)
+-- what is not refused with 102: an ASP, AS or link of the plan; a message of the link side that reads, of such a type, of a known identifier, and with no sequence number
+-- that its link cannot have (Rule 6.5)
 abbrev pub inPlan : Gateway → EventKind → Bool
 inPlan g (message p s) = ltb p (g .asps)
 inPlan g (lost p) = ltb p (g .asps)
@@ -79,7 +80,9 @@ inPlan g (recovery a) = ltb a (g .ases)
 inPlan g (linkUp l) = ltb l (g .links)
 inPlan g (linkDown l) = ltb l (g .links)
 inPlan g (linkMessage s) =
-    eqb (verdict s) 0 && (eqb (readingOf s .class) 6 && (fromLink (readingOf s .msgtype) && isKnown g (readingOf s .id)))
+    eqb (verdict s) 0
+    && (eqb (readingOf s .class) 6 && (fromLink (readingOf s .msgtype)
+    && (isKnown g (readingOf s .id) && canHave (numberAt (g .highspeed) (linkOf g (readingOf s .id))) (readingOf s .sequence))))
 
 -- the words that an event asks for, or it is refused with 101 (Rule 6.6)
 abbrev pub leastRoom : ℕ

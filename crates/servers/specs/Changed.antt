@@ -101,6 +101,7 @@ withColumns g up active waiting state held =
       iid = g .iid;
       owner = g .owner;
       state = state;
+      highspeed = g .highspeed;
       held = held;
     }
 

@@ -56,16 +56,16 @@ askReach g s (LinkDown l) a = eqb (ownerAt g l) a
 askReach g s (LinkMessage r) a = ownsId g (r .id) a
 
 -- what it names is in the plan
-abbrev pub askKnown : ℕ → ℕ → ℕ → List ℕ → Ask → Bool
-askKnown asps ases links iid (Up p r) = ltb p asps
-askKnown asps ases links iid (Down p) = ltb p asps
-askKnown asps ases links iid (Traffic on p r) = ltb p asps
-askKnown asps ases links iid (Other p wrong r) = ltb p asps
-askKnown asps ases links iid (Lost p) = ltb p asps
-askKnown asps ases links iid (Recovery a) = ltb a ases
-askKnown asps ases links iid (LinkUp l) = ltb l links
-askKnown asps ases links iid (LinkDown l) = ltb l links
-askKnown asps ases links iid (LinkMessage r) = passes iid links r
+abbrev pub askKnown : ℕ → ℕ → ℕ → List ℕ → List ℕ → Ask → Bool
+askKnown asps ases links iid highspeed (Up p r) = ltb p asps
+askKnown asps ases links iid highspeed (Down p) = ltb p asps
+askKnown asps ases links iid highspeed (Traffic on p r) = ltb p asps
+askKnown asps ases links iid highspeed (Other p wrong r) = ltb p asps
+askKnown asps ases links iid highspeed (Lost p) = ltb p asps
+askKnown asps ases links iid highspeed (Recovery a) = ltb a ases
+askKnown asps ases links iid highspeed (LinkUp l) = ltb l links
+askKnown asps ases links iid highspeed (LinkDown l) = ltb l links
+askKnown asps ases links iid highspeed (LinkMessage r) = passes iid highspeed links r
 
 -- class and type are bytes, and what the link side sends is as it was read
 abbrev pub AskSmall : List ℕ → Ask → Type 0
@@ -115,7 +115,7 @@ AskAt links iid (LinkMessage r) l = l ≡ indexOf iid links (r .id)
 pub record AsksKind (e : EventKind) (s : List ℕ) (ask : Ask) : Type 0 where
   pub effect : (g : Gateway) → askEffect g s ask ≡ effectOf g e
   pub reach : (g : Gateway) (a : ℕ) → askReach g s ask a ≡ kindReach g e a
-  pub known : (g : Gateway) → askKnown (g .asps) (g .ases) (g .links) (g .iid) ask ≡ inPlan g e
+  pub known : (g : Gateway) → askKnown (g .asps) (g .ases) (g .links) (g .iid) (g .highspeed) ask ≡ inPlan g e
   pub small : AskSmall s ask
 
 abbrev pub Asks : ℕ → ℕ → List ℕ → Ask → Type 0
@@ -124,20 +124,20 @@ Asks k i s ask = AsksKind (happened k i s) s ask
 -- ---- laws
 
 -- what is in the plan is within the tables
-pub ask-fits : (asps ases links : ℕ) (iid s : List ℕ) (ask : Ask) → Limits asps ases links → askKnown asps ases links iid ask ≡ true
+pub ask-fits : (asps ases links : ℕ) (iid highspeed s : List ℕ) (ask : Ask) → Limits asps ases links → askKnown asps ases links iid highspeed ask ≡ true
     → AskSmall s ask → AskFits links iid s ask
-ask-fits n m k iid s (Up p r) c h q = omega (arith, ltb-true p n h, c .asps)
-ask-fits n m k iid s (Down p) c h q = omega (arith, ltb-true p n h, c .asps)
-ask-fits n m k iid s (Traffic on p r) c h q = omega (arith, ltb-true p n h, c .asps)
-ask-fits n m k iid s (Other p wrong r) c h q = (omega (arith, ltb-true p n h, c .asps), q .0, q .1)
-ask-fits n m k iid s (Lost p) c h q = omega (arith, ltb-true p n h, c .asps)
-ask-fits n m k iid s (Recovery a) c h q = refl
-ask-fits n m k iid s (LinkUp l) c h q = ltb-true l k h
-ask-fits n m k iid s (LinkDown l) c h q = ltb-true l k h
-ask-fits n m k iid s (LinkMessage r) c h q = (side iid k r h, fits iid k s r q h)
+ask-fits n m k iid highspeed s (Up p r) c h q = omega (arith, ltb-true p n h, c .asps)
+ask-fits n m k iid highspeed s (Down p) c h q = omega (arith, ltb-true p n h, c .asps)
+ask-fits n m k iid highspeed s (Traffic on p r) c h q = omega (arith, ltb-true p n h, c .asps)
+ask-fits n m k iid highspeed s (Other p wrong r) c h q = (omega (arith, ltb-true p n h, c .asps), q .0, q .1)
+ask-fits n m k iid highspeed s (Lost p) c h q = omega (arith, ltb-true p n h, c .asps)
+ask-fits n m k iid highspeed s (Recovery a) c h q = refl
+ask-fits n m k iid highspeed s (LinkUp l) c h q = ltb-true l k h
+ask-fits n m k iid highspeed s (LinkDown l) c h q = ltb-true l k h
+ask-fits n m k iid highspeed s (LinkMessage r) c h q = (side iid highspeed k r h, fits iid highspeed k s r q h)
 
-pub ask-fits-at : (g : Gateway) (s : List ℕ) (ask : Ask) {n : ℕ} → n ≡ g .links → Limits (g .asps) (g .ases) (g .links) → askKnown (g .asps) (g .ases) (g .links) (g .iid) ask ≡ true → AskSmall s ask → AskFits n (g .iid) s ask
-ask-fits-at g s ask e c h q = rw e (ask-fits (g .asps) (g .ases) (g .links) (g .iid) s ask c h q)
+pub ask-fits-at : (g : Gateway) (s : List ℕ) (ask : Ask) {n : ℕ} → n ≡ g .links → Limits (g .asps) (g .ases) (g .links) → askKnown (g .asps) (g .ases) (g .links) (g .iid) (g .highspeed) ask ≡ true → AskSmall s ask → AskFits n (g .iid) s ask
+ask-fits-at g s ask e c h q = rw e (ask-fits (g .asps) (g .ases) (g .links) (g .iid) (g .highspeed) s ask c h q)
 
 -- ---- what is asked is the event
 

@@ -14,8 +14,8 @@ use Rattle.gateway.specs.declared.Units.{Units}
 use Rattle.gateway.specs.Sound.{soundTables, noUnits, sized, unitsOk, blankAt, allUnits, soundUnits}
 
 -- the state of the columns that it lends
-abbrev pub gatewayOf : ℕ → ℕ → ℕ → ℕ → List ℕ → List ℕ → List ℕ → List ℕ → List ℕ → List ℕ → List ℕ → List ℕ → List ℕ → Units → Gateway
-gatewayOf asps ases links spare aspid up member active mode waiting iid owner state held =
+abbrev pub gatewayOf : ℕ → ℕ → ℕ → ℕ → List ℕ → List ℕ → List ℕ → List ℕ → List ℕ → List ℕ → List ℕ → List ℕ → List ℕ → List ℕ → Units → Gateway
+gatewayOf asps ases links spare aspid up member active mode waiting iid owner state highspeed held =
     record {
       asps = asps;
       ases = ases;
@@ -30,13 +30,14 @@ gatewayOf asps ases links spare aspid up member active mode waiting iid owner st
       iid = iid;
       owner = owner;
       state = state;
+      highspeed = highspeed;
       held = held;
     }
 
 -- its tables
-abbrev pub soundTablesOf : ℕ → ℕ → ℕ → ℕ → List ℕ → List ℕ → List ℕ → List ℕ → List ℕ → List ℕ → List ℕ → List ℕ → List ℕ → Bool
-soundTablesOf asps ases links spare aspid up member active mode waiting iid owner state =
-    soundTables (gatewayOf asps ases links spare aspid up member active mode waiting iid owner state noUnits)
+abbrev pub soundTablesOf : ℕ → ℕ → ℕ → ℕ → List ℕ → List ℕ → List ℕ → List ℕ → List ℕ → List ℕ → List ℕ → List ℕ → List ℕ → List ℕ → Bool
+soundTablesOf asps ases links spare aspid up member active mode waiting iid owner state highspeed =
+    soundTables (gatewayOf asps ases links spare aspid up member active mode waiting iid owner state highspeed noUnits)
 
 -- the units of the columns that a state lends
 abbrev pub unitsOf : List ℕ → List ℕ → List ℕ → List ℕ → List ℕ → List ℕ → Units

@@ -8,6 +8,7 @@ use native.Mathlib.Omega.{arith}
 use native.Mathlib.Decide.{decLt}
 use lib.Dec.{eqb, leb, ltb}
 use borrow.Author.Tests.{ne-eqb, le-leb, lt-leb, le-ltb, eqb-true}
+use Rattle.laws.specs.Columns.{numberAt}
 use Rattle.laws.specs.Inner.Every.{and-left, and-right}
 use Rattle.message.specs.Verdict.{verdict}
 use Rattle.message.specs.Meaning.{meaning, outcome, readingOf, dataAt}
@@ -17,36 +18,70 @@ use Rattle.message.specs.declared.Reading.{Reading}
 use Rattle.gateway.specs.declared.Gateway.{Gateway}
 use Rattle.lookup.specs.Links.{indexOf, known}
 use Rattle.rules.specs.Event.{linkMessage}
-use Rattle.rules.specs.Identifiers.{isKnown}
+use Rattle.rules.specs.Identifiers.{isKnown, linkOf}
+use Rattle.rules.specs.Link.{canHave}
 use Rattle.rules.specs.Rules.{fromLink, inPlan}
 
 -- a message of the link side that is not refused with 102 (Rule 6.5)
-unfoldable pub passes : List ℕ → ℕ → Reading → Bool
-passes iid links r = eqb (r .code) 0 && (eqb (r .class) 6 && (fromLink (r .msgtype) && known iid links (r .id)))
+unfoldable pub passes : List ℕ → List ℕ → ℕ → Reading → Bool
+passes iid highspeed links r =
+    eqb (r .code) 0
+    && (eqb (r .class) 6 && (fromLink (r .msgtype)
+    && (known iid links (r .id) && canHave (numberAt highspeed (indexOf iid links (r .id))) (r .sequence))))
+
+-- the index l, if there is such a link and it can have the sequence number n; else the number of links
+unfoldable pub placeWith : List ℕ → ℕ → ℕ → ℕ → ℕ
+placeWith highspeed links l n = cond (ltb l links) (cond (canHave (numberAt highspeed l) n) l links) links
 
 -- the index of its link, and the number of links where it is refused
-unfoldable pub placeOf : List ℕ → ℕ → Reading → ℕ
-placeOf iid links r = cond (eqb (r .code) 0 && (eqb (r .class) 6 && fromLink (r .msgtype))) (indexOf iid links (r .id)) links
+unfoldable pub placeOf : List ℕ → List ℕ → ℕ → Reading → ℕ
+placeOf iid highspeed links r =
+    cond (eqb (r .code) 0 && (eqb (r .class) 6 && fromLink (r .msgtype))) (placeWith highspeed links (indexOf iid links (r .id)) (r .sequence)) links
 
-pub place-there : (iid : List ℕ) (links : ℕ) (r : Reading) → ltb (placeOf iid links r) links ≡ passes iid links r
-unfolding placeOf passes known
-place-there iid links r = go (eqb (r .code) 0) (eqb (r .class) 6) (fromLink (r .msgtype))
-  where
-    go : (u v w : Bool) → ltb (cond (u && (v && w)) (indexOf iid links (r .id)) links) links ≡ (u && (v && (w && ltb (indexOf iid links (r .id)) links)))
-    go true true true = refl
-    go true true false = le-ltb links links (omega arith)
-    go true false w = le-ltb links links (omega arith)
-    go false v w = le-ltb links links (omega arith)
+none-there : (links : ℕ) → ltb links links ≡ false
+none-there links = le-ltb links links (omega arith)
 
-pub place-is : (iid : List ℕ) (links : ℕ) (r : Reading) → passes iid links r ≡ true → placeOf iid links r ≡ indexOf iid links (r .id)
-unfolding placeOf passes
-place-is iid links r = go (eqb (r .code) 0) (eqb (r .class) 6) (fromLink (r .msgtype))
+with-there : (highspeed : List ℕ) (links l n : ℕ) → ltb (placeWith highspeed links l n) links ≡ (ltb l links && canHave (numberAt highspeed l) n)
+unfolding placeWith
+with-there highspeed links l n = go (ltb l links) (canHave (numberAt highspeed l) n) refl
   where
-    go : (u v w : Bool) → (u && (v && (w && known iid links (r .id)))) ≡ true → cond (u && (v && w)) (indexOf iid links (r .id)) links ≡ indexOf iid links (r .id)
-    go true true true h = refl
-    go true true false h = absurd (false≢true h)
-    go true false w h = absurd (false≢true h)
-    go false v w h = absurd (false≢true h)
+    go : (u v : Bool) → ltb l links ≡ u → ltb (cond u (cond v l links) links) links ≡ (u && v)
+    go true true e = e
+    go true false e = none-there links
+    go false v e = none-there links
+
+with-is : (highspeed : List ℕ) (links l n : ℕ) → (ltb l links && canHave (numberAt highspeed l) n) ≡ true → placeWith highspeed links l n ≡ l
+unfolding placeWith
+with-is highspeed links l n = go (ltb l links) (canHave (numberAt highspeed l) n)
+  where
+    go : (u v : Bool) → (u && v) ≡ true → cond u (cond v l links) links ≡ l
+    go true true h = refl
+    go true false h = absurd (false≢true h)
+    go false v h = absurd (false≢true h)
+
+module _ (iid highspeed : List ℕ) (links : ℕ) (r : Reading) where
+  abbrev at : ℕ
+  at = indexOf iid links (r .id)
+
+  pub place-there : ltb (placeOf iid highspeed links r) links ≡ passes iid highspeed links r
+  unfolding placeOf passes known
+  place-there = go (eqb (r .code) 0) (eqb (r .class) 6) (fromLink (r .msgtype))
+    where
+      go : (u v w : Bool) → ltb (cond (u && (v && w)) (placeWith highspeed links at (r .sequence)) links) links ≡ (u && (v && (w && (ltb at links && canHave (numberAt highspeed at) (r .sequence)))))
+      go true true true = with-there highspeed links at (r .sequence)
+      go true true false = none-there links
+      go true false w = none-there links
+      go false v w = none-there links
+
+  pub place-is : passes iid highspeed links r ≡ true → placeOf iid highspeed links r ≡ at
+  unfolding placeOf passes known
+  place-is = go (eqb (r .code) 0) (eqb (r .class) 6) (fromLink (r .msgtype))
+    where
+      go : (u v w : Bool) → (u && (v && (w && (ltb at links && canHave (numberAt highspeed at) (r .sequence))))) ≡ true → cond (u && (v && w)) (placeWith highspeed links at (r .sequence)) links ≡ at
+      go true true true h = with-is highspeed links at (r .sequence) h
+      go true true false h = absurd (false≢true h)
+      go true false w h = absurd (false≢true h)
+      go false v w h = absurd (false≢true h)
 
 -- the number of a reading is the verdict
 pub code-is : (s : List ℕ) → readingOf s .code ≡ verdict s
@@ -57,8 +92,8 @@ code-is s = go (verdict s)
     go zero = refl
     go (suc n) = rw (ne-eqb (suc n) 0 (λ e. omega arith))
 
-pub in-plan : (g : Gateway) (s : List ℕ) → passes (g .iid) (g .links) (readingOf s) ≡ inPlan g (linkMessage s)
-unfolding passes isKnown
+pub in-plan : (g : Gateway) (s : List ℕ) → passes (g .iid) (g .highspeed) (g .links) (readingOf s) ≡ inPlan g (linkMessage s)
+unfolding passes isKnown linkOf
 in-plan g s = rw (code-is s)
 
 from-small : (k : ℕ) → fromLink k ≡ true → k < 256
@@ -79,11 +114,11 @@ pub record Fits (s : List ℕ) (r : Reading) : Type 0 where
   pub early : dataAt s .start ≤ 2048
   pub mark : r .correlated ≤ 1
 
-pub fits : (iid : List ℕ) (links : ℕ) (s : List ℕ) (r : Reading) → r ≡ readingOf s → passes iid links r ≡ true → r .msgtype ≡ 1 → Fits s r
+pub fits : (iid highspeed : List ℕ) (links : ℕ) (s : List ℕ) (r : Reading) → r ≡ readingOf s → passes iid highspeed links r ≡ true → r .msgtype ≡ 1 → Fits s r
 unfolding passes
-fits iid links s r e h m =
+fits iid highspeed links s r e h m =
     let a = eqb (r .class) 6 in
-    let b = fromLink (r .msgtype) && known iid links (r .id) in
+    let b = fromLink (r .msgtype) && (known iid links (r .id) && canHave (numberAt highspeed (indexOf iid links (r .id))) (r .sequence)) in
     let x = and-right (eqb (r .code) 0) (a && b) h in
     let v : verdict s ≡ 0 = sym (code-is s) ∙ (λ j. sym e j .code) ∙ eqb-true (r .code) 0 (and-left (eqb (r .code) 0) (a && b) h) in
     let u = good-unit s v ((λ j. sym e j .class) ∙ eqb-true (r .class) 6 (and-left a b x)) ((λ j. sym e j .msgtype) ∙ m) in
@@ -99,12 +134,17 @@ pub record Side (iid : List ℕ) (links : ℕ) (r : Reading) : Type 0 where
   pub msgtype : r .msgtype < 256
   pub there : known iid links (r .id) ≡ true
 
-pub side : (iid : List ℕ) (links : ℕ) (r : Reading) → passes iid links r ≡ true → Side iid links r
+pub side : (iid highspeed : List ℕ) (links : ℕ) (r : Reading) → passes iid highspeed links r ≡ true → Side iid links r
 unfolding passes
-side iid links r h =
+side iid highspeed links r h =
     let a = eqb (r .class) 6 in
     let b = fromLink (r .msgtype) in
     let d = known iid links (r .id) in
-    let x = and-right (eqb (r .code) 0) (a && (b && d)) h in
-    let y = and-right a (b && d) x in
-    record { class = eqb-true (r .class) 6 (and-left a (b && d) x); msgtype = from-small (r .msgtype) (and-left b d y); there = and-right b d y }
+    let n = canHave (numberAt highspeed (indexOf iid links (r .id))) (r .sequence) in
+    let x = and-right (eqb (r .code) 0) (a && (b && (d && n))) h in
+    let y = and-right a (b && (d && n)) x in
+    record {
+      class = eqb-true (r .class) 6 (and-left a (b && (d && n)) x);
+      msgtype = from-small (r .msgtype) (and-left b (d && n) y);
+      there = and-left d n (and-right b (d && n) y);
+    }

@@ -37,22 +37,22 @@ data-tree p x st r = go (eqb st 2) (eqb (r .correlated) 1)
     go false v = refl
 
 -- p is up; the link at l is there, and owned by an AS of p; p is active in it
-unfoldable pub sixAt : ℕ → List ℕ → List ℕ → List ℕ → List ℕ → List ℕ → ℕ → ℕ → Reading → Effect
-sixAt links up member active owner state p l r =
+unfoldable pub sixAt : ℕ → List ℕ → List ℕ → List ℕ → List ℕ → List ℕ → List ℕ → ℕ → ℕ → Reading → Effect
+sixAt links up member active owner state highspeed p l r =
     cond (eqb (numberAt up p) 1)
     (cond (ltb l links)
     (cond (eqb (numberAt member (pair (numberAt owner l) p)) 1)
-    (cond (eqb (numberAt active (pair (numberAt owner l) p)) 1) (linkEffect p (r .id) l (numberAt state l) r) (send (error p 6)))
+    (cond (eqb (numberAt active (pair (numberAt owner l) p)) 1) (linkEffect p (r .id) l (numberAt state l) (numberAt highspeed l) r) (send (error p 6)))
     (send (error2 p (r .id))))
     (send (error2 p (r .id))))
     (send (error p 6))
 
-six-at : (g : Gateway) (p : ℕ) (r : Reading) → sixAt (g .links) (g .up) (g .member) (g .active) (g .owner) (g .state) p (linkOf g (r .id)) r ≡ classSixEffect g p r
+six-at : (g : Gateway) (p : ℕ) (r : Reading) → sixAt (g .links) (g .up) (g .member) (g .active) (g .owner) (g .state) (g .highspeed) p (linkOf g (r .id)) r ≡ classSixEffect g p r
 unfolding sixAt classSixEffect isKnown linkOf known
 six-at g p r =
     let l = linkOf g (r .id) in
     let a = numberAt (g .owner) l in
-    go (linkEffect p (r .id) l (numberAt (g .state) l) r) (send (error p 6)) (send (error2 p (r .id))) (isSet (g .up) p) (isKnown g (r .id)) (isSet (g .member) (pair a p)) (isSet (g .active) (pair a p))
+    go (linkEffect p (r .id) l (numberAt (g .state) l) (numberAt (g .highspeed) l) r) (send (error p 6)) (send (error2 p (r .id))) (isSet (g .up) p) (isKnown g (r .id)) (isSet (g .member) (pair a p)) (isSet (g .active) (pair a p))
   where
     go : (x y z : Effect) (u k m a : Bool) → cond u (cond k (cond m (cond a x y) z) z) y ≡ cond (not u) y (cond (not (k && m)) z (cond (not a) y x))
     go x y z true true true true = refl
@@ -62,7 +62,7 @@ six-at g p r =
     go x y z false k m a = refl
 
 -- the state g has these columns
-pub record SixColumns (links : ℕ) (up member active iid owner state : List ℕ) (g : Gateway) : Type 0 where
+pub record SixColumns (links : ℕ) (up member active iid owner state highspeed : List ℕ) (g : Gateway) : Type 0 where
   pub links-is : g .links ≡ links
   pub up-is : g .up ≡ up
   pub member-is : g .member ≡ member
@@ -70,11 +70,12 @@ pub record SixColumns (links : ℕ) (up member active iid owner state : List ℕ
   pub iid-is : g .iid ≡ iid
   pub owner-is : g .owner ≡ owner
   pub state-is : g .state ≡ state
+  pub highspeed-is : g .highspeed ≡ highspeed
 
 -- what is decided at the index of the message's link is the rules' on each of them
-pub six-on : {links : ℕ} {up member active iid owner state : List ℕ} (p : ℕ) (r : Reading) {l : ℕ} {w : Decision}
-    → l ≡ indexOf iid links (r .id) → Decides w (sixAt links up member active owner state p l r)
-    → DecidesOn (SixColumns links up member active iid owner state) (λ g. classSixEffect g p r) w
+pub six-on : {links : ℕ} {up member active iid owner state highspeed : List ℕ} (p : ℕ) (r : Reading) {l : ℕ} {w : Decision}
+    → l ≡ indexOf iid links (r .id) → Decides w (sixAt links up member active owner state highspeed p l r)
+    → DecidesOn (SixColumns links up member active iid owner state highspeed) (λ g. classSixEffect g p r) w
 unfolding linkOf
 six-on p r e d =
-    record { on = λ g h. decided (rw (← h .links-is, ← h .up-is, ← h .member-is, ← h .active-is, ← h .owner-is, ← h .state-is, ← h .iid-is) at (rw e at d)) (six-at g p r) }
+    record { on = λ g h. decided (rw (← h .links-is, ← h .up-is, ← h .member-is, ← h .active-is, ← h .owner-is, ← h .state-is, ← h .highspeed-is, ← h .iid-is) at (rw e at d)) (six-at g p r) }

@@ -62,6 +62,8 @@ meaningAt c t met words =
       correlation = getD words (slot 0x13) 0;
       state = getD words (slot 0x302) 0;
       retrieval = getD words (slot 0x306) 0;
+      sequenced = flag (getD met (slot 0x307) false);
+      sequence = getD words (slot 0x307) 0;
     }
 
 -- what a number hands back: the meaning, or the refusal
