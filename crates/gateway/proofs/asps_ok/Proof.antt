@@ -4,12 +4,12 @@ use Rattle.gateway.specs.Sound.{soundAsps}
 use Rattle.gateway.proofs.asps_ok.Statement.{statement}
 use Rattle.gateway.proofs.asps_ok.Tie as tie
 
-ups-ok-requires : tie.Need-ups-ok-requires
-ups-ok-requires c κs = c .before .before .before .before .pre
+flags-within-requires : tie.Need-flags-within-requires
+flags-within-requires c κs = (c .before .before .before .before .before .pre, search needs, search needs)
 
 returns : tie.Need-returns
 unfolding soundAsps
-returns c h = cc (c .before .before .before .before .within .ensures .1 h)
+returns c h = cc (c .before .before .before .before .before .within .ensures .1 h)
 
 pub asps-ok-spec : {M : Type 1} → statement M
-asps-ok-spec = tie.close (tie.spec (search needs) (search needs) (search needs) ups-ok-requires returns)
+asps-ok-spec = tie.close (tie.spec (search needs) (search needs) (search needs) flags-within-requires returns)

@@ -11,8 +11,11 @@ asps-ok-requires c κs = c .before .places .ensures
 ases-ok-requires : tie.Need-ases-ok-requires
 ases-ok-requires c κs = c .before .before .before .places .ensures
 
+flags-within-requires : tie.Need-flags-within-requires
+flags-within-requires c κs = (c .before .before .before .before .before .before .before .places .ensures, search needs, search needs)
+
 returns : tie.Need-returns
-returns c = joined _ _ _ _ _ _ (c .before .before .before .before .before .before .counts-ok .ensures) refl (c .before .before .before .asps-ok .ensures) (c .before .ases-ok .ensures) (c .links-ok .ensures)
+returns c = joined _ _ _ _ _ _ _ (c .before .before .before .before .before .before .before .before .before .counts-ok .ensures) refl (c .before .before .before .before .before .before .asps-ok .ensures) (c .before .before .before .before .ases-ok .ensures) (c .before .before .before .links-ok .ensures) (c .flags-within .ensures)
 
 pub tables-ok-spec : {M : Type 1} → statement M
-tables-ok-spec = tie.close (tie.spec (search needs) (search needs) asps-ok-requires ases-ok-requires (search needs) returns)
+tables-ok-spec = tie.close (tie.spec (search needs) (search needs) asps-ok-requires ases-ok-requires (search needs) flags-within-requires returns)
