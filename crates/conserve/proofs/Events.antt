@@ -27,7 +27,7 @@ use Rattle.server.specs.declared.Change.the-variants.{AspDown, Recover}
 use Rattle.server.specs.Inner.Change.{fits}
 use Rattle.servers.specs.Changed.{withUnit}
 use Rattle.keeps.specs.Inner.Units.{joined-with, sizes}
-use Rattle.keeps.proofs.Next.{known-in, known-below, next-sound}
+use Rattle.keeps.proofs.Next.{known-below, next-sound}
 use Rattle.rules.specs.Event.{EventKind, message, lost, recovery, linkUp, linkDown, linkMessage, Event}
 use Rattle.rules.specs.Identifiers.{isKnown, linkOf, ownerAt}
 use Rattle.rules.specs.Reach.{ownsId}
@@ -37,6 +37,7 @@ use Rattle.rules.specs.Link.{isPending, arrival, holdEffect, linkMessageEffect}
 use Rattle.rules.specs.Rules.{effectOf, inPlan, refusal}
 use Rattle.rules.specs.Entry.{actions, next}
 use Rattle.rules.specs.Inner.Accepted.{accepted}
+use Rattle.rules.specs.Inner.TakeIn.{planned}
 use Rattle.conserve.specs.Conserve.{isArrival, isRecovery, holds}
 use Rattle.rules.specs.Sent.{isPassed, isData as isToAsp}
 use Rattle.rules.specs.Inner.Shapes.{Shapes, isOver, of-message, of-up, of-down}
@@ -133,7 +134,7 @@ module _ (g : Gateway) (a : ℕ) where
         (λ t. rw t (still g ok a b refl refl)))
       where
         k : isKnown g (readingOf s .id) ≡ true
-        k = known-in g s i
+        k = planned g s i .known
 
         o : ℕ
         o = ownerAt g (linkOf g (readingOf s .id))

@@ -34,7 +34,8 @@ use Rattle.rules.specs.Identifiers.{firstRefused, ownsNamed, ownersNamed, isKno
 use Rattle.rules.specs.Effect.{Effect, send, setLink, changeIn, takeIn, oneAction, error, error2}
 use Rattle.rules.specs.Asp.{asesOf, activeIn, upEffect, downEffect, lostEffect, otherMode, activeEffect, trafficEffect}
 use Rattle.rules.specs.Link.{linkEffect, classSixEffect, recipientsOf, toRecipients, linkUpEffect, linkDownEffect, isPending, arrival, holdEffect, linkMessageEffect, starting, idle, inService, stopping}
-use Rattle.rules.specs.Rules.{isError, classTypeOf, fromAsp, fromLink, readEffect, messageEffect, effectOf, inPlan}
+use Rattle.rules.specs.Inner.TakeIn.{planned}
+use Rattle.rules.specs.Rules.{isError, classTypeOf, fromAsp, readEffect, messageEffect, effectOf, inPlan}
 use Rattle.rules.specs.Reach.{ownsId, readReach, messageReach, kindReach, fromController}
 use Rattle.keeps.proofs.Next.{known-below}
 use Rattle.history.proofs.Bits.{cond-same, cond-both}
@@ -81,7 +82,7 @@ module _ (g : Gateway) (g′ : Gateway) where
   active-plan p mode n = ap (λ (t : Bool). cond t (send (error p 5)) (changeIn (oneAction p aspActiveAck 0 0) (Activate p) n)) (other-plan mode n)
 
   pub in-plan : (k : EventKind) → inPlan (dyn g g′) k ≡ inPlan g k
-  unfolding isKnown
+  unfolding isKnown linkOf
   in-plan (message p m) = refl
   in-plan (lost p) = refl
   in-plan (recovery a) = refl
@@ -186,7 +187,7 @@ module _ (g : Gateway) (g′ : Gateway) (ok : isSound g ≡ true) (ok′ : isSou
         let y = and-left (isKnown g (r .id)) _ (not-false (isKnown g (r .id) && isMember g (ownerAt g (linkOf g (r .id))) p) n) in
         let o = owner-16 (linkOf g (r .id)) (known-below g ok (r .id) y) in
         cond-both (not (isActive g (ownerAt g (linkOf g (r .id))) p)) (ap not (flag (k .acts (ownerAt g (linkOf g (r .id))) p o (asps-16 g ok p b) (h y))))
-        (λ _. refl) (λ _. ap (λ (x : ℕ). linkEffect p (r .id) (linkOf g (r .id)) x r) (k .lines (linkOf g (r .id)) (h y)))))
+        (λ _. refl) (λ _. ap (λ (x : ℕ). linkEffect p (r .id) (linkOf g (r .id)) x (numberAt (g .highspeed) (linkOf g (r .id))) r) (k .lines (linkOf g (r .id)) (h y)))))
 
     read-alike : (m : List ℕ) (r : Reading) → Alike g (λ a. ltb a (g .ases) && readReach g p m r a) (eqb p) g′ → readEffect (dyn g g′) p m r ≡ readEffect g p m r
     unfolding readEffect downEffect
@@ -247,7 +248,7 @@ module _ (g : Gateway) (g′ : Gateway) (ok : isSound g ≡ true) (ok′ : isSou
       ∙ ap (setLink l idle) (told-alike (Reaches g (linkDown l)) (λ q. false) h l (cond (eqb (numberAt (g .state) l) stopping) releaseConfirm releaseIndication) (owner-16 l b) (link-reached l b)))
   effect-alike (linkMessage m) i h =
       let x = readingOf m .id in
-      let y = and-right (fromLink (readingOf m .msgtype)) (isKnown g x) (and-right (eqb (readingOf m .class) 6) _ (and-right (eqb (verdict m) 0) _ i)) in
+      let y = planned g m i .known in
       let b = known-below g ok x y in
       let o = ownerAt g (linkOf g x) in
       let d = owner-16 (linkOf g x) b in

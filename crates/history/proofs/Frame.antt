@@ -52,6 +52,7 @@ pub record Plan : Type 0 where
   pub mode : List ℕ
   pub iid : List ℕ
   pub owner : List ℕ
+  pub highspeed : List ℕ
 
 abbrev pub planOf : Gateway → Plan
 planOf g =
@@ -65,6 +66,7 @@ planOf g =
       mode = g .mode;
       iid = g .iid;
       owner = g .owner;
+      highspeed = g .highspeed;
     }
 
 pub data Key : Type 0 where
@@ -193,6 +195,7 @@ ext g h e s = λ j. record {
   iid = e plan j .iid;
   owner = e plan j .owner;
   state = lines j;
+  highspeed = e plan j .highspeed;
   held = record { count = units counts j; tag = units tags j; length = units lengths j; marked = units marks j; id = units ids j; correlation = units correlations j };
 }
   where
@@ -439,6 +442,7 @@ module _ (b b′ : Gateway) (P : planOf b′ ≡ planOf b) where
     iid = P j .iid;
     owner = P j .owner;
     state = b′ .state;
+    highspeed = P j .highspeed;
     held = b′ .held;
   }
 

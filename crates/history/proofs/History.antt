@@ -93,6 +93,7 @@ one-outside b e =
       mode = ap (λ (x : Plan). x .mode) same;
       iid = ap (λ (x : Plan). x .iid) same;
       owner = ap (λ (x : Plan). x .owner) same;
+      highspeed = ap (λ (x : Plan). x .highspeed) same;
       waiting = λ a l r. untouched b e (gate (wait a l)) r;
       active = λ a q l m r. untouched b e (gate (act a q l m)) r;
       state = λ l r. untouched b e (gate (line l)) r;

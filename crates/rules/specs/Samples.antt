@@ -5,10 +5,11 @@ use mathlib.Core.List.{List, [], _∷_}
 use Prim.Native.Nat.{ℕ}
 use Rattle.config.specs.Plan.{loadOf}
 use Rattle.gateway.specs.declared.Gateway.{Gateway}
-use Rattle.action.specs.Words.{action}
+use Rattle.action.specs.Words.{action, linkSide}
 use Rattle.message.specs.Samples.{active, ReaderSamples}
 use Rattle.rules.specs.Event.{EventKind, message, recovery, linkMessage, Event}
 use Rattle.rules.specs.Entry.{actions, next}
+use Rattle.rules.specs.Rules.{refusal}
 
 -- plan S, byte by byte (Rule 11.1)
 unfoldable pub planS : List ℕ
@@ -58,6 +59,15 @@ unit = 1 ∷ 0 ∷ 6 ∷ 1 ∷ 0 ∷ 0 ∷ 0 ∷ 24 ∷ 0 ∷ 1 ∷ 0 ∷ 8 ∷ 
 unfoldable pub g₆ : Gateway
 g₆ = next g₅ (event (linkMessage unit))
 
+-- Retrieval Request for the messages from number n on, and Retrieval Confirm with n as the number of the last one received: of the link with identifier 100, a plain one
+unfoldable pub retrieval : ℕ → List ℕ
+retrieval n =
+    1 ∷ 0 ∷ 6 ∷ 10 ∷ 0 ∷ 0 ∷ 0 ∷ 32 ∷ 0 ∷ 1 ∷ 0 ∷ 8 ∷ 0 ∷ 0 ∷ 0 ∷ 100 ∷ 3 ∷ 6 ∷ 0 ∷ 8 ∷ 0 ∷ 0 ∷ 0 ∷ 2 ∷ 3 ∷ 7 ∷ 0 ∷ 8 ∷ 0 ∷ 0 ∷ 0 ∷ n ∷ []
+
+unfoldable pub confirm : ℕ → List ℕ
+confirm n =
+    1 ∷ 0 ∷ 6 ∷ 11 ∷ 0 ∷ 0 ∷ 0 ∷ 40 ∷ 0 ∷ 1 ∷ 0 ∷ 8 ∷ 0 ∷ 0 ∷ 0 ∷ 100 ∷ 3 ∷ 6 ∷ 0 ∷ 8 ∷ 0 ∷ 0 ∷ 0 ∷ 1 ∷ 3 ∷ 8 ∷ 0 ∷ 8 ∷ 0 ∷ 0 ∷ 0 ∷ 0 ∷ 3 ∷ 7 ∷ 0 ∷ 8 ∷ 0 ∷ 0 ∷ 0 ∷ n ∷ []
+
 -- all starred samples, proved from the rules
 pub record Samples : Type 0 where
   pub reader : ReaderSamples
@@ -73,6 +83,11 @@ pub record Samples : Type 0 where
   pub holds : actions g₅ (event (linkMessage unit)) ≡ []
   -- and goes out as ASP 0 takes AS 0 over: an Ack, the unit, and AS 0 is active
   pub sends-held : actions g₆ (event (message 0 (bare 4 1))) ≡ action 0 1027 0 0 ∷ action 0 1537 100 0 ∷ action 0 1 0 65539 ∷ []
+  -- a sequence number that a plain link can have, and one that it cannot: of ASP 0, and of the link side
+  pub retrieves : actions g₂ (event (message 0 (retrieval 127))) ≡ action linkSide 1546 100 2 ∷ []
+  pub too-large : actions g₂ (event (message 0 (retrieval 128))) ≡ action 0 0 0 17 ∷ []
+  pub confirms : actions g₂ (event (linkMessage (confirm 127))) ≡ action 0 1547 100 0 ∷ []
+  pub refuses : refusal g₂ (event (linkMessage (confirm 128))) ≡ 102
 
 -- ---- two events of plan S that reach different ASes
 

@@ -17,7 +17,7 @@ use Rattle.laws.specs.Inner.Columns.{getD-tabulate}
 use Rattle.laws.specs.Inner.Every.{and-left, and-right, and-both, count-not}
 use Rattle.laws.specs.Inner.Count.{count-ext, count-some}
 use Rattle.gateway.specs.declared.Gateway.{Gateway}
-use Rattle.gateway.specs.Sound.{pair, blankFrom, flagIf, differs, upAt, soundAsps, memberAt, activeAt, soundRow, activeIn, modeAt, waitingAt, overrideAt, soundAs, soundAses, allUnder, soundLinks, isSound}
+use Rattle.gateway.specs.Sound.{pair, blankFrom, flagIf, differs, flagWithin, soundAsps, memberAt, activeAt, soundRow, activeIn, modeAt, waitingAt, overrideAt, soundAs, soundAses, allUnder, soundLinks, isSound}
 use Rattle.gateway.specs.Inner.Laws.{parts, whole, Server, server, links-parts, flag-set, counts-within, member-within}
 use Rattle.server.specs.declared.AsRecord.{AsRecord}
 use Rattle.server.specs.declared.Change.{Change}
@@ -152,8 +152,8 @@ InPlan asps (Deactivate p) = Unit {0}
 InPlan asps (Activate p) = Unit {0}
 InPlan asps Recover = Unit {0}
 
-ups-kept : (k : Change) (up : List ℕ) (asps : ℕ) → InPlan asps k → (q : ℕ) → q < 16 → upAt up asps q ≡ true → upAt (upAfter k up) asps q ≡ true
-unfolding upAt
+ups-kept : (k : Change) (up : List ℕ) (asps : ℕ) → InPlan asps k → (q : ℕ) → q < 16 → flagWithin up asps q ≡ true → flagWithin (upAfter k up) asps q ≡ true
+unfolding flagWithin
 ups-kept (AspUp p) up asps i q b h = rw (flag-at up p 1 q b) (go (eqb q p) refl)
   where
     go : (t : Bool) → eqb q p ≡ t → flagIf (cond t 1 (numberAt up q)) (ltb q asps) ≡ true
@@ -191,10 +191,10 @@ module _ (g : Gateway) (k : Change) (named : List Bool) (h : isSound g ≡ true)
   unfolding soundAsps
   asps-kept =
       let d = allBelow (differs (g .aspid)) (g .asps) && blankFrom (g .aspid) (g .asps) 16 in
-      let u = allBelow (upAt (g .up) (g .asps)) 16 in
+      let u = allBelow (flagWithin (g .up) (g .asps)) 16 in
       let e = parts g h .inAsps in
       and-both d _ (and-left d u e)
-      (all-of (upAt (upAfter k (g .up)) (g .asps)) 16 (λ q b. ups-kept k (g .up) (g .asps) i q b (all-at (upAt (g .up) (g .asps)) 16 (and-right d u e) q b)))
+      (all-of (flagWithin (upAfter k (g .up)) (g .asps)) 16 (λ q b. ups-kept k (g .up) (g .asps) i q b (all-at (flagWithin (g .up) (g .asps)) 16 (and-right d u e) q b)))
 
   pub keeps : isSound (withChange g k named) ≡ true
   unfolding withChange soundAses
@@ -202,7 +202,7 @@ module _ (g : Gateway) (k : Change) (named : List Bool) (h : isSound g ≡ true)
       whole (withChange g k named) (parts g h .counted) asps-kept
       (all-of (soundAs (upAfter k (g .up)) (g .member) (withChange g k named .active) (g .mode) (withChange g k named .waiting) (g .asps) (g .ases)) 16
       (λ a b. tested (upAfter k (g .up)) (g .member) (withChange g k named .active) (g .mode) (withChange g k named .waiting) (g .asps) (g .ases) a (after-as a b)))
-      (parts g h .inLinks)
+      (parts g h .inLinks) (parts g h .inKinds)
       (units-changed g k named (parts g h .inUnits))
 
 -- ---- kind by kind
@@ -259,7 +259,7 @@ links-kept iid owner state ases links l v b w h =
     go i (no z) e = rw (getD-set-other state l i v 0 (λ y. omega arith)) e
 
 pub keeps-link : (g : Gateway) (l v : ℕ) → isSound g ≡ true → l < g .links → v < 4 → isSound (withLink g l v) ≡ true
-keeps-link g l v h b w = whole (withLink g l v) (parts g h .counted) (parts g h .inAsps) (parts g h .inAses) (links-kept (g .iid) (g .owner) (g .state) (g .ases) (g .links) l v b w (parts g h .inLinks)) (parts g h .inUnits)
+keeps-link g l v h b w = whole (withLink g l v) (parts g h .counted) (parts g h .inAsps) (parts g h .inAses) (links-kept (g .iid) (g .owner) (g .state) (g .ases) (g .links) l v b w (parts g h .inLinks)) (parts g h .inKinds) (parts g h .inUnits)
 
 -- ---- a unit more
 
@@ -267,5 +267,5 @@ pub keeps-unit : (g : Gateway) (a : ℕ) (x : Arrival) → isSound g ≡ true �
 keeps-unit g a x h b w room good =
     let z = parts g h in
     let s = sizes (g .held) (g .waiting) (g .iid) (g .owner) (g .links) (z .inUnits) in
-    whole (withUnit g a x) (z .counted) (z .inAsps) (z .inAses) (z .inLinks)
+    whole (withUnit g a x) (z .counted) (z .inAsps) (z .inAses) (z .inLinks) (z .inKinds)
     (units-joined (g .held) (withUnit g a x .held) (g .waiting) (g .iid) (g .owner) (g .links) a x b w room good (joined-with (g .held) a x s b room) (sized-with (g .held) a x s) (z .inUnits))

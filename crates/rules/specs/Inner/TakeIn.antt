@@ -33,6 +33,22 @@ use Rattle.rules.specs.Inner.Shapes.{Shapes, effect-by}
 
 -- ---- a message of the link side
 
+-- what it has where it is not refused with 102; that its link can have its sequence number is left out, for nobody asks
+pub record Planned (g : Gateway) (s : List ℕ) : Type 0 where
+  pub reads : verdict s ≡ 0
+  pub class-6 : readingOf s .class ≡ 6
+  pub known : isKnown g (readingOf s .id) ≡ true
+
+pub planned : (g : Gateway) (s : List ℕ) → inPlan g (linkMessage s) ≡ true → Planned g s
+planned g s i =
+    let r = readingOf s in
+    let c = and-right (eqb (verdict s) 0) _ i in
+    record {
+      reads = eqb-true (verdict s) 0 (and-left (eqb (verdict s) 0) _ i);
+      class-6 = eqb-true (r .class) 6 (and-left (eqb (r .class) 6) _ c);
+      known = and-left (isKnown g (r .id)) _ (and-right (fromLink (r .msgtype)) _ (and-right (eqb (r .class) 6) _ c));
+    }
+
 -- what the unit is, and for whom
 pub record Takes (g : Gateway) (s : List ℕ) (a : ℕ) (x : Arrival) : Type 0 where
   pub owner : a ≡ ownerAt g (linkOf g (readingOf s .id))
@@ -133,19 +149,16 @@ unfolding isKnown linkOf known arrival isLinkOf
 taken-in g s a x ok i t =
     let r = readingOf s in
     let l = indexOf (g .iid) (g .links) (r .id) in
-    let v = eqb-true (verdict s) 0 (and-left (eqb (verdict s) 0) _ i) in
-    let i₂ = and-right (eqb (verdict s) 0) _ i in
-    let c = eqb-true (r .class) 6 (and-left (eqb (r .class) 6) _ i₂) in
-    let y = and-right (fromLink (r .msgtype)) (isKnown g (r .id)) (and-right (eqb (r .class) 6) _ i₂) in
-    let b : l < g .links = ltb-true l (g .links) y in
+    let y = planned g s i in
+    let b : l < g .links = ltb-true l (g .links) (y .known) in
     let o : a < g .ases = rw (t .owner) (owner-within g ok l b) in
-    let u = good-unit s v c (t .is-data) in
+    let u = good-unit s (y .reads) (y .class-6) (t .is-data) in
     let k = correlation-marked s in
     record {
       takes = t;
-      reads = v;
-      class-6 = c;
-      is-known = y;
+      reads = y .reads;
+      class-6 = y .class-6;
+      is-known = y .known;
       link-below = b;
       as-below = o;
       as-16 = omega (arith, counts-within g ok .ases);
