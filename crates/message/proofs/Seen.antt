@@ -199,4 +199,6 @@ module _ {met : List Bool} {words : List ℕ} {ps : List Par} (s : Seen met word
         word-number 0x13 (own 0x13 refl),
         word-number 0x302 (own 0x302 refl),
         word-number 0x306 (own 0x306 refl),
+        met-has 0x307 (own 0x307 refl),
+        word-number 0x307 (own 0x307 refl),
       )

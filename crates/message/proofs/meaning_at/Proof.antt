@@ -6,7 +6,12 @@ use Rattle.message.proofs.meaning_at.Tie as tie
 
 returns : tie.Need-returns
 unfolding meaningAt slot
-returns c = rw (c .before .before .unit3 .ensures, c .before .before .before .before .before .unit2 .ensures, c .before .before .before .before .before .before .before .before .before .unit .ensures, c .before .before .before .before .before .before .before .before .before .before .before .before .pre)
+returns c =
+    let fourth = c .before in
+    let third = fourth .before .before .before .before in
+    let second = third .before .before .before in
+    let first = second .before .before .before .before in
+    rw (fourth .unit4 .ensures, third .unit3 .ensures, second .unit2 .ensures, first .unit .ensures, first .before .before .before .pre)
 
 pub meaning-at-spec : {M : Type 1} → statement M
 unfolding slot
@@ -14,4 +19,4 @@ meaning-at-spec =
     tie.close
     (tie.spec
     (search needs) (search needs) (search needs) (search needs) (search needs) (search needs) (search needs) (search needs) (search needs)
-    (search needs) (search needs) (search needs) returns)
+    (search needs) (search needs) (search needs) (search needs) (search needs) (search needs) returns)
