@@ -33,7 +33,7 @@ use Rattle.rules.specs.Event.{EventKind, message, lost, recovery, linkUp, linkD
 use Rattle.rules.specs.Identifiers.{firstRefused, ownsNamed, ownersNamed, isKnown, linkOf, ownerAt, isMember, isActive}
 use Rattle.rules.specs.Effect.{Effect, send, setLink, changeIn, takeIn, oneAction, error, error2}
 use Rattle.rules.specs.Asp.{asesOf, activeIn, upEffect, downEffect, lostEffect, otherMode, activeEffect, trafficEffect}
-use Rattle.rules.specs.Link.{linkEffect, classSixEffect, recipientsOf, toRecipients, linkUpEffect, linkDownEffect, isPending, arrival, holdEffect, linkMessageEffect, starting, idle, inService, stopping}
+use Rattle.rules.specs.Link.{canHave, linkEffect, classSixEffect, recipientsOf, toRecipients, linkUpEffect, linkDownEffect, isPending, arrival, holdEffect, linkMessageEffect, starting, idle, inService, stopping}
 use Rattle.rules.specs.Inner.TakeIn.{planned}
 use Rattle.rules.specs.Rules.{isError, classTypeOf, fromAsp, readEffect, messageEffect, effectOf, inPlan}
 use Rattle.rules.specs.Reach.{ownsId, readReach, messageReach, kindReach, fromController}
@@ -187,7 +187,9 @@ module _ (g : Gateway) (g′ : Gateway) (ok : isSound g ≡ true) (ok′ : isSou
         let y = and-left (isKnown g (r .id)) _ (not-false (isKnown g (r .id) && isMember g (ownerAt g (linkOf g (r .id))) p) n) in
         let o = owner-16 (linkOf g (r .id)) (known-below g ok (r .id) y) in
         cond-both (not (isActive g (ownerAt g (linkOf g (r .id))) p)) (ap not (flag (k .acts (ownerAt g (linkOf g (r .id))) p o (asps-16 g ok p b) (h y))))
-        (λ _. refl) (λ _. ap (λ (x : ℕ). linkEffect p (r .id) (linkOf g (r .id)) x (numberAt (g .highspeed) (linkOf g (r .id))) r) (k .lines (linkOf g (r .id)) (h y)))))
+        (λ _. refl)
+        (λ _. cond-same (not (canHave (numberAt (g .highspeed) (linkOf g (r .id))) (r .sequence))) (λ _. refl)
+        (λ _. ap (λ (x : ℕ). linkEffect p (r .id) (linkOf g (r .id)) x r) (k .lines (linkOf g (r .id)) (h y))))))
 
     read-alike : (m : List ℕ) (r : Reading) → Alike g (λ a. ltb a (g .ases) && readReach g p m r a) (eqb p) g′ → readEffect (dyn g g′) p m r ≡ readEffect g p m r
     unfolding readEffect downEffect

@@ -33,7 +33,7 @@ use Rattle.rules.specs.Event.{EventKind, message, lost, recovery, linkUp, linkD
 use Rattle.rules.specs.Identifiers.{isIds, firstRefused, ownsNamed, ownersNamed, isKnown, linkOf, ownerAt, isMember, isActive}
 use Rattle.rules.specs.Effect.{Effect, send, setLink, changeIn, takeIn}
 use Rattle.rules.specs.Asp.{asesOf, upEffect, downEffect, lostEffect, otherMode, activeEffect, inactiveEffect, trafficEffect}
-use Rattle.rules.specs.Link.{starting, inService, stopping, idle, establish, release, dataEffect, canHave, retrieve, linkEffect, classSixEffect, linkUpEffect, linkDownEffect}
+use Rattle.rules.specs.Link.{starting, inService, stopping, idle, establish, release, dataEffect, canHave, linkEffect, classSixEffect, linkUpEffect, linkDownEffect}
 use Rattle.rules.specs.Rules.{isError, classTypeOf, fromAsp, readEffect, messageEffect, effectOf, inPlan}
 use Rattle.rules.specs.Reach.{ownsId, readReach, messageReach, kindReach, fromController}
 use Rattle.rules.specs.Inner.TakeIn.{Takes, link-cases, taken-in}
@@ -162,17 +162,18 @@ module _ (g : Gateway) (ok : isSound g ≡ true) where
 
     -- class 6: the owner of a known identifier
     six-in : (K : ℕ → Bool) (r : Reading) → ((a : ℕ) → ownsId g (r .id) a ≡ true → K a ≡ true) → Within g (λ a. ltb a (g .ases) && K a) (eqb p) (classSixEffect g p r)
-    unfolding classSixEffect linkEffect dataEffect retrieve establish release ownsId
+    unfolding classSixEffect linkEffect dataEffect establish release ownsId
     six-in K r h =
         by-cond (not (isSet (g .up) p)) W (λ _. tt)
         (λ _. by-cond (not (isKnown g x && isMember g (ownerAt g l) p)) W (λ _. tt)
         (λ k. by-cond (not (isActive g (ownerAt g l) p)) W (λ _. tt)
+        (λ _. by-cond (not (canHave (numberAt (g .highspeed) l) (r .sequence))) W (λ _. tt)
         (λ _. by-cond (eqb (r .msgtype) 1) W (λ _. by-cond (eqb st inService) W (λ _. tt) (λ _. tt))
         (λ _. by-cond (eqb (r .msgtype) 2) W
         (λ _. by-cond (eqb st inService) W (λ _. tt) (λ _. by-cond (eqb st starting) W (λ _. tt) (λ _. turned k)))
         (λ _. by-cond (eqb (r .msgtype) 4) W
         (λ _. by-cond (eqb st idle) W (λ _. tt) (λ _. by-cond (eqb st stopping) W (λ _. tt) (λ _. turned k)))
-        (λ _. by-cond (eqb (r .msgtype) 7) W (λ _. tt) (λ _. by-cond (eqb (r .msgtype) 10) W (λ _. by-cond (canHave (numberAt (g .highspeed) l) (r .sequence)) W (λ _. tt) (λ _. tt)) (λ _. tt))))))))
+        (λ _. by-cond (eqb (r .msgtype) 7) W (λ _. tt) (λ _. by-cond (eqb (r .msgtype) 10) W (λ _. tt) (λ _. tt)))))))))
       where
         W : Effect → Type 0
         W = Within g (λ a. ltb a (g .ases) && K a) (eqb p)

@@ -26,7 +26,7 @@ use Rattle.rules.specs.Event.{EventKind, message, lost, recovery, linkUp, linkD
 use Rattle.rules.specs.Identifiers.{firstRefused, ownsNamed, ownersNamed, isKnown, linkOf, ownerAt, isMember, isActive}
 use Rattle.rules.specs.Effect.{Effect, send, setLink, changeIn, takeIn, stateAfter}
 use Rattle.rules.specs.Asp.{asesOf, upEffect, downEffect, lostEffect, activeEffect, inactiveEffect, trafficEffect}
-use Rattle.rules.specs.Link.{starting, inService, idle, establish, release, dataEffect, retrieve, linkEffect, classSixEffect, linkUpEffect, linkDownEffect}
+use Rattle.rules.specs.Link.{starting, inService, idle, establish, release, dataEffect, canHave, linkEffect, classSixEffect, linkUpEffect, linkDownEffect}
 use Rattle.rules.specs.Rules.{readEffect, messageEffect, effectOf, inPlan, refusal}
 use Rattle.rules.specs.Entry.{next}
 use Rattle.rules.specs.Inner.Accepted.{accepted}
@@ -98,9 +98,9 @@ module _ (g : Gateway) (ok : isSound g ≡ true) where
         (λ _. h (not-false (isSet (g .up) p) u) (asesOf g p) (λ a c e. sym (column-at (g .member) p a c) ∙ e))
         (λ _. said _)))
 
-    link : (x l st highspeed : ℕ) (r : Reading) → l < g .links → Keeps (linkEffect p x l st highspeed r)
-    unfolding linkEffect establish release dataEffect retrieve
-    link x l st highspeed r c = search (either, said, starts, stops) depth 16
+    link : (x l st : ℕ) (r : Reading) → l < g .links → Keeps (linkEffect p x l st r)
+    unfolding linkEffect establish release dataEffect
+    link x l st r c = search (either, said, starts, stops) depth 16
       where
         starts : (os : List Action) → Keeps (setLink l 1 os)
         starts os = turned l 1 os c (omega arith)
@@ -114,7 +114,8 @@ module _ (g : Gateway) (ok : isSound g ≡ true) where
         by-cond (not (isSet (g .up) p)) Keeps (λ _. said _)
         (λ _. by-cond (not (isKnown g (r .id) && isMember g (ownerAt g (linkOf g (r .id))) p)) Keeps (λ _. said _)
         (λ k. by-cond (not (isActive g (ownerAt g (linkOf g (r .id))) p)) Keeps (λ _. said _)
-        (λ _. link (r .id) (linkOf g (r .id)) _ _ r (known-below (r .id) (and-left (isKnown g (r .id)) _ (not-false (isKnown g (r .id) && isMember g (ownerAt g (linkOf g (r .id))) p) k))))))
+        (λ _. by-cond (not (canHave (numberAt (g .highspeed) (linkOf g (r .id))) (r .sequence))) Keeps (λ _. said _)
+        (λ _. link (r .id) (linkOf g (r .id)) _ r (known-below (r .id) (and-left (isKnown g (r .id)) _ (not-false (isKnown g (r .id) && isMember g (ownerAt g (linkOf g (r .id))) p) k)))))))
 
     down : Keeps (downEffect g p)
     unfolding downEffect

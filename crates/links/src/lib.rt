@@ -17,7 +17,7 @@ ghost use Rattle.laws.specs.Columns.{tabulate};
 ghost use Rattle.lookup.specs.Links.{indexOf};
 ghost use Rattle.lookup.specs.Servers.{receives};
 ghost use Rattle.ranges.specs.Inner.Laws.{Table};
-ghost use Rattle.rules.specs.Link.{establish, release, dataEffect, canHave, retrieve, linkEffect, classSixEffect, linkUpEffect, linkDownEffect, holdEffect, linkMessageEffect};
+ghost use Rattle.rules.specs.Link.{establish, release, dataEffect, canHave, linkEffect, classSixEffect, linkUpEffect, linkDownEffect, holdEffect, linkMessageEffect};
 ghost use Rattle.rules.specs.Effect.{send, setLink, takeIn};
 ghost use Rattle.rules.specs.Rules.{fromLink};
 ghost use Rattle.work.specs.Inner.Decides.{Decides, DecidesOn};
@@ -98,21 +98,10 @@ fn can_have(highspeed: u8, n: u32) -> bool
     (highspeed == 1) | (n <= PLAIN_MOST)
 }
 
-// Retrieval Request (Rule 7.18).
-fn retrieve(p: usize, x: u32, highspeed: u8, r: Reading) -> Decision
-    requires { ⌜ p < 16 ⌝ }
-    ensures { λ w. ⌜ Decides w (retrieve p x highspeed r) ⌝ }
-{
-    if can_have(highspeed, r.sequence) {
-        return work::order(action::RETRIEVAL_REQUEST, x, r.retrieval);
-    }
-    work::error(p, 17)
-}
-
 // A message of class 6 whose sender may send it, by its type (Rules 7.15 to 7.19).
-fn link_work(p: usize, x: u32, l: usize, st: u8, highspeed: u8, r: Reading) -> Decision
+fn link_work(p: usize, x: u32, l: usize, st: u8, r: Reading) -> Decision
     requires { ⌜ (p < 16) × (l < 128) ⌝ }
-    ensures { λ w. ⌜ Decides w (linkEffect p x l st highspeed r) ⌝ }
+    ensures { λ w. ⌜ Decides w (linkEffect p x l st r) ⌝ }
 {
     if r.msgtype == 1 {
         return data_work(p, x, st, r);
@@ -127,7 +116,7 @@ fn link_work(p: usize, x: u32, l: usize, st: u8, highspeed: u8, r: Reading) -> D
         return work::order(action::STATE_REQUEST, x, r.state);
     }
     if r.msgtype == 10 {
-        return retrieve(p, x, highspeed, r);
+        return work::order(action::RETRIEVAL_REQUEST, x, r.retrieval);
     }
     work::nothing()
 }
@@ -153,8 +142,13 @@ fn six_at<'a>(
         if l < links {
             let a = owner[l] as usize;
             if member[a * 16 + p] == 1 {
-                if active[a * 16 + p] == 1 {
-                    return link_work(p, r.id, l, state[l], highspeed[l], r);
+                let on = active[a * 16 + p] == 1;
+                let fits = can_have(highspeed[l], r.sequence);
+                if on {
+                    if fits {
+                        return link_work(p, r.id, l, state[l], r);
+                    }
+                    return work::error(p, 17);
                 }
                 return work::error(p, 6);
             }

@@ -21,7 +21,7 @@ use Rattle.server.specs.declared.Change.{Change}
 use Rattle.outgoing.specs.Message.{replyPars}
 use Rattle.rules.specs.Effect.{Effect, send, setLink, changeIn, oneAction, actionsOf}
 use Rattle.rules.specs.Asp.{upEffect, downEffect, lostEffect, activeEffect, inactiveEffect, trafficEffect}
-use Rattle.rules.specs.Link.{establish, release, dataEffect, retrieve, linkEffect, classSixEffect, toRecipients, linkUpEffect, linkDownEffect}
+use Rattle.rules.specs.Link.{establish, release, dataEffect, linkEffect, classSixEffect, toRecipients, linkUpEffect, linkDownEffect}
 use Rattle.rules.specs.Rules.{isError, classTypeOf, readEffect, messageEffect}
 use Rattle.readable.proofs.Each.{Each, each-none, each-more, each-append, each-cond}
 use Rattle.readable.proofs.Small.{verdict-small}
@@ -111,7 +111,7 @@ module _ (g : Gateway) (hold : List ℕ) (ps : List Par) (i : ℕ) (b : g .links
   inactive p h named = search (fines, h)
 
   six : (p : ℕ) (r : Reading) → r .correlation ≤ largest → Fine g hold ps i (classSixEffect g p r)
-  unfolding classSixEffect linkEffect establish release dataEffect retrieve
+  unfolding classSixEffect linkEffect establish release dataEffect
   six p r h = search (fines, good-side (replyPars g hold ps i), good-data g hold ps i, good-established g hold ps i, good-released g hold ps i) depth 16
 
   -- ---- links

@@ -52,6 +52,16 @@ dataEffect p x st r =
     (send (oneAction linkSide userData x 0 ++ cond (eqb (r .correlated) 1) (oneAction p dataAck x (r .correlation)) []))
     (send (error p 6))
 
+-- by the type of the message; 6.7 and 6.10 pass their state or action on, 6.15 does nothing (Rules 7.18, 7.19)
+unfoldable pub linkEffect : ℕ → ℕ → ℕ → ℕ → Reading → Effect
+linkEffect p x l st r =
+    cond (eqb (r .msgtype) 1) (dataEffect p x st r)
+    (cond (eqb (r .msgtype) 2) (establish p x l st)
+    (cond (eqb (r .msgtype) 4) (release p x l st)
+    (cond (eqb (r .msgtype) 7) (send (oneAction linkSide stateRequest x (r .state)))
+    (cond (eqb (r .msgtype) 10) (send (oneAction linkSide retrievalRequest x (r .retrieval)))
+    (send [])))))
+
 -- the largest sequence number of a plain link (Rule 5.23)
 abbrev pub plainMost : ℕ
 plainMost = 127
@@ -60,23 +70,7 @@ plainMost = 127
 unfoldable pub canHave : ℕ → ℕ → Bool
 canHave highspeed n = eqb highspeed 1 || leb n plainMost
 
--- Rule 7.18: the action goes to the link side, unless the link cannot have the sequence number
-unfoldable pub retrieve : ℕ → ℕ → ℕ → Reading → Effect
-retrieve p x highspeed r =
-    cond (canHave highspeed (r .sequence)) (send (oneAction linkSide retrievalRequest x (r .retrieval)))
-    (send (error p 17))
-
--- by the type of the message; 6.7 passes its state on (Rule 7.18), 6.15 does nothing (Rule 7.19)
-unfoldable pub linkEffect : ℕ → ℕ → ℕ → ℕ → ℕ → Reading → Effect
-linkEffect p x l st highspeed r =
-    cond (eqb (r .msgtype) 1) (dataEffect p x st r)
-    (cond (eqb (r .msgtype) 2) (establish p x l st)
-    (cond (eqb (r .msgtype) 4) (release p x l st)
-    (cond (eqb (r .msgtype) 7) (send (oneAction linkSide stateRequest x (r .state)))
-    (cond (eqb (r .msgtype) 10) (retrieve p x highspeed r)
-    (send [])))))
-
--- Rule 7.14: what p must be before a message of class 6 is looked at: up, a member of the owner, active there
+-- Rule 7.14: what p must be before a message of class 6 is looked at: up, a member of the owner, active there; and a sequence number must be one that the link can have (only 6.10 has one)
 unfoldable pub classSixEffect : Gateway → ℕ → Reading → Effect
 classSixEffect g p r =
     let x : ℕ = r .id in
@@ -85,7 +79,8 @@ classSixEffect g p r =
     cond (not (isSet (g .up) p)) (send (error p 6))
     (cond (not (isKnown g x && isMember g a p)) (send (error2 p x))
     (cond (not (isActive g a p)) (send (error p 6))
-    (linkEffect p x l (numberAt (g .state) l) (numberAt (g .highspeed) l) r)))
+    (cond (not (canHave (numberAt (g .highspeed) l) (r .sequence))) (send (error p 17))
+    (linkEffect p x l (numberAt (g .state) l) r))))
 
 -- the recipients of the link at an index: a flag for each ASP
 unfoldable pub recipientsOf : Gateway → ℕ → List Bool

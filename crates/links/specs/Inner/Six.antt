@@ -14,7 +14,7 @@ use Rattle.action.specs.Types.{userData, dataAck}
 use Rattle.lookup.specs.Links.{indexOf, known}
 use Rattle.rules.specs.Effect.{Effect, send, error, error2}
 use Rattle.rules.specs.Identifiers.{isKnown, linkOf}
-use Rattle.rules.specs.Link.{dataEffect, linkEffect, classSixEffect}
+use Rattle.rules.specs.Link.{dataEffect, canHave, linkEffect, classSixEffect}
 use Rattle.rules.specs.declared.Decision.{Decision}
 use Rattle.work.specs.Inner.Decides.{Decides, DecidesOn, decided}
 
@@ -36,13 +36,15 @@ data-tree p x st r = go (eqb st 2) (eqb (r .correlated) 1)
     go true false = refl
     go false v = refl
 
--- p is up; the link at l is there, and owned by an AS of p; p is active in it
+-- p is up; the link at l is there, and owned by an AS of p; p is active in it; the link can have the sequence number
 unfoldable pub sixAt : ℕ → List ℕ → List ℕ → List ℕ → List ℕ → List ℕ → List ℕ → ℕ → ℕ → Reading → Effect
 sixAt links up member active owner state highspeed p l r =
     cond (eqb (numberAt up p) 1)
     (cond (ltb l links)
     (cond (eqb (numberAt member (pair (numberAt owner l) p)) 1)
-    (cond (eqb (numberAt active (pair (numberAt owner l) p)) 1) (linkEffect p (r .id) l (numberAt state l) (numberAt highspeed l) r) (send (error p 6)))
+    (cond (eqb (numberAt active (pair (numberAt owner l) p)) 1)
+    (cond (canHave (numberAt highspeed l) (r .sequence)) (linkEffect p (r .id) l (numberAt state l) r) (send (error p 17)))
+    (send (error p 6)))
     (send (error2 p (r .id))))
     (send (error2 p (r .id))))
     (send (error p 6))
@@ -52,14 +54,15 @@ unfolding sixAt classSixEffect isKnown linkOf known
 six-at g p r =
     let l = linkOf g (r .id) in
     let a = numberAt (g .owner) l in
-    go (linkEffect p (r .id) l (numberAt (g .state) l) (numberAt (g .highspeed) l) r) (send (error p 6)) (send (error2 p (r .id))) (isSet (g .up) p) (isKnown g (r .id)) (isSet (g .member) (pair a p)) (isSet (g .active) (pair a p))
+    go (linkEffect p (r .id) l (numberAt (g .state) l) r) (send (error p 6)) (send (error2 p (r .id))) (send (error p 17)) (isSet (g .up) p) (isKnown g (r .id)) (isSet (g .member) (pair a p)) (isSet (g .active) (pair a p)) (canHave (numberAt (g .highspeed) l) (r .sequence))
   where
-    go : (x y z : Effect) (u k m a : Bool) → cond u (cond k (cond m (cond a x y) z) z) y ≡ cond (not u) y (cond (not (k && m)) z (cond (not a) y x))
-    go x y z true true true true = refl
-    go x y z true true true false = refl
-    go x y z true true false a = refl
-    go x y z true false m a = refl
-    go x y z false k m a = refl
+    go : (x y z v : Effect) (u k m a n : Bool) → cond u (cond k (cond m (cond a (cond n x v) y) z) z) y ≡ cond (not u) y (cond (not (k && m)) z (cond (not a) y (cond (not n) v x)))
+    go x y z v true true true true true = refl
+    go x y z v true true true true false = refl
+    go x y z v true true true false n = refl
+    go x y z v true true false a n = refl
+    go x y z v true false m a n = refl
+    go x y z v false k m a n = refl
 
 -- the state g has these columns
 pub record SixColumns (links : ℕ) (up member active iid owner state highspeed : List ℕ) (g : Gateway) : Type 0 where

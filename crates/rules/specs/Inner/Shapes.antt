@@ -107,7 +107,7 @@ module _ {Q : Effect → Type 0} (f : Shapes Q) where
     down = search (shapes, f .change-one) depth 8
 
     six : (r : Reading) → Q (classSixEffect g p r)
-    unfolding classSixEffect linkEffect establish release dataEffect retrieve
+    unfolding classSixEffect linkEffect establish release dataEffect
     six r = search (shapes, f .turn-one) depth 16
 
     read : (s : List ℕ) (r : Reading) → Q (readEffect g p s r)
