@@ -171,29 +171,7 @@ pub fn of_event(g: Gateway, kind: u32, i: usize, msg: &[u8], room: usize, hold: 
     let asps = g.asps;
     let ases = g.ases;
     let links = g.links;
-    let spare = g.spare;
-    let sound = held::sound_of(
-        asps,
-        ases,
-        links,
-        spare,
-        &g.aspid,
-        &g.up,
-        &g.member,
-        &g.active,
-        &g.mode,
-        &g.waiting,
-        &g.iid,
-        &g.owner,
-        &g.state,
-        &g.highspeed,
-        &g.held.count,
-        &g.held.tag,
-        &g.held.length,
-        &g.held.marked,
-        &g.held.id,
-        &g.held.correlation,
-    );
+    let sound = held::is_sound(g);
     let found = ask::refused(
         sound,
         asps,
