@@ -24,8 +24,8 @@
 #include <stdint.h>
 
 /* Raised by each change of a struct, a limit or an entry that hosts must be compiled anew for; the number of the shared library's name (CHANGELOG.md). */
-#define M2UA_ABI 2
-#define M2UA_VERSION "0.2.0"
+#define M2UA_ABI 3
+#define M2UA_VERSION "0.3.0"
 
 #ifdef __cplusplus
 #define M2UA_STATIC_ASSERT(holds, what) static_assert(holds, what)
@@ -58,6 +58,9 @@ enum {
     M2UA_STACK = 32768       /* bytes of stack that a call takes at most (tools/stack) */
 };
 
+/* The largest sequence number (0x307): of a high-speed link, which is the largest that reads, and of a plain one (Rule 5.23). */
+enum { M2UA_MAX_SEQUENCE = 4095, M2UA_MAX_SEQUENCE_PLAIN = 127 };
+
 /* Where messages come from: SCTP port and payload protocol identifier of M2UA. */
 enum { M2UA_PORT = 2904, M2UA_PPID = 2 };
 
@@ -68,7 +71,8 @@ enum { M2UA_LINK_SIDE = 255 };
 enum {
     M2UA_OK = 0,
     M2UA_REFUSED_LIST = 101,   /* the lent list has fewer than M2UA_LIST_WORDS words */
-    M2UA_REFUSED_PLACE = 102,  /* no such kind of event; an ASP, AS or link beyond the plan; a message of the link side that does not fit (Rule 6.5) */
+    M2UA_REFUSED_PLACE = 102,  /* no such kind of event; an ASP, AS or link beyond the plan; a message of the link side that does not fit, also by its sequence number
+                                * (Rule 6.5) */
     M2UA_REFUSED_BUFFER = 103, /* the lent buffer is too short for the message */
     M2UA_REFUSED_ORDER = 104,  /* the event has no such order, or it goes to the link side */
     M2UA_REFUSED_STATE = 105,  /* the state is not sound (Rule 5.4) */
@@ -92,7 +96,7 @@ enum {
     M2UA_ERROR_ASP_ID_REQUIRED = 14,
     M2UA_ERROR_INVALID_ASP_ID = 15,           /* * in orders alone: an Up with an identifier that is not the plan's */
     M2UA_ERROR_ASP_ACTIVE_FOR_ID = 16,
-    M2UA_ERROR_INVALID_VALUE = 17,            /* * */
+    M2UA_ERROR_INVALID_VALUE = 17,            /* *; in orders also: a Retrieval Request with a sequence number that its link cannot have */
     M2UA_ERROR_PARAMETER_FIELD = 18,          /* * */
     M2UA_ERROR_UNEXPECTED_PARAMETER = 19,     /* * */
     M2UA_ERROR_MISSING_PARAMETER = 22         /* * */
@@ -177,7 +181,7 @@ enum {
     M2UA_TAG_CONGESTION = 0x304,              /* 0 to 3 */
     M2UA_TAG_DISCARD = 0x305,                 /* 0 to 3 */
     M2UA_TAG_RETRIEVAL_ACTION = 0x306,        /* M2UA_RETRIEVE_.. */
-    M2UA_TAG_SEQUENCE = 0x307,                /* 0 to 127 */
+    M2UA_TAG_SEQUENCE = 0x307,                /* 0 to 4095; of a plain link to 127 (Rule 5.23) */
     M2UA_TAG_RETRIEVAL_RESULT = 0x308         /* 0 done, 1 not */
 };
 
@@ -223,6 +227,8 @@ typedef struct {
     uint32_t correlation; /* .. and it */
     uint32_t state;       /* of a State Request or Confirm */
     uint32_t retrieval;   /* of a Retrieval Request or Confirm */
+    uint32_t sequenced;   /* 1 where a sequence number is given .. */
+    uint32_t sequence;    /* .. and it, up to M2UA_MAX_SEQUENCE: whether the link can have it, events say */
 } m2ua_reading;
 
 /* Reads a message of `len` bytes, which may be any bytes.
@@ -299,6 +305,7 @@ typedef struct {
     uint32_t iid[M2UA_MAX_LINKS];           /* interface identifiers, ascending */
     uint8_t owner[M2UA_MAX_LINKS];          /* the AS that owns the link */
     uint8_t state[M2UA_MAX_LINKS];          /* M2UA_LINK_.. */
+    uint8_t highspeed[M2UA_MAX_LINKS];      /* 1: a high-speed link (ITU-T Q.703, Annex A), with sequence numbers of 12 bits; 0: a plain one, with 7 */
     m2ua_units held;                        /* units held */
 } m2ua_gateway;
 
@@ -308,7 +315,11 @@ typedef struct {
     m2ua_gateway gateway;
 } m2ua_loaded;
 
-/* Loads a plan file of `len` bytes, which may be any bytes (section 4 of the rules; m2ua-plan(1) makes such files from text).
+/* Loads a plan file of `len` bytes, which may be any bytes (section 4 of the rules; m2ua-plan(1) makes such files from text). Its numbers are big-endian. It begins
+ * with three pairs of 32 bits, for ASPs, ASes and links: the byte where their rows start, and how many there are. Then the rows, one behind the other:
+ *   ASP   32 bits: its identifier; 16: its ASes, bit a for AS a; 16: 0
+ *   AS    32 bits: its traffic mode, M2UA_MODE_..
+ *   link  32 bits: its interface identifier, above that of the row before; 16: its kind, 0 plain or 1 high-speed; 16: the AS that owns it
  * Answers: 0 and the fresh state: all ASPs down, nobody active, no AS waiting, all links idle, no unit held; or M2UA_REFUSED_LAYOUT or M2UA_REFUSED_ROW and zeros. */
 m2ua_loaded m2ua_load(const uint8_t *file, size_t len);
 
@@ -370,9 +381,10 @@ m2ua_outcome m2ua_run(m2ua_gateway g, uint32_t kind, size_t index, const uint8_t
  * the code, else 0.
  * Answers: `refusal` 0, the number of orders, at most M2UA_MAX_ORDERS, and the next state, the words behind the orders unchanged; or, in this order:
  * M2UA_REFUSED_STATE, M2UA_REFUSED_PLACE (a kind above 5; `index` beyond the plan; a message of the link side that does not read, is of another type or has
- * an unknown identifier), M2UA_REFUSED_HOLD (`hold_bytes` is not M2UA_HOLD_BYTES), M2UA_REFUSED_LIST (`count` below M2UA_LIST_WORDS). Refused: count 0, the
- * state given, no word and no byte of the hold changed.
- * A message of an ASP that does not read is no refusal: it is answered by an Error order (Rule 6.8). */
+ * an unknown identifier, or a Retrieval Confirm has a sequence number above M2UA_MAX_SEQUENCE_PLAIN and its link is a plain one), M2UA_REFUSED_HOLD (`hold_bytes` is
+ * not M2UA_HOLD_BYTES), M2UA_REFUSED_LIST (`count` below M2UA_LIST_WORDS). Refused: count 0, the state given, no word and no byte of the hold changed.
+ * A message of an ASP that does not read is no refusal: it is answered by an Error order (Rule 6.8). So is a Retrieval Request that asks a plain link for a sequence number
+ * above M2UA_MAX_SEQUENCE_PLAIN: where the ASP is active for the link, by Error 17, and the link side is told nothing (Rule 7.18). */
 static inline m2ua_outcome m2ua_event(m2ua_gateway g, uint32_t kind, size_t index, const uint8_t *msg, size_t len, uint8_t *hold, size_t hold_bytes, uint32_t *words,
                                       size_t count) {
     return m2ua_run(g, kind, index, msg, len, hold, hold_bytes, hold_bytes, words, count);
@@ -521,7 +533,7 @@ M2UA_STATIC_ASSERT(offsetof(m2ua_batch, length) == 16, "m2ua_batch.length");
 M2UA_STATIC_ASSERT(sizeof(m2ua_data_at) == 16, "m2ua_data_at");
 M2UA_STATIC_ASSERT(offsetof(m2ua_data_at, start) == 0, "m2ua_data_at.start");
 M2UA_STATIC_ASSERT(offsetof(m2ua_data_at, length) == 8, "m2ua_data_at.length");
-M2UA_STATIC_ASSERT(sizeof(m2ua_gateway) == 3204, "m2ua_gateway");
+M2UA_STATIC_ASSERT(sizeof(m2ua_gateway) == 3332, "m2ua_gateway");
 M2UA_STATIC_ASSERT(offsetof(m2ua_gateway, asps) == 0, "m2ua_gateway.asps");
 M2UA_STATIC_ASSERT(offsetof(m2ua_gateway, ases) == 1, "m2ua_gateway.ases");
 M2UA_STATIC_ASSERT(offsetof(m2ua_gateway, links) == 2, "m2ua_gateway.links");
@@ -535,11 +547,12 @@ M2UA_STATIC_ASSERT(offsetof(m2ua_gateway, waiting) == 612, "m2ua_gateway.waiting
 M2UA_STATIC_ASSERT(offsetof(m2ua_gateway, iid) == 628, "m2ua_gateway.iid");
 M2UA_STATIC_ASSERT(offsetof(m2ua_gateway, owner) == 1140, "m2ua_gateway.owner");
 M2UA_STATIC_ASSERT(offsetof(m2ua_gateway, state) == 1268, "m2ua_gateway.state");
-M2UA_STATIC_ASSERT(offsetof(m2ua_gateway, held) == 1396, "m2ua_gateway.held");
-M2UA_STATIC_ASSERT(sizeof(m2ua_loaded) == 3208, "m2ua_loaded");
+M2UA_STATIC_ASSERT(offsetof(m2ua_gateway, highspeed) == 1396, "m2ua_gateway.highspeed");
+M2UA_STATIC_ASSERT(offsetof(m2ua_gateway, held) == 1524, "m2ua_gateway.held");
+M2UA_STATIC_ASSERT(sizeof(m2ua_loaded) == 3336, "m2ua_loaded");
 M2UA_STATIC_ASSERT(offsetof(m2ua_loaded, code) == 0, "m2ua_loaded.code");
 M2UA_STATIC_ASSERT(offsetof(m2ua_loaded, gateway) == 4, "m2ua_loaded.gateway");
-M2UA_STATIC_ASSERT(sizeof(m2ua_outcome) == 3224, "m2ua_outcome");
+M2UA_STATIC_ASSERT(sizeof(m2ua_outcome) == 3352, "m2ua_outcome");
 M2UA_STATIC_ASSERT(offsetof(m2ua_outcome, refusal) == 0, "m2ua_outcome.refusal");
 M2UA_STATIC_ASSERT(offsetof(m2ua_outcome, count) == 8, "m2ua_outcome.count");
 M2UA_STATIC_ASSERT(offsetof(m2ua_outcome, gateway) == 16, "m2ua_outcome.gateway");
@@ -547,7 +560,7 @@ M2UA_STATIC_ASSERT(sizeof(m2ua_param_at) == 24, "m2ua_param_at");
 M2UA_STATIC_ASSERT(offsetof(m2ua_param_at, found) == 0, "m2ua_param_at.found");
 M2UA_STATIC_ASSERT(offsetof(m2ua_param_at, start) == 8, "m2ua_param_at.start");
 M2UA_STATIC_ASSERT(offsetof(m2ua_param_at, length) == 16, "m2ua_param_at.length");
-M2UA_STATIC_ASSERT(sizeof(m2ua_reading) == 48, "m2ua_reading");
+M2UA_STATIC_ASSERT(sizeof(m2ua_reading) == 56, "m2ua_reading");
 M2UA_STATIC_ASSERT(offsetof(m2ua_reading, code) == 0, "m2ua_reading.code");
 M2UA_STATIC_ASSERT(offsetof(m2ua_reading, class_) == 4, "m2ua_reading.class_");
 M2UA_STATIC_ASSERT(offsetof(m2ua_reading, msgtype) == 8, "m2ua_reading.msgtype");
@@ -560,6 +573,8 @@ M2UA_STATIC_ASSERT(offsetof(m2ua_reading, correlated) == 32, "m2ua_reading.corre
 M2UA_STATIC_ASSERT(offsetof(m2ua_reading, correlation) == 36, "m2ua_reading.correlation");
 M2UA_STATIC_ASSERT(offsetof(m2ua_reading, state) == 40, "m2ua_reading.state");
 M2UA_STATIC_ASSERT(offsetof(m2ua_reading, retrieval) == 44, "m2ua_reading.retrieval");
+M2UA_STATIC_ASSERT(offsetof(m2ua_reading, sequenced) == 48, "m2ua_reading.sequenced");
+M2UA_STATIC_ASSERT(offsetof(m2ua_reading, sequence) == 52, "m2ua_reading.sequence");
 M2UA_STATIC_ASSERT(sizeof(m2ua_units) == 1808, "m2ua_units");
 M2UA_STATIC_ASSERT(offsetof(m2ua_units, count) == 0, "m2ua_units.count");
 M2UA_STATIC_ASSERT(offsetof(m2ua_units, tag) == 16, "m2ua_units.tag");

@@ -1,5 +1,6 @@
 /* Every entry of the library called once or more: messages read and written, plan S loaded, a short history of its events
- * (docs/RULES.md, 11.1 to 11.4, with a link established, in service and lost), what the ASPs are sent, and units that wait with a pending AS. */
+ * (docs/RULES.md, 11.1 to 11.4, with a link established, in service and lost), what the ASPs are sent, units that wait with a pending AS, and sequence numbers
+ * of plain and high-speed links. */
 #include <stdio.h>
 #include <string.h>
 #include "m2ua.h"
@@ -43,15 +44,19 @@ static void messages(void) {
     expect("the byte behind it", out[28], 0xaa);
 }
 
-/* Plan S: ASPs 7 and 8 in AS 0, override, with links 100 to 115; ASP 9 in AS 1, load-share, with link 200. */
-static m2ua_loaded plan_s(size_t len) {
+/* Plan S: ASPs 7 and 8 in AS 0, override, with links 100 to 115; ASP 9 in AS 1, load-share, with link 200, whose kind is 0 (plain) in plan S itself. */
+static m2ua_loaded plan_with(uint16_t kind, size_t len) {
     uint8_t file[192] = {0, 0, 0, 24, 0, 0, 0, 3, 0, 0, 0, 48, 0, 0, 0, 2, 0, 0, 0, 56, 0, 0, 0, 17,
                          0, 0, 0, 7, 0, 1, 0, 0, 0, 0, 0, 8, 0, 1, 0, 0, 0, 0, 0, 9, 0, 2, 0, 0, 0, 0, 0, 1, 0, 0, 0, 2};
     for (int i = 0; i < 16; i++) file[59 + 8 * i] = (uint8_t)(100 + i);
     file[187] = 200;
+    file[188] = (uint8_t)(kind >> 8);
+    file[189] = (uint8_t)kind;
     file[191] = 1;
     return m2ua_load(file, len);
 }
+
+static m2ua_loaded plan_s(size_t len) { return plan_with(0, len); }
 
 static uint32_t words[M2UA_LIST_WORDS];
 static uint8_t hold[M2UA_HOLD_BYTES];
@@ -220,8 +225,68 @@ static void held(m2ua_gateway g) {
     expect("its byte stays", hold[m2ua_hold_at(0, 7)], 7);
 }
 
+/* ---- Sequence numbers */
+
+/* A Retrieval Request for the messages of a link after a sequence number. */
+static const uint8_t *request(uint8_t id, uint16_t after) {
+    static uint8_t q[32] = {1, 0, 6, 10, 0, 0, 0, 32, 0, 1, 0, 8, 0, 0, 0, 0, 3, 6, 0, 8, 0, 0, 0, 2, 3, 7, 0, 8};
+    q[15] = id;
+    q[30] = (uint8_t)(after >> 8);
+    q[31] = (uint8_t)after;
+    return q;
+}
+
+/* The Retrieval Confirm of a link with its BSN. */
+static const uint8_t *confirm(uint8_t id, uint16_t bsn) {
+    static uint8_t q[40] = {1, 0, 6, 11, 0, 0, 0, 40, 0, 1, 0, 8, 0, 0, 0, 0, 3, 6, 0, 8, 0, 0, 0, 1, 3, 8, 0, 8, 0, 0, 0, 0, 3, 7, 0, 8};
+    q[15] = id;
+    q[38] = (uint8_t)(bsn >> 8);
+    q[39] = (uint8_t)bsn;
+    return q;
+}
+
+static void sequence_read(void) {
+    m2ua_reading r = m2ua_read(request(200, M2UA_MAX_SEQUENCE), 32);
+    expect("a request after 4,095", r.code == 0 && r.sequenced == 1 && r.sequence == 4095 && r.retrieval == M2UA_RETRIEVE_MESSAGES, 1);
+    r = m2ua_read(request(200, 0), 32);
+    expect("a request after 0", r.code == 0 && r.sequenced == 1 && r.sequence == 0, 1);
+    r = m2ua_read(request(200, M2UA_MAX_SEQUENCE + 1), 32);
+    expect("a request after 4,096", r.code == 17 && r.sequenced == 0 && r.sequence == 0, 1);
+    r = m2ua_read(m, sizeof m);
+    expect("M has no sequence number", r.sequenced == 0 && r.sequence == 0, 1);
+}
+
+/* Link 200, of ASP 2, is a high-speed one; links 100 to 115, of ASP 0, are plain. */
+static void sequences(m2ua_gateway g) {
+    const uint8_t up[8] = {1, 0, 3, 1, 0, 0, 0, 8}, active[8] = {1, 0, 4, 1, 0, 0, 0, 8};
+    const uint8_t error17[16] = {1, 0, 0, 0, 0, 0, 0, 16, 0, 0xc, 0, 8, 0, 0, 0, 17};
+    for (size_t l = 0; l < M2UA_MAX_LINKS; l++) expect("the kind of a link", g.highspeed[l], l == 16);
+    for (size_t p = 0; p < 3; p += 2) {
+        g = m2ua_message(g, p, up, 8, hold, sizeof hold, words, M2UA_LIST_WORDS).gateway;
+        g = m2ua_message(g, p, active, 8, hold, sizeof hold, words, M2UA_LIST_WORDS).gateway;
+    }
+    g = orders("a high-speed link and 4,095", m2ua_message(g, 2, request(200, 4095), 32, hold, sizeof hold, words, M2UA_LIST_WORDS), 1, (uint32_t[]){255, 1546, 200, 2});
+    g = orders("a plain link and 127", m2ua_message(g, 0, request(100, 127), 32, hold, sizeof hold, words, M2UA_LIST_WORDS), 1, (uint32_t[]){255, 1546, 100, 2});
+    g = orders("a plain link and 128", m2ua_message(g, 0, request(100, 128), 32, hold, sizeof hold, words, M2UA_LIST_WORDS), 1, (uint32_t[]){0, 0, 0, 17});
+    sent("Error 17", m2ua_message_order(g, 0, request(100, 128), 32, hold, sizeof hold, 0, out, 1024),
+         m2ua_message_orders(g, 0, request(100, 128), 32, hold, sizeof hold, 0, lens, 4, out + 1024, 1024), 16, error17);
+    g = orders("an ASP that is down, before its number", m2ua_message(g, 1, request(100, 128), 32, hold, sizeof hold, words, M2UA_LIST_WORDS), 1, (uint32_t[]){1, 0, 0, 6});
+    g = orders("BSN 4,095 of a high-speed link", m2ua_link_message(g, confirm(200, 4095), 40, hold, sizeof hold, words, M2UA_LIST_WORDS), 1, (uint32_t[]){2, 1547, 200, 0});
+    sent("it is passed on", m2ua_link_message_order(g, confirm(200, 4095), 40, hold, sizeof hold, 0, out, 1024),
+         m2ua_link_message_orders(g, confirm(200, 4095), 40, hold, sizeof hold, 0, lens, 4, out + 1024, 1024), 40, confirm(200, 4095));
+    g = orders("BSN 127 of a plain link", m2ua_link_message(g, confirm(100, 127), 40, hold, sizeof hold, words, M2UA_LIST_WORDS), 1, (uint32_t[]){0, 1547, 100, 0});
+    expect("BSN 128 of a plain link", m2ua_link_message(g, confirm(100, 128), 40, hold, sizeof hold, words, M2UA_LIST_WORDS).refusal, 102);
+    g.highspeed[16] = 2;
+    expect("a kind of 2 in a state", m2ua_is_sound(g), 0);
+    g.highspeed[16] = 0;
+    expect("a plain link 200", m2ua_is_sound(g), 1);
+    g.highspeed[17] = 1;
+    expect("a kind beyond the links", m2ua_is_sound(g), 0);
+}
+
 int main(void) {
     messages();
+    sequence_read();
     expect("code of plan S cut short", plan_s(191).code, 201);
     m2ua_loaded plan = plan_s(192);
     expect("code of plan S", plan.code, 0);
@@ -230,6 +295,10 @@ int main(void) {
     events(plan.gateway);
     bytes(plan.gateway);
     held(plan.gateway);
+    expect("code of a plan with a kind of 2", plan_with(2, 192).code, 202);
+    expect("code of one with a kind of 256", plan_with(256, 192).code, 202);
+    expect("code of one with a high-speed link", plan_with(1, 192).code, 0);
+    sequences(plan_with(1, 192).gateway);
     plan.gateway.up[0] = 2;
     expect("a flag of 2 is not", m2ua_is_sound(plan.gateway), 0);
     printf("C example: %s\n", failures ? "FAILED" : "ok");

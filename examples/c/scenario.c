@@ -1,7 +1,7 @@
-/* A small host: it loads a plan, lets two ASPs take turns, a link come up, units go both ways, an association break, units wait until the other ASP takes over,
- * and the recovery time run out. What a host sends, which units wait, and which timers it starts, is printed. (rust/m2ua/examples/scenario.rs is the same in
- * Rust; tools/hosts compares what both print.)
- * Usage: scenario PLAN, with examples/plans/sample.txt compiled; or scenario words. */
+/* A small host: it loads a plan, lets two ASPs take turns, a link come up, units go both ways, an ASP fetch what a high-speed link has not sent, an association break,
+ * units wait until the other ASP takes over, and the recovery time run out. What a host sends, which units wait, and which timers it starts, is printed.
+ * (rust/m2ua/examples/scenario.rs is the same in Rust; tools/hosts compares what both print.)
+ * Usage: scenario PLAN, with examples/plans/high-speed.txt compiled; or scenario words. */
 #include <stdlib.h>
 #include <string.h>
 #include "m2ua.h"
@@ -57,6 +57,20 @@ static void send_to_link(uint32_t id, const uint8_t *msg, size_t len) {
     printf("\n");
 }
 
+static size_t place_of(uint32_t id) {
+    m2ua_answer place = m2ua_link_place(gateway, id);
+    if (place.code) fail("m2ua_link_place", place.code);
+    return place.value;
+}
+
+/* Asks a link for its BSN, or for the messages after a sequence number. Here it is printed; a host asks MTP2. The link can have the number: the event has seen to it. */
+static void retrieve(uint32_t id, const uint8_t *msg, size_t len) {
+    m2ua_reading r = m2ua_read(msg, len);
+    const char *kind = gateway.highspeed[place_of(id)] ? "high-speed" : "plain";
+    if (r.sequenced) printf("    messages of link %u (%s) after %u\n", id, kind, r.sequence);
+    else printf("    BSN of link %u (%s)\n", id, kind);
+}
+
 /* The units that an AS holds since an event, with their bytes in the hold; or how many it holds no longer. */
 static void units(const m2ua_units *before, const m2ua_units *after, unsigned a) {
     unsigned was = before->count[a], is = after->count[a];
@@ -84,12 +98,6 @@ static void changes(m2ua_gateway before, m2ua_gateway after) {
     }
 }
 
-static size_t place_of(uint32_t id) {
-    m2ua_answer place = m2ua_link_place(gateway, id);
-    if (place.code) fail("m2ua_link_place", place.code);
-    return place.value;
-}
-
 /* An event: its orders in words, then as bytes, which come from the state before the event and the hold; then what has changed. */
 static void happens(const char *what, uint32_t kind, size_t index, const uint8_t *msg, size_t len) {
     /* each call of m2ua_orders runs the event again: with so much room one is enough, or two */
@@ -113,6 +121,7 @@ static void happens(const char *what, uint32_t kind, size_t index, const uint8_t
             printf("  %s\n", line);
             if (order[0] == M2UA_LINK_SIDE) {
                 if (order[1] == M2UA_ORDER_DATA) send_to_link(order[2], msg, len);
+                if (order[1] == M2UA_ORDER_RETRIEVAL_REQUEST) retrieve(order[2], msg, len);
                 continue;
             }
             send_to_asp(order[0], next, lens[j]);
@@ -131,6 +140,47 @@ static void other(const char *what, uint32_t kind, size_t index) { happens(what,
 static void link_sends(const char *what, message m) { happens(what, M2UA_LINK_MESSAGE, 0, m.bytes, m.length); }
 
 /* ---- The scenario */
+
+/* What an ASP asks of a link, and what the link answers: its identifier, then numbers of 32 bits. */
+static message numbers(uint8_t type, uint8_t id, size_t count, const uint16_t *more, const uint16_t *given) {
+    uint16_t tags[4] = {M2UA_TAG_INTERFACE_ID};
+    uint8_t values[16] = {0, 0, 0, id};
+    for (size_t i = 1; i <= count; i++) {
+        tags[i] = more[i - 1];
+        values[4 * i + 2] = (uint8_t)(given[i - 1] >> 8);
+        values[4 * i + 3] = (uint8_t)given[i - 1];
+    }
+    return written(M2UA_CLASS_MAUP, type, 1 + count, tags, (const uint32_t[]){4, 4, 4, 4}, values);
+}
+
+static message asks_bsn(uint8_t id) {
+    return numbers(M2UA_TYPE_RETRIEVAL_REQUEST, id, 1, (const uint16_t[]){M2UA_TAG_RETRIEVAL_ACTION}, (const uint16_t[]){M2UA_RETRIEVE_BSN});
+}
+
+static message asks_messages(uint8_t id, uint16_t after) {
+    return numbers(M2UA_TYPE_RETRIEVAL_REQUEST, id, 2, (const uint16_t[]){M2UA_TAG_RETRIEVAL_ACTION, M2UA_TAG_SEQUENCE}, (const uint16_t[]){M2UA_RETRIEVE_MESSAGES, after});
+}
+
+static message has_bsn(uint8_t id, uint16_t bsn) {
+    return numbers(M2UA_TYPE_RETRIEVAL_CONFIRM, id, 3, (const uint16_t[]){M2UA_TAG_RETRIEVAL_ACTION, M2UA_TAG_RETRIEVAL_RESULT, M2UA_TAG_SEQUENCE},
+                   (const uint16_t[]){M2UA_RETRIEVE_BSN, 0, bsn});
+}
+
+/* Link 200 is a high-speed one, link 100 a plain one. */
+static void retrieval(message up, message active) {
+    const uint8_t unsent[8] = {0, 0, 0, 200, 'L', 'A', 'S', 'T'};
+    asp_sends("other comes up", 2, up);
+    asp_sends("other takes link 200", 2, active);
+    asp_sends("other asks link 200 for its BSN", 2, asks_bsn(200));
+    link_sends("link 200 has BSN 4095", has_bsn(200, 4095));
+    asp_sends("other asks link 200 for the messages after 4095", 2, asks_messages(200, 4095));
+    link_sends("link 200 hands one out",
+               written(M2UA_CLASS_MAUP, M2UA_TYPE_RETRIEVAL_INDICATION, 2, (const uint16_t[]){M2UA_TAG_INTERFACE_ID, M2UA_TAG_DATA_1}, (const uint32_t[]){4, 4}, unsent));
+    link_sends("that was the last", numbers(M2UA_TYPE_RETRIEVAL_COMPLETE, 200, 0, NULL, NULL));
+    asp_sends("right asks link 100 for the messages after 127", 1, asks_messages(100, 127));
+    asp_sends("right asks link 100 for the messages after 128", 1, asks_messages(100, 128));
+    link_sends("link 100 has BSN 128, which a plain link cannot have", has_bsn(100, 128));
+}
 
 static void scenario(void) {
     const uint8_t seven[4] = {0, 0, 0, 7}, link100[4] = {0, 0, 0, 100}, link200[4] = {0, 0, 0, 200};
@@ -157,6 +207,7 @@ static void scenario(void) {
     link_sends("a unit comes in on link 100", received);
     asp_sends("right sends a heartbeat", 1,
               written(M2UA_CLASS_ASPSM, M2UA_TYPE_BEAT, 1, (const uint16_t[]){M2UA_TAG_HEARTBEAT}, (const uint32_t[]){5}, (const uint8_t *)"alive"));
+    retrieval(up, active);
     asp_sends("left asks for a link of another AS", 0,
               written(M2UA_CLASS_ASPTM, M2UA_TYPE_ACTIVE, 1, (const uint16_t[]){M2UA_TAG_INTERFACE_ID}, (const uint32_t[]){4}, link200));
     happens("left sends three bytes", M2UA_MESSAGE, 0, up.bytes, 3);

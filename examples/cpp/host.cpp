@@ -1,4 +1,5 @@
-// The header in C++: a plan is loaded, an ASP comes up, and what it is sent is printed.
+// The header in C++: a plan is loaded, an ASP comes up, and what it is sent is printed. Then it asks a plain link, and another ASP a high-speed one, for the messages after a
+// sequence number.
 #include <array>
 #include <cstdint>
 #include <cstdio>
@@ -8,13 +9,51 @@
 
 namespace {
 
-std::vector<std::uint8_t> file_at(const char *path) {
-    std::vector<std::uint8_t> bytes(M2UA_MAX_PLAN + 1);
+using Bytes = std::vector<std::uint8_t>;
+
+Bytes file_at(const char *path) {
+    Bytes bytes(M2UA_MAX_PLAN + 1);
     std::FILE *file = std::fopen(path, "rb");
     bytes.resize(file ? std::fread(bytes.data(), 1, bytes.size(), file) : 0);
     if (file) std::fclose(file);
     bytes.reserve(1); // a pointer that is lent is never null
     return bytes;
+}
+
+// What a host keeps: the state, and the hold that goes with it, from event to event.
+struct Host {
+    m2ua_gateway gateway;
+    Bytes hold;
+
+    // A message of an ASP: each order in words, with the bytes of its message (none for the link side) and those of all.
+    void receives(std::size_t asp, const Bytes &message) {
+        std::array<std::uint32_t, M2UA_LIST_WORDS> words;
+        std::array<std::uint8_t, M2UA_MAX_MESSAGE> out;
+        std::array<std::uint32_t, M2UA_MAX_ORDERS> lens;
+        std::array<char, 128> line;
+        const std::uint8_t *bytes = message.data();
+        const std::size_t size = message.size();
+        const m2ua_outcome r = m2ua_message(gateway, asp, bytes, size, hold.data(), hold.size(), words.data(), words.size());
+        const m2ua_batch all = m2ua_message_orders(gateway, asp, bytes, size, hold.data(), hold.size(), 0, lens.data(), lens.size(), out.data(), out.size());
+        for (std::size_t i = 0; i < r.count; i++) {
+            m2ua_order_text(words.data() + M2UA_ORDER_WORDS * i, line.data(), line.size());
+            const m2ua_written w = m2ua_message_order(gateway, asp, bytes, size, hold.data(), hold.size(), i, out.data(), out.size());
+            std::printf("%s, %zu bytes, of %zu\n", line.data(), w.length, all.length);
+        }
+        gateway = r.gateway;
+    }
+};
+
+// A Retrieval Request for the messages of a link after a sequence number.
+Bytes request(std::uint8_t link, std::uint16_t after) {
+    const std::array<std::uint16_t, 3> tags = {M2UA_TAG_INTERFACE_ID, M2UA_TAG_RETRIEVAL_ACTION, M2UA_TAG_SEQUENCE};
+    const std::array<std::uint32_t, 3> lens = {4, 4, 4};
+    const std::array<std::uint8_t, 12> values = {0, 0, 0, link, 0, 0, 0, M2UA_RETRIEVE_MESSAGES, 0, 0, std::uint8_t(after >> 8), std::uint8_t(after & 255)};
+    Bytes out(M2UA_MAX_MESSAGE);
+    out.resize(m2ua_write(M2UA_CLASS_MAUP, M2UA_TYPE_RETRIEVAL_REQUEST, tags.data(), 3, lens.data(), 3, values.data(), values.size(), out.data(), out.size()).length);
+    const m2ua_reading r = m2ua_read(out.data(), out.size());
+    if (r.sequenced) std::printf("asked of link %u: the messages after %u\n", r.id, r.sequence);
+    return out;
 }
 
 } // namespace
@@ -24,29 +63,25 @@ int main(int argc, char **argv) {
         std::fprintf(stderr, "usage: host PLAN\n");
         return 2;
     }
-    const auto plan = file_at(argv[1]);
+    const Bytes plan = file_at(argv[1]);
     const m2ua_loaded loaded = m2ua_load(plan.data(), plan.size());
     if (loaded.code != M2UA_OK || m2ua_is_sound(loaded.gateway) != 1) {
         std::fprintf(stderr, "%s: %u (%s)\n", argv[1], loaded.code, m2ua_code_text(loaded.code));
         return 1;
     }
-    const std::array<std::uint8_t, 8> up = {1, 0, M2UA_CLASS_ASPSM, M2UA_TYPE_UP, 0, 0, 0, 8};
-    std::array<std::uint32_t, M2UA_LIST_WORDS> words;
-    std::array<std::uint8_t, M2UA_MAX_MESSAGE> out;
-    std::array<std::uint32_t, M2UA_MAX_ORDERS> lens;
-    std::array<char, 128> line;
-    std::vector<std::uint8_t> hold(M2UA_HOLD_BYTES); // goes with the state, from event to event
+    const Bytes up = {1, 0, M2UA_CLASS_ASPSM, M2UA_TYPE_UP, 0, 0, 0, 8}, active = {1, 0, M2UA_CLASS_ASPTM, M2UA_TYPE_ACTIVE, 0, 0, 0, 8};
+    Host host = {loaded.gateway, Bytes(M2UA_HOLD_BYTES)};
     std::printf("reading: %u\n", m2ua_read(up.data(), up.size()).code);
-    const m2ua_outcome r = m2ua_message(loaded.gateway, 0, up.data(), up.size(), hold.data(), hold.size(), words.data(), words.size());
-    const m2ua_batch all = m2ua_message_orders(loaded.gateway, 0, up.data(), up.size(), hold.data(), hold.size(), 0, lens.data(), lens.size(), out.data(), out.size());
-    for (std::size_t i = 0; i < r.count; i++) {
-        m2ua_order_text(words.data() + M2UA_ORDER_WORDS * i, line.data(), line.size());
-        const m2ua_written w = m2ua_message_order(loaded.gateway, 0, up.data(), up.size(), hold.data(), hold.size(), i, out.data(), out.size());
-        std::printf("%s, %zu bytes, of %zu\n", line.data(), w.length, all.length);
-    }
+    host.receives(0, up);
+    std::array<std::uint8_t, 32> out = {};
     const std::uint16_t tag = M2UA_TAG_HEARTBEAT;
     const std::uint32_t length = 2;
     const m2ua_written beat = m2ua_write(M2UA_CLASS_ASPSM, M2UA_TYPE_BEAT, &tag, 1, &length, 1, out.data(), 2, out.data() + 16, 16);
-    std::printf("heartbeat: %u, %zu bytes; up: %u\n", beat.code, beat.length, unsigned(r.gateway.up[0]));
+    std::printf("heartbeat: %u, %zu bytes; up: %u\n", beat.code, beat.length, unsigned(host.gateway.up[0]));
+    host.receives(0, active);
+    host.receives(0, request(100, 128));
+    host.receives(2, up);
+    host.receives(2, active);
+    host.receives(2, request(200, 4095));
     return 0;
 }

@@ -136,7 +136,11 @@ fn row_faults(file: &[u8]) -> Vec<Fault> {
         }
     }
     for &(row, at) in &links {
-        let (id, owner) = (word(file, at), word(file, at + 4));
+        let (id, kind, owner) = (
+            word(file, at),
+            word(file, at + 4) >> 16,
+            word(file, at + 4) & 0xffff,
+        );
         if row > 0 && id <= word(file, at - 8) {
             fault(
                 "link",
@@ -154,6 +158,14 @@ fn row_faults(file: &[u8]) -> Vec<Fault> {
                 row,
                 at,
                 format!("owner AS {owner}, and the plan has {}", ases.len()),
+            );
+        }
+        if kind > 1 {
+            fault(
+                "link",
+                row,
+                at,
+                format!("kind {kind} is neither 0, plain, nor 1, high-speed"),
             );
         }
     }

@@ -11,7 +11,7 @@ FILE - is standard input. Exit status: 0 right, 1 the plan is refused, 2 wrong u
 
 asp NAME id NUMBER                        an ASP and its identifier
 as NAME mode MODE [members ASP ..]        an AS: override, load-share or broadcast
-link ID[-ID] as NAME                      links by interface identifier, and the AS that owns them
+link ID[-ID] as NAME [high-speed]         links by interface identifier, and the AS that owns them
 # ..                                      a comment";
 
 /// The plan is refused, or it did not come to that.
@@ -116,8 +116,12 @@ fn show(path: &str) -> Result<(), Failure> {
 fn check(path: &str) -> Result<(), Failure> {
     let text = canonical(path)?;
     let plan = m2ua_plan::parse(&text).map_err(|problems| refused(path, problems))?;
+    let high_speed = match plan.links.iter().filter(|link| link.high_speed).count() {
+        0 => String::new(),
+        n => format!(", {n} of them high-speed"),
+    };
     put(format!(
-        "{path}: {} ASPs, {} ASes, {} links\n",
+        "{path}: {} ASPs, {} ASes, {} links{high_speed}\n",
         plan.asps.len(),
         plan.ases.len(),
         plan.links.len()

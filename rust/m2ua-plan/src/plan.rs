@@ -18,12 +18,21 @@ pub struct As {
     pub members: Vec<usize>,
 }
 
-/// A link row. (Document 02: a kind, fill numbers, a name.)
+/// A link row. (Document 02: fill numbers, a name.)
 #[derive(Clone, Copy, Debug, PartialEq, Eq)]
 pub struct Link {
     pub id: u32,
     /// The number of its AS.
     pub owner: usize,
+    /// Its kind: a high-speed link, or a plain one.
+    pub high_speed: bool,
+}
+
+impl Link {
+    /// The second word of its row (Rule 4.2): the kind in the high half, the owner in the low one.
+    fn word(&self) -> u32 {
+        u32::from(self.high_speed) << 16 | self.owner as u32
+    }
 }
 
 /// A plan: rows in their order; links ascend.
@@ -55,6 +64,7 @@ impl Plan {
                 .map(|l| Link {
                     id: g.interface_id(l).unwrap_or_default(),
                     owner: g.owner(l).unwrap_or_default(),
+                    high_speed: g.is_high_speed(l),
                 })
                 .collect(),
         }
@@ -83,7 +93,7 @@ impl Plan {
             self.ases.iter().map(|r#as| r#as.mode.number()).collect(),
             self.links
                 .iter()
-                .flat_map(|link| [link.id, link.owner as u32])
+                .flat_map(|link| [link.id, link.word()])
                 .collect(),
         ];
         let counts = [self.asps.len(), self.ases.len(), self.links.len()];
@@ -105,7 +115,7 @@ impl Plan {
 }
 
 impl fmt::Display for Plan {
-    /// Canonical text: rows in their order, links of one AS that follow one another as a range.
+    /// Canonical text: rows in their order, links of one AS and one kind that follow one another as a range.
     fn fmt(&self, f: &mut fmt::Formatter<'_>) -> fmt::Result {
         for asp in &self.asps {
             writeln!(f, "asp {} id {}", asp.name, asp.id)?;
@@ -125,14 +135,17 @@ impl fmt::Display for Plan {
             let run = rest
                 .iter()
                 .zip(first.id..=u32::MAX)
-                .take_while(|(l, id)| l.id == *id && l.owner == first.owner)
+                .take_while(|(l, id)| l.id == *id && l.word() == first.word())
                 .count();
-            let owner = &self.ases[first.owner].name;
-            if run == 1 {
-                writeln!(f, "link {} as {owner}", first.id)?;
-            } else {
-                writeln!(f, "link {}-{} as {owner}", first.id, rest[run - 1].id)?;
+            write!(f, "link {}", first.id)?;
+            if run > 1 {
+                write!(f, "-{}", rest[run - 1].id)?;
             }
+            write!(f, " as {}", self.ases[first.owner].name)?;
+            if first.high_speed {
+                f.write_str(" high-speed")?;
+            }
+            writeln!(f)?;
             rest = &rest[run..];
         }
         Ok(())

@@ -6,9 +6,10 @@
 //! asp right id 8
 //! as east mode override members left right
 //! link 100-115 as east
+//! link 200 as east high-speed
 //! ```
 //!
-//! A statement is a word, its subject, and options in any order, each at most once. Names may be used before they are defined. What document 02 adds (kinds and fill numbers of
+//! A statement is a word, its subject, and options in any order, each at most once. Names may be used before they are defined. What document 02 adds (fill numbers of
 //! links, options of ASPs and ASes, key rows) becomes an option of a statement, or a statement of its own: their words are reserved.
 use crate::plan::{As, Asp, Link, Plan};
 use m2ua::{sys, TrafficMode};
@@ -47,8 +48,22 @@ impl fmt::Display for Problem {
 
 /// Words that are no names: those of today and those that document 02 will need.
 const WORDS: [&str; 16] = [
-    "asp", "as", "link", "key", "id", "mode", "members", "kind", "owner", "sharing", "name",
-    "onset", "abate", "partial", "text", "plan",
+    "asp",
+    "as",
+    "link",
+    "key",
+    "id",
+    "mode",
+    "members",
+    "high-speed",
+    "owner",
+    "sharing",
+    "name",
+    "onset",
+    "abate",
+    "partial",
+    "text",
+    "plan",
 ];
 
 /// A line taken apart: its statement, its subject, its options with their words.
@@ -84,6 +99,17 @@ impl<'a> Statement<'a> {
             None => Err(self.problem(format!("'{name}' is missing: {what}"))),
         }
     }
+
+    /// Whether an option that takes no word is given.
+    fn given(&self, name: &str) -> Result<bool, Problem> {
+        match self.option(name) {
+            Some([]) => Ok(true),
+            Some([word, ..]) => {
+                Err(self.problem(format!("'{name}' takes no word, and '{word}' follows")))
+            }
+            None => Ok(false),
+        }
+    }
 }
 
 /// Statements and their options: what follows the subject.
@@ -91,7 +117,7 @@ fn options_of(word: &str) -> Option<&'static [&'static str]> {
     match word {
         "asp" => Some(&["id"]),
         "as" => Some(&["mode", "members"]),
-        "link" => Some(&["as"]),
+        "link" => Some(&["as", "high-speed"]),
         _ => None,
     }
 }
@@ -247,7 +273,16 @@ impl<T> Named<T> {
 struct Said {
     asps: Named<u32>,
     ases: Named<(TrafficMode, Vec<String>)>,
-    links: Vec<(u32, u32, String, usize)>,
+    links: Vec<SaidLink>,
+}
+
+/// A line of links, both ends, with the name of their owner.
+struct SaidLink {
+    line: usize,
+    start: u32,
+    stop: u32,
+    owner: String,
+    high_speed: bool,
 }
 
 fn collect(source: &str, problems: &mut Vec<Problem>) -> Said {
@@ -282,12 +317,13 @@ fn add(said: &mut Said, s: &Statement<'_>) -> Result<(), Problem> {
         }
         _ => {
             let (start, stop) = range_of(s)?;
-            said.links.push((
+            said.links.push(SaidLink {
+                line: s.line,
                 start,
                 stop,
-                s.single("as", "the AS that owns the link")?.to_string(),
-                s.line,
-            ));
+                owner: s.single("as", "the AS that owns the link")?.to_string(),
+                high_speed: s.given("high-speed")?,
+            });
             Ok(())
         }
     }
@@ -350,16 +386,21 @@ fn ases_of(said: &Said, problems: &mut Vec<Problem>) -> Vec<As> {
 
 fn links_of(said: &Said, problems: &mut Vec<Problem>) -> Vec<Link> {
     let mut rows: Vec<(Link, usize)> = Vec::new();
-    for (start, stop, owner, line) in &said.links {
-        let Some(owner) = said.ases.number_of(owner) else {
+    for range in &said.links {
+        let Some(owner) = said.ases.number_of(&range.owner) else {
             problems.push(Problem::new(
-                *line,
-                &format!("link {start}"),
-                format!("'{owner}' is no as of this plan"),
+                range.line,
+                &format!("link {}", range.start),
+                format!("'{}' is no as of this plan", range.owner),
             ));
             continue;
         };
-        rows.extend((*start..=*stop).map(|id| (Link { id, owner }, *line)));
+        let link = |id| Link {
+            id,
+            owner,
+            high_speed: range.high_speed,
+        };
+        rows.extend((range.start..=range.stop).map(|id| (link(id), range.line)));
     }
     // by identifier, and one given twice by line
     rows.sort_by_key(|(link, line)| (link.id, *line));
@@ -373,7 +414,7 @@ fn links_of(said: &Said, problems: &mut Vec<Problem>) -> Vec<Link> {
         }
     }
     if rows.len() > sys::MAX_LINKS {
-        let last = said.links.last().map_or(0, |l| l.3);
+        let last = said.links.last().map_or(0, |l| l.line);
         problems.push(Problem::new(
             last,
             "link",

@@ -55,6 +55,54 @@ fn compile_check_show() {
 }
 
 #[test]
+fn high_speed_links_are_shown_and_counted() {
+    let text =
+        b"asp a id 7\nas x mode broadcast members a\nlink 3 as x\nlink 1-2 high-speed as x\n";
+    let compiled = run(&["compile", "-"], text);
+    assert_eq!(compiled.status.code(), Some(0));
+    assert_eq!(
+        said(&run(&["show", "-"], &compiled.stdout)),
+        (
+            0,
+            "asp asp0 id 7\nas as0 mode broadcast members asp0\nlink 1-2 as as0 high-speed\nlink 3 as as0\n".into(),
+            "".into()
+        )
+    );
+    for file in [&text[..], &compiled.stdout] {
+        assert_eq!(
+            said(&run(&["check", "-"], file)),
+            (
+                0,
+                "-: 1 ASPs, 1 ASes, 3 links, 2 of them high-speed\n".into(),
+                "".into()
+            )
+        );
+    }
+    // a kind that there is not
+    let mut file = compiled.stdout;
+    file[41] = 2;
+    assert_eq!(
+        said(&run(&["show", "-"], &file)),
+        (
+            1,
+            "".into(),
+            "-: link row 0 (byte 36): kind 2 is neither 0, plain, nor 1, high-speed (202)\n".into()
+        )
+    );
+    assert_eq!(
+        said(&run(
+            &["compile", "-"],
+            b"asp a id 7\nas x mode override high-speed\n"
+        )),
+        (
+            1,
+            "".into(),
+            "-: line 2: as x: 'high-speed' is no option of as here: mode, members\n".into()
+        )
+    );
+}
+
+#[test]
 fn refused_plans_are_status_1() {
     assert_eq!(
         said(&run(&["compile", "-"], b"asp a id 7\n")),

@@ -9,7 +9,7 @@ as as0 mode override members asp0 asp1
 as as1 mode load-share members asp2
 as as2 mode broadcast
 link 100-115 as as0
-link 200 as as1
+link 200 as as1 high-speed
 ";
 
 fn refusal(file: &[u8]) -> u32 {
@@ -45,7 +45,7 @@ fn canonical_text_is_a_fixed_point() {
 fn names_order_and_spelling_do_not_matter() {
     let other = "\
         # any order, any blanks\n\n\
-        link 200 as west\n  as east members right left mode override # the first AS\n\
+        link 200 high-speed as west\n  as east members right left mode override # the first AS\n\
         asp left id 0x7\n asp right\tid 8\nas west mode loadshare members other\n\
         as spare mode broadcast\nasp other id 9\nlink 100-110 as east\nlink 111 as east\nlink 112-115 as east";
     assert_eq!(compile(other).unwrap(), compile(TEXT).unwrap());
@@ -175,6 +175,85 @@ fn a_wrong_row_is_202() {
         only_fault(&with(64, 3)),
         "link row 0 (byte 60): owner AS 3, and the plan has 3 (202)"
     );
+    assert_eq!(
+        only_fault(&with(64, 0x0001_0003)),
+        "link row 0 (byte 60): owner AS 3, and the plan has 3 (202)"
+    );
+    for (word, kind) in [
+        (0x0002_0000, 2),
+        (0x0003_0002, 3),
+        (0x0100_0001, 256),
+        (0xffff_0000, 65535),
+    ] {
+        assert_eq!(
+            only_fault(&with(64, word)),
+            format!(
+                "link row 0 (byte 60): kind {kind} is neither 0, plain, nor 1, high-speed (202)"
+            )
+        );
+    }
+    let both: Vec<String> = diagnose(&with(192, 0x0002_0003))
+        .unwrap()
+        .iter()
+        .map(|fault| fault.to_string())
+        .collect();
+    assert_eq!(
+        both,
+        [
+            "link row 16 (byte 188): owner AS 3, and the plan has 3 (202)",
+            "link row 16 (byte 188): kind 2 is neither 0, plain, nor 1, high-speed (202)"
+        ]
+    );
+    assert_eq!(refusal(&with(192, 0x0002_0003)), 202);
+}
+
+#[test]
+fn kinds_of_links_both_ways() {
+    let head = "asp asp0 id 7\nas as0 mode override members asp0\nas as1 mode override\n";
+    let of = |links: &str| compile(&format!("{head}{links}")).unwrap();
+    // the second word of the first link's row, behind 24 bytes of contents, one ASP and two ASes
+    let word = |links: &str| of(links)[44..48].to_vec();
+    assert_eq!(word("link 1 as as0"), [0, 0, 0, 0]);
+    assert_eq!(word("link 1 as as1"), [0, 0, 0, 1]);
+    assert_eq!(word("link 1 as as0 high-speed"), [0, 1, 0, 0]);
+    assert_eq!(word("link 1 as as1 high-speed"), [0, 1, 0, 1]);
+    assert_eq!(
+        word("link 1 high-speed as as1 # either order"),
+        [0, 1, 0, 1]
+    );
+    // a range is of one AS and of one kind
+    let links = "link 1-2 as as0\nlink 3-5 as as0 high-speed\nlink 6 as as0\nlink 7 as as1 high-speed\nlink 8-9 as as0 high-speed\n";
+    assert_eq!(show(&of(links)).unwrap(), format!("{head}{links}"));
+    let one_by_one = "link 5 as as0 high-speed\nlink 8 high-speed as as0\nlink 9 as as0 high-speed\nlink 3-4 as as0 high-speed\n\
+                      link 7 as as1 high-speed\nlink 6 as as0\nlink 2 as as0\nlink 1 as as0\n";
+    assert_eq!(of(one_by_one), of(links));
+    let all = "link 0-127 as as1 high-speed\n";
+    assert_eq!(show(&of(all)).unwrap(), format!("{head}{all}"));
+    // plain and high-speed are two plans
+    let plain = TEXT.replace(" high-speed", "");
+    assert!(!parse(TEXT).unwrap().is_like(&parse(&plain).unwrap()));
+    assert_ne!(compile(TEXT).unwrap(), compile(&plain).unwrap());
+}
+
+#[test]
+fn the_plans_of_the_examples() {
+    let sample = compile(include_str!("../../../examples/plans/sample.txt")).unwrap();
+    let high_speed = compile(include_str!("../../../examples/plans/high-speed.txt")).unwrap();
+    let hex = |file: &[u8]| file.iter().map(|b| format!("{b:02x}")).collect::<String>();
+    // plan S as the samples have it, and the plan of the hosts' day
+    for (script, file) in [
+        (include_str!("../../../examples/samples.txt"), &sample),
+        (include_str!("../../../examples/day.txt"), &high_speed),
+    ] {
+        let line = format!("plan {}\n", hex(file));
+        assert!(script.contains(&line), "{line}");
+    }
+    assert_eq!(
+        show(&high_speed).unwrap(),
+        show(&sample)
+            .unwrap()
+            .replace("link 200 as as1\n", "link 200 as as1 high-speed\n")
+    );
 }
 
 /// What is wrong with a text, one line each.
@@ -273,6 +352,58 @@ fn a_refused_text_names_line_row_and_reason() {
     assert_eq!(
         with("link 1"),
         ["line 3: link 1: 'as' is missing: the AS that owns the link"]
+    );
+    assert_eq!(
+        with("link 1 high-speed"),
+        ["line 3: link 1: 'as' is missing: the AS that owns the link"]
+    );
+    assert_eq!(
+        with("link 1 as high-speed"),
+        ["line 3: link 1: 'as' takes one word: the AS that owns the link"]
+    );
+    assert_eq!(
+        with("link 1 as x high-speed high-speed"),
+        ["line 3: link 1: 'high-speed' is given twice"]
+    );
+    assert_eq!(
+        with("link 1-9 high-speed as x high-speed"),
+        ["line 3: link 1-9: 'high-speed' is given twice"]
+    );
+    assert_eq!(
+        with("link 1 as x high-speed yes"),
+        ["line 3: link 1: 'high-speed' takes no word, and 'yes' follows"]
+    );
+    assert_eq!(
+        with("link 1 high-speed 1 as x"),
+        ["line 3: link 1: 'high-speed' takes no word, and '1' follows"]
+    );
+    assert_eq!(
+        with("link 1 kind 1 as x"),
+        ["line 3: link 1: 'kind' where an option is expected: as, high-speed"]
+    );
+    assert_eq!(
+        with("link high-speed as x"),
+        ["line 3: link high-speed: 'high' is no identifier: a number up to 4294967295"]
+    );
+    assert_eq!(
+        with("asp b id 1 high-speed"),
+        ["line 3: asp b: 'high-speed' is no option of asp here: id"]
+    );
+    assert_eq!(
+        with("as y mode override members a high-speed"),
+        ["line 3: as y: 'high-speed' is no option of as here: mode, members"]
+    );
+    assert_eq!(
+        with("as high-speed mode override"),
+        ["line 3: as high-speed: this is a word of the language and no name"]
+    );
+    assert_eq!(
+        with("high-speed 1 as x"),
+        ["line 3: high-speed: no such statement: a line begins with asp, as or link"]
+    );
+    assert_eq!(
+        with("link 1-3 as x\nlink 3 as x high-speed"),
+        ["line 4: link 3: the identifier is given in line 3 already"]
     );
     assert_eq!(
         with("link 1-x as x"),

@@ -101,10 +101,14 @@ impl Runner {
         match Gateway::load(file) {
             Ok(g) => {
                 self.trace.asps = self.trace.asps.max(g.asps());
+                let high_speed = match (0..g.links()).filter(|&l| g.is_high_speed(l)).count() {
+                    0 => String::new(),
+                    n => format!(", {n} of them high-speed"),
+                };
                 self.step(
                     What::Note,
                     format!(
-                        "plan: {} ASPs, {} ASes, {} links",
+                        "plan: {} ASPs, {} ASes, {} links{high_speed}",
                         g.asps(),
                         g.ases(),
                         g.links()

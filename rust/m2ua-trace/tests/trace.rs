@@ -137,6 +137,53 @@ fn units_that_wait() {
 }
 
 #[test]
+fn sequence_numbers_and_kinds_of_links() {
+    // link 100 plain, link 200 high-speed
+    let plan = "plan 00000018000000010000002000000001000000240000000200000007000100000000000100000064000000000000\
+                00c800010000";
+    let request = |id: &str, after: &str| {
+        format!("0100060a0000002000010008000000{id}0306000800000002030700080000{after}")
+    };
+    let confirm = |id: &str, bsn: &str| {
+        format!(
+            "0100060b0000002800010008000000{id}03060008000000010308000800000000030700080000{bsn}"
+        )
+    };
+    let script = format!(
+        "{plan}\nmsg 0 1544 0100030100000008\nmsg 0 1544 0100040100000008\nmsg 0 1544 {}\nlinkmsg 1544 {}\nmsg 0 1544 {}\nmsg 0 1544 {}\nlinkmsg 1544 {}\nmsg 0 1544 {}\n",
+        request("c8", "0fff"),
+        confirm("c8", "0fff"),
+        request("64", "007f"),
+        request("64", "0080"),
+        confirm("64", "0080"),
+        request("c8", "1000")
+    );
+    let t = trace::run(&script::parse(&script).unwrap());
+    let labels: Vec<&str> = t.steps.iter().skip(9).map(|s| s.label.as_str()).collect();
+    assert_eq!(
+        t.steps[0].label,
+        "plan: 1 ASPs, 1 ASes, 2 links, 1 of them high-speed"
+    );
+    assert_eq!(
+        labels,
+        [
+            "Data Retrieval Request of link 200, sequence number 4095",
+            "Data Retrieval Request of link 200, action 2",
+            "Data Retrieval Confirm of link 200, sequence number 4095",
+            "Data Retrieval Confirm of link 200",
+            "Data Retrieval Request of link 100, sequence number 127",
+            "Data Retrieval Request of link 100, action 2",
+            "Data Retrieval Request of link 100, sequence number 128",
+            "Error 17 (invalid parameter value)",
+            "Data Retrieval Confirm of link 100, sequence number 128",
+            "refused: 102 (no such ASP, AS or link in the plan, or a message of the link side that does not fit)",
+            "32 bytes that do not read: 17 (invalid parameter value)",
+            "Error 17 (invalid parameter value)",
+        ]
+    );
+}
+
+#[test]
 fn wrong_lines_are_named() {
     for (line, why) in [
         ("nonsense", "line 2: no command of docs/SCRIPT.md: nonsense"),

@@ -1,6 +1,7 @@
-//! A small host: it loads a plan, lets two ASPs take turns, a link come up, units go both ways, an association break, units wait until the other ASP takes over, and the recovery
-//! time run out. What a host sends, which units wait, and which timers it starts, is printed. (examples/c/scenario.c is the same in C; tools/hosts compares what both print.)
-//! Usage: scenario PLAN, with examples/plans/sample.txt compiled; or scenario words.
+//! A small host: it loads a plan, lets two ASPs take turns, a link come up, units go both ways, an ASP fetch what a high-speed link has not sent, an association break, units wait
+//! until the other ASP takes over, and the recovery time run out. What a host sends, which units wait, and which timers it starts, is printed. (examples/c/scenario.c is the same
+//! in C; tools/hosts compares what both print.)
+//! Usage: scenario PLAN, with examples/plans/high-speed.txt compiled; or scenario words.
 use m2ua::{
     parameter, protocol_data, read, sys, write, Addressee, Event, Gateway, Hold, MessageType,
     Order, Orders, Parameter, Refusal,
@@ -38,6 +39,11 @@ impl Host {
                     if order.message == MessageType::Data =>
                 {
                     send_to_link(order.subject, message)
+                }
+                (Addressee::LinkSide, _, Event::Message { message, .. })
+                    if order.message == MessageType::RetrievalRequest =>
+                {
+                    self.retrieve(order.subject, message)?
                 }
                 _ => {}
             }
@@ -90,6 +96,19 @@ impl Host {
         }
     }
 
+    /// Asks a link for its BSN, or for the messages after a sequence number. Here it is printed; a host asks MTP2. The link can have the number: the event has seen to it.
+    fn retrieve(&self, id: u32, message: &[u8]) -> Result<(), Refusal> {
+        let kind = match self.gateway.is_high_speed(self.place_of(id)) {
+            true => "high-speed",
+            false => "plain",
+        };
+        match read(message)?.sequence {
+            Some(after) => println!("    messages of link {id} ({kind}) after {after}"),
+            None => println!("    BSN of link {id} ({kind})"),
+        }
+        Ok(())
+    }
+
     fn place_of(&self, id: u32) -> usize {
         self.gateway.link_place(id).expect("a link of the plan")
     }
@@ -126,6 +145,122 @@ fn message(kind: MessageType, parameters: &[(u16, &[u8])]) -> Result<Vec<u8>, Re
     let bytes = write(kind, &parameters)?;
     read(&bytes)?;
     Ok(bytes)
+}
+
+/// What an ASP asks of a link, and what the link answers: its identifier, then numbers of 32 bits.
+fn numbers(kind: MessageType, id: u32, more: &[(u16, u32)]) -> Result<Vec<u8>, Refusal> {
+    let all = [&[(sys::TAG_INTERFACE_ID, id)], more].concat();
+    let values: Vec<[u8; 4]> = all.iter().map(|(_, number)| number.to_be_bytes()).collect();
+    let list = all.iter().zip(&values);
+    message(
+        kind,
+        &list
+            .map(|((tag, _), value)| (*tag, &value[..]))
+            .collect::<Vec<_>>(),
+    )
+}
+
+fn asks_messages(id: u32, after: u32) -> Result<Vec<u8>, Refusal> {
+    numbers(
+        MessageType::RetrievalRequest,
+        id,
+        &[
+            (sys::TAG_RETRIEVAL_ACTION, sys::RETRIEVE_MESSAGES),
+            (sys::TAG_SEQUENCE, after),
+        ],
+    )
+}
+
+fn has_bsn(id: u32, bsn: u32) -> Result<Vec<u8>, Refusal> {
+    numbers(
+        MessageType::RetrievalConfirm,
+        id,
+        &[
+            (sys::TAG_RETRIEVAL_ACTION, sys::RETRIEVE_BSN),
+            (sys::TAG_RETRIEVAL_RESULT, 0),
+            (sys::TAG_SEQUENCE, bsn),
+        ],
+    )
+}
+
+/// Link 200 is a high-speed one, link 100 a plain one.
+fn retrieval(host: &mut Host, up: &[u8], active: &[u8]) -> Result<(), Refusal> {
+    let bsn = numbers(
+        MessageType::RetrievalRequest,
+        200,
+        &[(sys::TAG_RETRIEVAL_ACTION, sys::RETRIEVE_BSN)],
+    )?;
+    let unsent = message(
+        MessageType::RetrievalIndication,
+        &[
+            (sys::TAG_INTERFACE_ID, &[0, 0, 0, 200]),
+            (sys::TAG_DATA_1, b"LAST"),
+        ],
+    )?;
+    host.happens(
+        "other comes up",
+        Event::Message {
+            asp: 2,
+            message: up,
+        },
+    )?;
+    host.happens(
+        "other takes link 200",
+        Event::Message {
+            asp: 2,
+            message: active,
+        },
+    )?;
+    host.happens(
+        "other asks link 200 for its BSN",
+        Event::Message {
+            asp: 2,
+            message: &bsn,
+        },
+    )?;
+    host.happens(
+        "link 200 has BSN 4095",
+        Event::LinkMessage {
+            message: &has_bsn(200, 4095)?,
+        },
+    )?;
+    host.happens(
+        "other asks link 200 for the messages after 4095",
+        Event::Message {
+            asp: 2,
+            message: &asks_messages(200, 4095)?,
+        },
+    )?;
+    host.happens(
+        "link 200 hands one out",
+        Event::LinkMessage { message: &unsent },
+    )?;
+    host.happens(
+        "that was the last",
+        Event::LinkMessage {
+            message: &numbers(MessageType::RetrievalComplete, 200, &[])?,
+        },
+    )?;
+    host.happens(
+        "right asks link 100 for the messages after 127",
+        Event::Message {
+            asp: 1,
+            message: &asks_messages(100, 127)?,
+        },
+    )?;
+    host.happens(
+        "right asks link 100 for the messages after 128",
+        Event::Message {
+            asp: 1,
+            message: &asks_messages(100, 128)?,
+        },
+    )?;
+    host.happens(
+        "link 100 has BSN 128, which a plain link cannot have",
+        Event::LinkMessage {
+            message: &has_bsn(100, 128)?,
+        },
+    )
 }
 
 fn scenario(host: &mut Host) -> Result<(), Refusal> {
@@ -225,6 +360,7 @@ fn scenario(host: &mut Host) -> Result<(), Refusal> {
             message: &beat,
         },
     )?;
+    retrieval(host, &up, &active)?;
     host.happens(
         "left asks for a link of another AS",
         Event::Message {

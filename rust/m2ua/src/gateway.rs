@@ -236,6 +236,38 @@ impl Gateway {
         (link < self.links()).then(|| self.state.owner[link].into())
     }
 
+    /// Whether the link at a place is a high-speed one (ITU-T Q.703, Annex A), whose sequence numbers go up to 4,095. Those of a plain link go up to 127: a Retrieval Request
+    /// with a greater one is answered by Error 17, and a Retrieval Confirm of the link side refused with 102 (Rule 5.23).
+    ///
+    /// ```
+    /// use m2ua::{sys, write, Event, Gateway, Hold, MessageType, Orders, Parameter};
+    ///
+    /// // One ASP with identifier 7 in one AS, override; a plain link with identifier 100, a high-speed one with 200.
+    /// let plan = [
+    ///     0, 0, 0, 24, 0, 0, 0, 1, 0, 0, 0, 32, 0, 0, 0, 1, 0, 0, 0, 36, 0, 0, 0, 2, 0, 0, 0, 7, 0, 1, 0, 0, 0, 0, 0, 1, 0, 0, 0, 100, 0, 0, 0, 0, 0, 0, 0, 200, 0, 1, 0, 0,
+    /// ];
+    /// let (mut gateway, mut hold, mut orders) = (Gateway::load(&plan)?, Hold::new(), Orders::new());
+    /// assert_eq!([0, 1, 2].map(|link| gateway.is_high_speed(link)), [false, true, false]);
+    /// let (up, active) = (write(MessageType::Up, &[])?, write(MessageType::Active, &[])?);
+    /// for message in [&up, &active] {
+    ///     gateway = gateway.event(&Event::Message { asp: 0, message }, &mut hold, &mut orders)?;
+    /// }
+    /// // The ASP asks both for what they have sent after number 128.
+    /// for (id, answer) in [(200u32, "to the link side: Data Retrieval Request of link 200, action 2"), (100, "to ASP 0: Error 17 (invalid parameter value)")] {
+    ///     let request = write(MessageType::RetrievalRequest, &[
+    ///         Parameter::new(sys::TAG_INTERFACE_ID, &id.to_be_bytes()),
+    ///         Parameter::new(sys::TAG_RETRIEVAL_ACTION, &sys::RETRIEVE_MESSAGES.to_be_bytes()),
+    ///         Parameter::new(sys::TAG_SEQUENCE, &128u32.to_be_bytes()),
+    ///     ])?;
+    ///     gateway = gateway.event(&Event::Message { asp: 0, message: &request }, &mut hold, &mut orders)?;
+    ///     assert_eq!(orders.get(0).unwrap().to_string(), answer);
+    /// }
+    /// # Ok::<(), m2ua::Refusal>(())
+    /// ```
+    pub fn is_high_speed(&self, link: usize) -> bool {
+        self.state.highspeed.get(link) == Some(&1)
+    }
+
     /// Whether an ASP has part in an AS.
     pub fn is_member(&self, r#as: usize, asp: usize) -> bool {
         pair(&self.state.member, r#as, asp)

@@ -12,7 +12,7 @@
 //!     0, 0, 0, 24, 0, 0, 0, 1, 0, 0, 0, 32, 0, 0, 0, 1, 0, 0, 0, 36, 0, 0, 0, 1, // where the rows are, and how many
 //!     0, 0, 0, 7, 0, 1, 0, 0, // an ASP: identifier, its ASes as bits, spare
 //!     0, 0, 0, 1, // an AS: mode
-//!     0, 0, 0, 100, 0, 0, 0, 0, // a link: identifier, owner
+//!     0, 0, 0, 100, 0, 0, 0, 0, // a link: identifier, kind, owner
 //! ];
 //! let gateway = Gateway::load(&plan)?;
 //! let (mut hold, mut orders) = (Hold::new(), Orders::new());

@@ -101,6 +101,9 @@ pub struct Reading {
     pub state: u32,
     /// The retrieval action of a Retrieval Request or Confirm, else 0.
     pub retrieval: u32,
+    /// The sequence number of a Retrieval Request or Confirm, where it has one: up to 4,095 (`sys::MAX_SEQUENCE`). A plain link has none above 127, which events see to
+    /// (see [`Gateway::is_high_speed`](crate::Gateway::is_high_speed)).
+    pub sequence: Option<u32>,
 }
 
 /// Reads a message of any bytes: what it says, or the number with which the rules refuse it.
@@ -125,6 +128,7 @@ pub fn read(message: &[u8]) -> Result<Reading, Refusal> {
         correlation: (r.correlated == 1).then_some(r.correlation),
         state: r.state,
         retrieval: r.retrieval,
+        sequence: (r.sequenced == 1).then_some(r.sequence),
     })
 }
 
@@ -145,6 +149,9 @@ impl fmt::Display for Reading {
         }
         if let Some(id) = self.correlation {
             write!(f, ", correlation id {id}")?;
+        }
+        if let Some(number) = self.sequence {
+            write!(f, ", sequence number {number}")?;
         }
         Ok(())
     }

@@ -3,7 +3,7 @@
 #![allow(unsafe_code)]
 use std::mem::{offset_of, size_of};
 
-pub const ABI: u32 = 2;
+pub const ABI: u32 = 3;
 
 // Limits.
 pub const MAX_ASPS: usize = 16;
@@ -21,6 +21,10 @@ pub const UNITS: usize = 128;
 pub const HOLD_PLACE: usize = 273;
 pub const HOLD_BYTES: usize = 34944;
 pub const STACK: usize = 32768;
+
+// The largest sequence number (0x307): of a high-speed link, which is the largest that reads, and of a plain one (Rule 5.23).
+pub const MAX_SEQUENCE: u32 = 4095;
+pub const MAX_SEQUENCE_PLAIN: u32 = 127;
 
 // Where messages come from: SCTP port and payload protocol identifier of M2UA.
 pub const PORT: u16 = 2904;
@@ -206,6 +210,8 @@ pub struct Reading {
     pub correlation: u32,
     pub state: u32,
     pub retrieval: u32,
+    pub sequenced: u32,
+    pub sequence: u32,
 }
 
 /// What a write did (Rule 3.5).
@@ -245,6 +251,7 @@ pub struct Gateway {
     pub iid: [u32; 128],
     pub owner: [u8; 128],
     pub state: [u8; 128],
+    pub highspeed: [u8; 128],
     pub held: Units,
 }
 
@@ -533,7 +540,7 @@ const _: () = assert!(offset_of!(Batch, length) == 16);
 const _: () = assert!(size_of::<DataAt>() == 16);
 const _: () = assert!(offset_of!(DataAt, start) == 0);
 const _: () = assert!(offset_of!(DataAt, length) == 8);
-const _: () = assert!(size_of::<Gateway>() == 3204);
+const _: () = assert!(size_of::<Gateway>() == 3332);
 const _: () = assert!(offset_of!(Gateway, asps) == 0);
 const _: () = assert!(offset_of!(Gateway, ases) == 1);
 const _: () = assert!(offset_of!(Gateway, links) == 2);
@@ -547,11 +554,12 @@ const _: () = assert!(offset_of!(Gateway, waiting) == 612);
 const _: () = assert!(offset_of!(Gateway, iid) == 628);
 const _: () = assert!(offset_of!(Gateway, owner) == 1140);
 const _: () = assert!(offset_of!(Gateway, state) == 1268);
-const _: () = assert!(offset_of!(Gateway, held) == 1396);
-const _: () = assert!(size_of::<Loaded>() == 3208);
+const _: () = assert!(offset_of!(Gateway, highspeed) == 1396);
+const _: () = assert!(offset_of!(Gateway, held) == 1524);
+const _: () = assert!(size_of::<Loaded>() == 3336);
 const _: () = assert!(offset_of!(Loaded, code) == 0);
 const _: () = assert!(offset_of!(Loaded, gateway) == 4);
-const _: () = assert!(size_of::<Outcome>() == 3224);
+const _: () = assert!(size_of::<Outcome>() == 3352);
 const _: () = assert!(offset_of!(Outcome, refusal) == 0);
 const _: () = assert!(offset_of!(Outcome, count) == 8);
 const _: () = assert!(offset_of!(Outcome, gateway) == 16);
@@ -559,7 +567,7 @@ const _: () = assert!(size_of::<ParamAt>() == 24);
 const _: () = assert!(offset_of!(ParamAt, found) == 0);
 const _: () = assert!(offset_of!(ParamAt, start) == 8);
 const _: () = assert!(offset_of!(ParamAt, length) == 16);
-const _: () = assert!(size_of::<Reading>() == 48);
+const _: () = assert!(size_of::<Reading>() == 56);
 const _: () = assert!(offset_of!(Reading, code) == 0);
 const _: () = assert!(offset_of!(Reading, class) == 4);
 const _: () = assert!(offset_of!(Reading, msgtype) == 8);
@@ -572,6 +580,8 @@ const _: () = assert!(offset_of!(Reading, correlated) == 32);
 const _: () = assert!(offset_of!(Reading, correlation) == 36);
 const _: () = assert!(offset_of!(Reading, state) == 40);
 const _: () = assert!(offset_of!(Reading, retrieval) == 44);
+const _: () = assert!(offset_of!(Reading, sequenced) == 48);
+const _: () = assert!(offset_of!(Reading, sequence) == 52);
 const _: () = assert!(size_of::<Units>() == 1808);
 const _: () = assert!(offset_of!(Units, count) == 0);
 const _: () = assert!(offset_of!(Units, tag) == 16);

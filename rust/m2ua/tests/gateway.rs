@@ -8,7 +8,7 @@ const M: [u8; 28] = [
     1, 0, 4, 1, 0, 0, 0, 28, 0, 11, 0, 8, 0, 0, 0, 1, 0, 8, 0, 12, 0, 0, 0, 100, 0, 0, 0, 115,
 ];
 
-/// A plan file of ASPs (identifier, mask), modes, links (identifier, owner).
+/// A plan file of ASPs (identifier, mask), modes, links (identifier, kind and owner in one word).
 fn plan(asps: &[(u32, u16)], modes: &[u32], links: &[(u32, u32)]) -> Vec<u8> {
     let at = [
         24,
@@ -690,4 +690,193 @@ fn a_hold_of_another_length_is_refused() {
         assert!(hold.iter().all(|byte| *byte == 0x5c));
     }
     assert_eq!((words, out), ([7; sys::LIST_WORDS], [7; 64]));
+}
+
+/// Plan S, whose link 200 is a high-speed one.
+fn plan_with_high_speed() -> Gateway {
+    let mut links: Vec<(u32, u32)> = (100..116).map(|id| (id, 0)).collect();
+    links.push((200, 1 << 16 | 1));
+    Gateway::load(&plan(&[(7, 1), (8, 1), (9, 2)], &[1, 2], &links)).unwrap()
+}
+
+/// A Retrieval Request for the messages of a link after a sequence number.
+fn request(id: u32, number: u32) -> Result<Vec<u8>, Refusal> {
+    write(
+        MessageType::RetrievalRequest,
+        &[
+            Parameter::new(sys::TAG_INTERFACE_ID, &id.to_be_bytes()),
+            Parameter::new(
+                sys::TAG_RETRIEVAL_ACTION,
+                &sys::RETRIEVE_MESSAGES.to_be_bytes(),
+            ),
+            Parameter::new(sys::TAG_SEQUENCE, &number.to_be_bytes()),
+        ],
+    )
+}
+
+/// The Retrieval Confirm of a link with its BSN.
+fn confirm(id: u32, number: u32) -> Result<Vec<u8>, Refusal> {
+    write(
+        MessageType::RetrievalConfirm,
+        &[
+            Parameter::new(sys::TAG_INTERFACE_ID, &id.to_be_bytes()),
+            Parameter::new(sys::TAG_RETRIEVAL_ACTION, &sys::RETRIEVE_BSN.to_be_bytes()),
+            Parameter::new(sys::TAG_RETRIEVAL_RESULT, &[0; 4]),
+            Parameter::new(sys::TAG_SEQUENCE, &number.to_be_bytes()),
+        ],
+    )
+}
+
+#[test]
+fn a_sequence_number_is_read_where_it_is_given() {
+    for number in [0, 1, 127, 128, 4095] {
+        for message in [request(200, number).unwrap(), confirm(200, number).unwrap()] {
+            let reading = read(&message).unwrap();
+            assert_eq!((reading.sequence, reading.id), (Some(number), 200));
+            assert_eq!(
+                reading.to_string(),
+                format!("{} of link 200, sequence number {number}", reading.message)
+            );
+        }
+    }
+    for number in [4096, 65535, 65536, u32::MAX] {
+        assert_eq!(request(200, number).unwrap_err().code(), 17);
+        assert_eq!(confirm(200, number).unwrap_err().code(), 17);
+    }
+    // written by hand, it does not read either
+    let mut beyond = request(200, 4095).unwrap();
+    let at = beyond.len() - 2;
+    beyond[at..].copy_from_slice(&4096u16.to_be_bytes());
+    assert_eq!(
+        read(&beyond).unwrap_err().to_string(),
+        "17 (invalid parameter value)"
+    );
+    // for the BSN none is asked
+    let bsn = write(
+        MessageType::RetrievalRequest,
+        &[
+            Parameter::new(sys::TAG_INTERFACE_ID, &[0, 0, 0, 200]),
+            Parameter::new(sys::TAG_RETRIEVAL_ACTION, &[0, 0, 0, 1]),
+        ],
+    )
+    .unwrap();
+    let reading = read(&bsn).unwrap();
+    assert_eq!((reading.sequence, reading.retrieval), (None, 1));
+    assert_eq!(reading.to_string(), "Data Retrieval Request of link 200");
+    assert_eq!(read(&bare(MessageType::Up)).unwrap().sequence, None);
+    assert_eq!((sys::MAX_SEQUENCE, sys::MAX_SEQUENCE_PLAIN), (4095, 127));
+}
+
+#[test]
+fn sequence_numbers_of_plain_and_high_speed_links() {
+    let (mut g, mut hold) = (plan_with_high_speed(), Hold::new());
+    let high: Vec<usize> = (0..200).filter(|&l| g.is_high_speed(l)).collect();
+    assert_eq!((high, g.is_high_speed(usize::MAX)), (vec![16], false));
+    let (up, active) = (bare(MessageType::Up), bare(MessageType::Active));
+    for asp in [0, 2] {
+        for message in [&up, &active] {
+            let event = Event::Message { asp, message };
+            g = g.event(&event, &mut hold, &mut Orders::new()).unwrap();
+        }
+    }
+    let before = g;
+    // of an ASP: the link, the number, the order
+    for (asp, id, number, order) in [
+        (2, 200, 0, (255, 1546, 200, 2)),
+        (2, 200, 127, (255, 1546, 200, 2)),
+        (2, 200, 128, (255, 1546, 200, 2)),
+        (2, 200, 4095, (255, 1546, 200, 2)),
+        (0, 100, 127, (255, 1546, 100, 2)),
+        (0, 100, 128, (0, 0, 0, 17)),
+        (0, 115, 4095, (0, 0, 0, 17)),
+        // the other questions come first: down, no member, no such link
+        (1, 100, 128, (1, 0, 0, 6)),
+        (2, 100, 128, (2, 0, 100, 2)),
+        (0, 99, 128, (0, 0, 99, 2)),
+    ] {
+        let message = &request(id, number).unwrap();
+        takes(&mut g, &mut hold, Event::Message { asp, message }, &[order]);
+    }
+    // up, and not active
+    let up_only = Event::Message {
+        asp: 1,
+        message: &up,
+    };
+    let one_up = g.event(&up_only, &mut hold, &mut Orders::new()).unwrap();
+    takes(
+        &mut { one_up },
+        &mut hold,
+        Event::Message {
+            asp: 1,
+            message: &request(100, 128).unwrap(),
+        },
+        &[(1, 0, 0, 6)],
+    );
+    // Error 17 as bytes says the code, and nothing else
+    let wrong = request(100, 128).unwrap();
+    let event = Event::Message {
+        asp: 0,
+        message: &wrong,
+    };
+    assert_eq!(
+        g.order(&event, &hold, 0).unwrap(),
+        [1, 0, 0, 0, 0, 0, 0, 16, 0, 12, 0, 8, 0, 0, 0, 17]
+    );
+    // of the link side: passed on as it came, or refused
+    for (id, number, asp) in [(200, 128, 2), (200, 4095, 2), (100, 127, 0), (115, 0, 0)] {
+        let message = &confirm(id, number).unwrap();
+        let event = Event::LinkMessage { message };
+        assert_eq!(&g.order(&event, &hold, 0).unwrap(), message);
+        takes(&mut g, &mut hold, event, &[(asp, 1547, id, 0)]);
+    }
+    for (id, number) in [(100, 128), (115, 4095)] {
+        let message = &confirm(id, number).unwrap();
+        let event = Event::LinkMessage { message };
+        let no = g.event(&event, &mut hold, &mut Orders::new()).unwrap_err();
+        assert_eq!(no.code(), 102);
+        assert_eq!(g.order(&event, &hold, 0).unwrap_err().code(), 102);
+    }
+    assert_eq!(g, before);
+}
+
+#[test]
+fn kinds_of_links_in_plans_and_states() {
+    let loaded =
+        |word| Gateway::load(&plan(&[(7, 3)], &[1, 1], &[(100, word)])).map_err(Refusal::code);
+    for (word, high, owner) in [
+        (0, false, 0),
+        (1, false, 1),
+        (1 << 16, true, 0),
+        (1 << 16 | 1, true, 1),
+    ] {
+        let g = loaded(word).unwrap();
+        assert_eq!((g.is_high_speed(0), g.owner(0)), (high, Some(owner)));
+    }
+    // a kind above 1, alone and beside an owner that there is not; such an owner beside each kind
+    for word in [
+        2 << 16,
+        2 << 16 | 1,
+        255 << 16,
+        256 << 16,
+        257 << 16,
+        0xffff << 16,
+        2 << 16 | 2,
+        2,
+        256,
+        1 << 16 | 2,
+        1 << 16 | 256,
+        u32::MAX,
+    ] {
+        assert_eq!(loaded(word).unwrap_err(), 202, "{word:#x}");
+    }
+    // in a state: 0 or 1, and 1 for a link of the plan alone
+    let mut raw = *plan_s().raw();
+    raw.highspeed[0] = 1;
+    raw.highspeed[16] = 1;
+    assert!(Gateway::from_raw(raw).unwrap().is_high_speed(16));
+    for (place, kind) in [(0, 2), (16, 255), (17, 1), (127, 1)] {
+        let mut raw = *plan_s().raw();
+        raw.highspeed[place] = kind;
+        assert_eq!(Gateway::from_raw(raw).unwrap_err().code(), 105);
+    }
 }
