@@ -384,7 +384,7 @@ m2ua_outcome m2ua_run(m2ua_gateway g, uint32_t kind, size_t index, const uint8_t
  * an unknown identifier, or a Retrieval Confirm has a sequence number above M2UA_MAX_SEQUENCE_PLAIN and its link is a plain one), M2UA_REFUSED_HOLD (`hold_bytes` is
  * not M2UA_HOLD_BYTES), M2UA_REFUSED_LIST (`count` below M2UA_LIST_WORDS). Refused: count 0, the state given, no word and no byte of the hold changed.
  * A message of an ASP that does not read is no refusal: it is answered by an Error order (Rule 6.8). So is a Retrieval Request that asks a plain link for a sequence number
- * above M2UA_MAX_SEQUENCE_PLAIN: where the ASP is active for the link, by Error 17, and the link side is told nothing (Rule 7.18). */
+ * above M2UA_MAX_SEQUENCE_PLAIN: where the ASP is active for the link, by Error 17, and the link side is told nothing (Rule 7.14). */
 static inline m2ua_outcome m2ua_event(m2ua_gateway g, uint32_t kind, size_t index, const uint8_t *msg, size_t len, uint8_t *hold, size_t hold_bytes, uint32_t *words,
                                       size_t count) {
     return m2ua_run(g, kind, index, msg, len, hold, hold_bytes, hold_bytes, words, count);
