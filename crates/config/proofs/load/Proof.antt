@@ -1,5 +1,6 @@
 -- `config::load`: a number, and the state of the rows that are taken over. Assumes nothing.
 use mathlib.Core.Path.{sym, _∙_}
+use native.Mathlib.Omega.{arith}
 use borrow.Author.Needs.{needs}
 use Rattle.config.specs.Inner.Layout.{laid-out, whole, answer}
 use Rattle.config.proofs.load.Statement.{statement}
@@ -9,7 +10,7 @@ taken-requires : tie.Need-taken-requires
 taken-requires c κs = λ e. laid-out _ (sym (c .code-of .ensures) ∙ e)
 
 build-requires : tie.Need-build-requires
-build-requires c κs = rw (c .taken .ensures, c .before .code-of .ensures) (whole _)
+build-requires c κs = rw (c .taken .ensures, c .before .code-of .ensures) (whole _ (λ i. omega (arith, c .before .before .shared-slice-known .given i)))
 
 returns : tie.Need-returns
 returns c = c .build .ensures ∙ rw (c .before .taken .ensures, c .before .before .code-of .ensures) (answer _)

@@ -14,12 +14,12 @@ use Rattle.laws.specs.Inner.Below.{all-at, all-of}
 use Rattle.laws.specs.Columns.{numberAt}
 use Rattle.laws.specs.Inner.Columns.{getD-tabulate}
 use Rattle.laws.specs.Inner.Every.{count-not}
-use Rattle.gateway.specs.Sound.{pair, countsIn, blankFrom, flagIf, upAt, soundAsps, memberAt, activeAt, soundRow, activeIn, modeAt, waitingAt, overrideAt, soundAs, soundAses, allUnder, soundLinks, isSound}
+use Rattle.gateway.specs.Sound.{pair, countsIn, blankFrom, flagIf, flagWithin, soundAsps, memberAt, activeAt, soundRow, activeIn, modeAt, waitingAt, overrideAt, soundAs, soundAses, allUnder, soundLinks, soundKinds, isSound}
 use Rattle.gateway.specs.Inner.Laws.{whole}
 use Rattle.gateway.specs.Inner.Sound.{no-units-sound}
 use Rattle.gateway.specs.declared.Gateway.{Gateway}
-use Rattle.config.specs.Plan.{count, layoutOk, bit, bitsFrom, modesOk, masksOk, rowsOk, members, fresh, refused, accepted, built, loadOf, aspIds, masks, spares, modes, linkIds, owners}
-use Rattle.config.specs.Inner.Laws.{Layout, layout, Rows, rows, column-blank}
+use Rattle.config.specs.Plan.{count, layoutOk, bit, bitsFrom, modesOk, masksOk, rowsOk, members, fresh, refused, accepted, built, loadOf, aspIds, masks, spares, modes, linkIds, owners, kinds}
+use Rattle.config.specs.Inner.Laws.{Layout, layout, Rows, rows, column-blank, under-small}
 
 -- a place beyond the count holds zero
 blank-at : (c : List ℕ) (n end : ℕ) → blankFrom c n end ≡ true → (i : ℕ) → i < end → n ≤ i → numberAt c i ≡ 0
@@ -46,18 +46,19 @@ bits-none x m a h e =
     let w : bitsFrom x a ≡ x / 2 ^ m / 2 ^ (a - m) = ap (λ (k : ℕ). x / 2 ^ k) (sym z) ∙ sym (shr-shr x m (a - m)) in
     omega (arith, w, shr-le (x / 2 ^ m) (a - m), e)
 
-bit-flag : (x a : ℕ) → flagIf (bit x a) true ≡ true
-bit-flag x a = go (bit x a) (omega arith) (ℕ-discrete (bit x a) 0)
+-- a number below 2 is a flag
+small-flag : (x : ℕ) → x < 2 → flagIf x true ≡ true
+small-flag x h = go (ℕ-discrete x 0)
   where
-    go : (y : ℕ) → y < 2 → Dec (y ≡ 0) → flagIf y true ≡ true
-    go y h (yes z) = rw z
-    go y h (no z) = let e : y ≡ 1 = omega arith in rw e
+    go : Dec (x ≡ 0) → flagIf x true ≡ true
+    go (yes z) = rw z
+    go (no z) = let e : x ≡ 1 = omega arith in rw e
 
 -- ---- table by table, for counts within limits, rows in order and zeros beyond them
 
-module _ (n m k : ℕ) (aspid mask spare mode iid owner : List ℕ) (r : Rows n m k aspid mask spare mode iid owner) where
+module _ (n m k : ℕ) (aspid mask spare mode iid owner kind : List ℕ) (r : Rows n m k aspid mask spare mode iid owner kind) where
   fresh-asps : blankFrom aspid n 16 ≡ true → soundAsps aspid (replicate 16 0) n ≡ true
-  unfolding soundAsps upAt
+  unfolding soundAsps flagWithin
   fresh-asps h = rw (r .differ, h) (all-of _ 16 (λ q b. rw (zero-at 16 q b)))
 
   -- a member is one of the plan's
@@ -73,7 +74,7 @@ module _ (n m k : ℕ) (aspid mask spare mode iid owner : List ℕ) (r : Rows n 
       none z u = rw z
 
       go : Dec (q < n) → Dec (a < m) → flagIf (bit (numberAt mask q) a) (ltb q n && ltb a m) ≡ true
-      go (yes s) (yes t) = rw (lt-ltb q n s, lt-ltb a m t) (bit-flag (numberAt mask q) a)
+      go (yes s) (yes t) = rw (lt-ltb q n s, lt-ltb a m t) (small-flag (bit (numberAt mask q) a) (omega arith))
       go (yes s) (no t) =
           let z : bitsFrom (numberAt mask q) m ≡ 0 = eqb-true (bitsFrom (numberAt mask q) m) 0 (all-at (λ p. eqb (bitsFrom (numberAt mask p) m) 0) n (r .inside) q s) in
           let w = bits-none (numberAt mask q) m a (omega arith) z in
@@ -116,6 +117,14 @@ module _ (n m k : ℕ) (aspid mask spare mode iid owner : List ℕ) (r : Rows n 
   unfolding soundLinks
   fresh-links b h g = rw (r .order, r .owned, all-idle b, h, g, blank-zero k 128)
 
+  fresh-kinds : blankFrom kind k 128 ≡ true → soundKinds kind k ≡ true
+  unfolding soundKinds flagWithin
+  fresh-kinds h = all-of _ 128 (λ l b. go l b (decLt l k))
+    where
+      go : (l : ℕ) → l < 128 → Dec (l < k) → flagIf (numberAt kind l) (ltb l k) ≡ true
+      go l b (yes s) = rw (lt-ltb l k s) (small-flag (numberAt kind l) (under-small kind 2 k (r .sorted) l s))
+      go l b (no s) = rw (blank-at kind k 128 h l b (omega arith))
+
 -- ---- the whole
 
 counts-in : (s : List ℕ) → Layout s → (countsIn (count s 0) (count s 1) (count s 2) && eqb 0 0) ≡ true
@@ -130,23 +139,24 @@ counts-in s l =
     )
 
 abbrev pub rowsOf : List ℕ → Bool
-rowsOf s = rowsOk (count s 0) (count s 1) (count s 2) (aspIds s) (masks s) (spares s) (modes s) (linkIds s) (owners s)
+rowsOf s = rowsOk (count s 0) (count s 1) (count s 2) (aspIds s) (masks s) (spares s) (modes s) (linkIds s) (owners s) (kinds s)
 
 abbrev pub freshOf : List ℕ → Gateway
-freshOf s = fresh (count s 0) (count s 1) (count s 2) (aspIds s) (masks s) (modes s) (linkIds s) (owners s)
+freshOf s = fresh (count s 0) (count s 1) (count s 2) (aspIds s) (masks s) (modes s) (linkIds s) (owners s) (kinds s)
 
 pub fresh-sound : (s : List ℕ) → layoutOk s ≡ true → rowsOf s ≡ true → isSound (freshOf s) ≡ true
-unfolding fresh soundAses aspIds masks modes linkIds owners
+unfolding fresh soundAses aspIds masks modes linkIds owners kinds
 fresh-sound s h g =
     let l = layout s h in
     let n = count s 0 in
     let m = count s 1 in
     let k = count s 2 in
-    let r = rows n m k (aspIds s) (masks s) (spares s) (modes s) (linkIds s) (owners s) g in
+    let r = rows n m k (aspIds s) (masks s) (spares s) (modes s) (linkIds s) (owners s) (kinds s) g in
     whole (freshOf s) (counts-in s l)
-    (fresh-asps n m k (aspIds s) (masks s) (spares s) (modes s) (linkIds s) (owners s) r (column-blank 16 n _))
-    (all-of _ 16 (fresh-as n m k (aspIds s) (masks s) (spares s) (modes s) (linkIds s) (owners s) r (column-blank 16 n _) (column-blank 16 m _)))
-    (fresh-links n m k (aspIds s) (masks s) (spares s) (modes s) (linkIds s) (owners s) r (l .links) (column-blank 128 k _) (column-blank 128 k _))
+    (fresh-asps n m k (aspIds s) (masks s) (spares s) (modes s) (linkIds s) (owners s) (kinds s) r (column-blank 16 n _))
+    (all-of _ 16 (fresh-as n m k (aspIds s) (masks s) (spares s) (modes s) (linkIds s) (owners s) (kinds s) r (column-blank 16 n _) (column-blank 16 m _)))
+    (fresh-links n m k (aspIds s) (masks s) (spares s) (modes s) (linkIds s) (owners s) (kinds s) r (l .links) (column-blank 128 k _) (column-blank 128 k _))
+    (fresh-kinds n m k (aspIds s) (masks s) (spares s) (modes s) (linkIds s) (owners s) (kinds s) r (column-blank 128 k _))
     (no-units-sound (freshOf s .waiting) (freshOf s .iid) (freshOf s .owner) (freshOf s .links))
 
 -- a loaded plan gives a sound state

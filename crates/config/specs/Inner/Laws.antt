@@ -14,7 +14,7 @@ use Rattle.laws.specs.Columns.{numberAt}
 use Rattle.laws.specs.Inner.Columns.{getD-tabulate}
 use Rattle.laws.specs.Inner.Every.{and-left, and-right}
 use Rattle.gateway.specs.Sound.{blankFrom, allUnder, differs, ascends}
-use Rattle.config.specs.Plan.{offset, count, follow, layoutOk, column, modesOk, masksOk, sparesOk, rowsOk}
+use Rattle.config.specs.Plan.{offset, count, follow, layoutOk, column, modesOk, masksOk, sparesOk, linkKinds, rowsOk}
 
 -- the counts are within their limits, and each body starts where the one before it ends
 pub record Layout (s : List ℕ) : Type 0 where
@@ -87,32 +87,36 @@ column-blank places n f = all-of _ places (λ i b. rw (getD-tabulate places (λ 
     go i false = refl
 
 -- the rows, condition by condition
-pub record Rows (asps ases links : ℕ) (aspid mask spare mode iid owner : List ℕ) : Type 0 where
+pub record Rows (asps ases links : ℕ) (aspid mask spare mode iid owner kind : List ℕ) : Type 0 where
   pub traffic : modesOk mode ases ≡ true
   pub inside : masksOk mask asps ases ≡ true
   pub zero : sparesOk spare asps ≡ true
   pub differ : allBelow (differs aspid) asps ≡ true
   pub order : ascends iid links ≡ true
   pub owned : allUnder owner ases links ≡ true
+  pub sorted : allUnder kind linkKinds links ≡ true
 
-pub rows : (asps ases links : ℕ) (aspid mask spare mode iid owner : List ℕ) → rowsOk asps ases links aspid mask spare mode iid owner ≡ true → Rows asps ases links aspid mask spare mode iid owner
+pub rows : (asps ases links : ℕ) (aspid mask spare mode iid owner kind : List ℕ) → rowsOk asps ases links aspid mask spare mode iid owner kind ≡ true → Rows asps ases links aspid mask spare mode iid owner kind
 unfolding rowsOk
-rows asps ases links aspid mask spare mode iid owner h =
+rows asps ases links aspid mask spare mode iid owner kind h =
     let a = modesOk mode ases in
     let b = masksOk mask asps ases in
     let c = sparesOk spare asps in
     let d = allBelow (differs aspid) asps in
     let e = ascends iid links in
     let f = allUnder owner ases links in
-    let l = and-left (a && (b && c)) (d && (e && f)) h in
-    let r = and-right (a && (b && c)) (d && (e && f)) h in
+    let g = allUnder kind linkKinds links in
+    let l = and-left (a && (b && c)) (d && (e && (f && g))) h in
+    let r = and-right (a && (b && c)) (d && (e && (f && g))) h in
+    let t = and-right d (e && (f && g)) r in
     record {
       traffic = and-left a (b && c) l;
       inside = and-left b c (and-right a (b && c) l);
       zero = and-right b c (and-right a (b && c) l);
-      differ = and-left d (e && f) r;
-      order = and-left e f (and-right d (e && f) r);
-      owned = and-right e f (and-right d (e && f) r);
+      differ = and-left d (e && (f && g)) r;
+      order = and-left e (f && g) t;
+      owned = and-left f g (and-right e (f && g) t);
+      sorted = and-right f g (and-right e (f && g) t);
     }
 
 -- a row of a table is what was read
@@ -120,13 +124,13 @@ pub column-at : (places n : ℕ) (f : ℕ → ℕ) (i : ℕ) → i < n → n ≤
 unfolding column
 column-at places n f i b c = getD-tabulate places (λ i. cond (ltb i n) (f i) 0) i 0 (omega arith) ∙ rw (lt-ltb i n b)
 
--- the modes and owners of good rows are bytes
+-- what the rows of a good file say is small
 pub mode-small : (mode : List ℕ) (n : ℕ) → modesOk mode n ≡ true → (i : ℕ) → i < n → numberAt mode i ≤ 3
 unfolding modesOk
 mode-small mode n h i b =
     leb-true (numberAt mode i) 3
     (and-right (leb 1 (numberAt mode i)) (leb (numberAt mode i) 3) (all-at (λ i. leb 1 (numberAt mode i) && leb (numberAt mode i) 3) n h i b))
 
-pub owner-small : (owner : List ℕ) (ases n : ℕ) → allUnder owner ases n ≡ true → (i : ℕ) → i < n → numberAt owner i < ases
+pub under-small : (c : List ℕ) (end n : ℕ) → allUnder c end n ≡ true → (i : ℕ) → i < n → numberAt c i < end
 unfolding allUnder
-owner-small owner ases n h i b = ltb-true (numberAt owner i) ases (all-at (λ i. ltb (numberAt owner i) ases) n h i b)
+under-small c end n h i b = ltb-true (numberAt c i) end (all-at (λ i. ltb (numberAt c i) end) n h i b)

@@ -16,9 +16,9 @@ use Rattle.gateway.specs.Sound.{zeros}
 use Rattle.gateway.specs.declared.Gateway.{Gateway}
 use Rattle.config.specs.declared.Loaded.{Loaded}
 use Rattle.config.specs.declared.Places.{Places}
-use Rattle.config.specs.Plan.{offset, count, layoutOk, column, aspWords, asWords, linkWords, high, low, bit, members, rowsOk, fresh, refused, accepted, built, loadOf, aspIds, masks, spares, modes, linkIds, owners}
+use Rattle.config.specs.Plan.{offset, count, layoutOk, column, aspWords, asWords, linkWords, high, low, bit, members, linkKinds, rowsOk, fresh, refused, accepted, built, loadOf, aspIds, masks, spares, modes, linkIds, owners, kinds}
 use Rattle.config.specs.Inner.Laws.{layout, rows}
-use Rattle.config.specs.Inner.Tables.{wordOf, AllIn, column-zero, mode-bytes, owner-bytes}
+use Rattle.config.specs.Inner.Tables.{wordOf, byteOf, Same, Bytes, column-zero, word-byte, low-byte, high-byte, same-bytes, mode-bytes, under-bytes}
 
 unfoldable pub placesOf : List ℕ → Places
 placesOf s = record { asps = count s 0; ases = count s 1; links = count s 2; x = offset s 0; y = offset s 1; z = offset s 2 }
@@ -35,6 +35,7 @@ pub record Inside (t : Places) (long : ℕ) : Type 0 where
   pub inAses : t .y + 4 * t .ases ≤ long
   pub inLinks : t .z + 8 * t .links ≤ long
   pub first : t .x ≤ 4096
+  pub second : t .y ≤ 4096
   pub third : t .z ≤ 4096
 
 -- masks and spares of the rows there
@@ -44,21 +45,29 @@ masksAt s t = column 16 (t .asps) (λ p. high (wordOf s (t .x + 4) 8 p))
 abbrev sparesAt : List ℕ → Places → List ℕ
 sparesAt s t = column 16 (t .asps) (λ p. low (wordOf s (t .x + 4) 8 p))
 
+-- owners and kinds
+abbrev ownersAt : List ℕ → Places → List ℕ
+ownersAt s t = column 128 (t .links) (λ l. low (wordOf s (t .z + 4) 8 l))
+
+abbrev kindsAt : List ℕ → Places → List ℕ
+kindsAt s t = column 128 (t .links) (λ l. high (wordOf s (t .z + 4) 8 l))
+
 -- whether the rows there are in order, and the state that they give
 unfoldable pub rowsAt : List ℕ → Places → Bool
 rowsAt s t =
     rowsOk (t .asps) (t .ases) (t .links) (aspWords s (t .x) (t .asps)) (masksAt s t) (sparesAt s t)
-    (asWords s (t .y) (t .ases)) (linkWords s (t .z) (t .links)) (linkWords s (t .z + 4) (t .links))
+    (asWords s (t .y) (t .ases)) (linkWords s (t .z) (t .links)) (ownersAt s t) (kindsAt s t)
 
 unfoldable pub stateAt : List ℕ → Places → Gateway
 stateAt s t =
     fresh (t .asps) (t .ases) (t .links) (aspWords s (t .x) (t .asps)) (masksAt s t) (asWords s (t .y) (t .ases))
-    (linkWords s (t .z) (t .links)) (linkWords s (t .z + 4) (t .links))
+    (linkWords s (t .z) (t .links)) (ownersAt s t) (kindsAt s t)
 
--- modes and owners there are bytes
+-- modes, owners and kinds there are bytes: the last of a word, and those of its halves
 pub record AllBytes (s : List ℕ) (t : Places) : Type 0 where
-  pub modes : AllIn (wordOf s (t .y) 4) (t .ases) 256
-  pub owners : AllIn (wordOf s (t .z + 4) 8) (t .links) 256
+  pub modes : Same (byteOf s (t .y + 3) 4) (wordOf s (t .y) 4) (t .ases)
+  pub owners : Same (byteOf s (t .z + 7) 8) (λ l. low (wordOf s (t .z + 4) 8 l)) (t .links)
+  pub kinds : Same (byteOf s (t .z + 5) 8) (λ l. high (wordOf s (t .z + 4) 8 l)) (t .links)
 
 -- the number of a file, the rows that are taken over, and the answer of both
 unfoldable pub codeOf : List ℕ → ℕ
@@ -84,6 +93,7 @@ inside s h =
       inAses = omega arith;
       inLinks = omega arith;
       first = omega arith;
+      second = omega arith;
       third = omega arith;
     }
 
@@ -101,29 +111,31 @@ inside-nowhere long =
       inAses = omega arith;
       inLinks = omega arith;
       first = omega arith;
+      second = omega arith;
       third = omega arith;
     }
 
 bytes-nowhere : (s : List ℕ) → AllBytes s nowhere
 unfolding nowhere
-bytes-nowhere s = record { modes = λ i b. absurd (omega arith); owners = λ i b. absurd (omega arith) }
+bytes-nowhere s = record { modes = λ i b. absurd (omega arith); owners = λ i b. absurd (omega arith); kinds = λ i b. absurd (omega arith) }
 
-bytes-of : (s : List ℕ) (t : Places) → Inside t (length s) → rowsAt s t ≡ true → AllBytes s t
+bytes-of : (s : List ℕ) (t : Places) → Bytes s → Inside t (length s) → rowsAt s t ≡ true → AllBytes s t
 unfolding rowsAt
-bytes-of s t i h =
-    let r = rows _ _ _ _ _ _ _ _ _ h in
+bytes-of s t z i h =
+    let r = rows _ _ _ _ _ _ _ _ _ _ h in
     record {
-      modes = mode-bytes (t .ases) (wordOf s (t .y) 4) (i .ases) (r .traffic);
-      owners = owner-bytes (t .links) (t .ases) (wordOf s (t .z + 4) 8) (i .links) (i .ases) (r .owned);
+      modes = same-bytes s (t .ases) (t .y) 3 4 (t .y + 3) (λ x. x) refl (word-byte s) (mode-bytes (t .ases) (wordOf s (t .y) 4) (i .ases) (r .traffic));
+      owners = same-bytes s (t .links) (t .z + 4) 3 8 (t .z + 7) low (omega arith) (low-byte s z) (under-bytes (t .links) (t .ases) (λ l. low (wordOf s (t .z + 4) 8 l)) (i .links) (i .ases) (r .owned));
+      kinds = same-bytes s (t .links) (t .z + 4) 1 8 (t .z + 5) high (omega arith) (high-byte s z) (under-bytes (t .links) linkKinds (λ l. high (wordOf s (t .z + 4) 8 l)) (i .links) (omega arith) (r .sorted));
     }
 
 -- what is taken over lies within the file, and is bytes
-pub whole : (s : List ℕ) → Inside (takenOf s (codeOf s)) (length s) × AllBytes s (takenOf s (codeOf s))
+pub whole : (s : List ℕ) → Bytes s → Inside (takenOf s (codeOf s)) (length s) × AllBytes s (takenOf s (codeOf s))
 unfolding takenOf codeOf
-whole s = outer (layoutOk s) refl
+whole s z = outer (layoutOk s) refl
   where
     inner : layoutOk s ≡ true → (v : Bool) → rowsAt s (placesOf s) ≡ v → Inside (takenOf s (cond v 0 202)) (length s) × AllBytes s (takenOf s (cond v 0 202))
-    inner h true e = (inside s h, bytes-of s (placesOf s) (inside s h) e)
+    inner h true e = (inside s h, bytes-of s (placesOf s) z (inside s h) e)
     inner h false e = (inside-nowhere (length s), bytes-nowhere s)
 
     outer : (u : Bool) → layoutOk s ≡ u → Inside (takenOf s (cond u (cond (rowsAt s (placesOf s)) 0 202) 201)) (length s) × AllBytes s (takenOf s (cond u (cond (rowsAt s (placesOf s)) 0 202) 201))
@@ -151,11 +163,11 @@ no-members f =
 state-nowhere : (s : List ℕ) → stateAt s nowhere ≡ zeros
 unfolding stateAt fresh nowhere zeros
 state-nowhere s =
-    rw (column-zero 16 (λ p. be 4 s (0 + 8 * p)), no-members (λ p. high (be 4 s (0 + 4 + 8 * p))), column-zero 16 (λ a. be 4 s (0 + 4 * a)), column-zero 128 (λ l. be 4 s (0 + 8 * l)), column-zero 128 (λ l. be 4 s (0 + 4 + 8 * l)))
+    rw (column-zero 16 (λ p. be 4 s (0 + 8 * p)), no-members (λ p. high (be 4 s (0 + 4 + 8 * p))), column-zero 16 (λ a. be 4 s (0 + 4 * a)), column-zero 128 (λ l. be 4 s (0 + 8 * l)), column-zero 128 (λ l. low (be 4 s (0 + 4 + 8 * l))), column-zero 128 (λ l. high (be 4 s (0 + 4 + 8 * l))))
 
 -- the answer is that of the rules
 pub answer : (s : List ℕ) → made (codeOf s) (stateAt s (takenOf s (codeOf s))) ≡ loadOf s
-unfolding loadOf built codeOf takenOf stateAt rowsAt placesOf aspIds masks spares modes linkIds owners
+unfolding loadOf built codeOf takenOf stateAt rowsAt placesOf aspIds masks spares modes linkIds owners kinds
 answer s = go (layoutOk s) (rowsAt s (placesOf s))
   where
     go : (u v : Bool) → made (cond u (cond v 0 202) 201) (stateAt s (takenOf s (cond u (cond v 0 202) 201))) ≡ cond u (cond v (accepted (stateAt s (placesOf s))) (refused 202)) (refused 201)

@@ -1,28 +1,33 @@
 -- Tables that the code fills from rows, a word of each, and what the code asks of the words.
 -- Assumes nothing.
-use Prim.Native.Nat.{ℕ, zero, suc, _+_, _*_, _-_, _<_, _≤_}
-use mathlib.Core.Path.{_≡_, refl, sym, _∙_}
-use mathlib.Core.Bool.{true, _&&_, cond}
+use Prim.Native.Nat.{ℕ, zero, suc, _+_, _*_, _-_, _/_, _%_, _<_, _≤_}
+use mathlib.Core.Path.{_≡_, refl, sym, ap, _∙_}
+use mathlib.Core.Bool.{Bool, true, false, _&&_, cond}
 use mathlib.Core.List.{List}
 use native.Mathlib.Numerals.{add-one}
 use native.Mathlib.Omega.{arith}
 use native.Mathlib.Decide.{decLt}
+use lib.Bits.{bitOr, or-add-and, or-lt, and-le-l, and-le-r}
 use lib.Dec.{eqb, leb, ltb}
 use lib.ListN.{length, getD, replicate, length-replicate, getD-replicate}
 use borrow.Author.Tests.{ltb-true, leb-true, lt-ltb, le-ltb, le-leb}
 use Rattle.laws.specs.Below.{allBelow}
 use Rattle.laws.specs.Inner.Below.{all-none, all-more}
-use Rattle.laws.specs.Inner.Every.{all-ext, all-two, same-truth}
+use Rattle.laws.specs.Inner.Every.{all-ext, all-two, same-truth, and-both, and-left, and-right}
 use Rattle.laws.specs.Columns.{numberAt}
 use Rattle.laws.specs.Inner.Columns.{is-tabulate, HalfCol}
 use Rattle.wire.specs.Number.{be}
 use Rattle.gateway.specs.Sound.{ascends, allUnder}
-use Rattle.config.specs.Plan.{high, low, column, bitsFrom, modesOk, masksOk, sparesOk}
-use Rattle.config.specs.Inner.Laws.{column-at, mode-small, owner-small}
+use Rattle.config.specs.Plan.{high, low, column, bitsFrom, modesOk, masksOk, sparesOk, linkKinds}
+use Rattle.config.specs.Inner.Laws.{column-at, mode-small, under-small}
 
 -- the word of row i, if that of the first row stands at a position
 abbrev pub wordOf : List ℕ → ℕ → ℕ → ℕ → ℕ
 wordOf s at row i = be 4 s (at + row * i)
+
+-- the byte of row i, if that of the first row stands at a position
+abbrev pub byteOf : List ℕ → ℕ → ℕ → ℕ → ℕ
+byteOf s at row i = getD s (at + row * i) 0
 
 -- the words of n rows are within a file of some length
 abbrev pub RowsIn : ℕ → ℕ → ℕ → ℕ → Type 0
@@ -31,6 +36,14 @@ RowsIn long at row n = (i : ℕ) → i < n → at + row * i + 4 ≤ long
 -- n numbers are below an end
 abbrev pub AllIn : (ℕ → ℕ) → ℕ → ℕ → Type 0
 AllIn f n end = (i : ℕ) → i < n → f i < end
+
+-- n numbers are the same
+abbrev pub Same : (ℕ → ℕ) → (ℕ → ℕ) → ℕ → Type 0
+Same f g n = (i : ℕ) → i < n → f i ≡ g i
+
+-- a list of bytes
+abbrev pub Bytes : List ℕ → Type 0
+Bytes s = (i : ℕ) → getD s i 0 < 256
 
 -- the least that number l may be in an ascending list: one more than the number before it
 unfoldable pub floorOf : (ℕ → ℕ) → ℕ → ℕ
@@ -48,6 +61,10 @@ filled places n f l h = is-tabulate 0 l places (λ i. cond (ltb i n) (f i) 0) (h
     pick i b (yes z) = h .new i z ∙ rw (lt-ltb i n z)
     pick i b (no z) =
         h .old i (omega arith) (rw (length-replicate {A = ℕ} places 0) b) ∙ getD-replicate places i 0 0 b ∙ rw (le-ltb i n (omega arith))
+
+-- what was filled, said by the same numbers
+pub half-as : {f g h : ℕ → ℕ} {n k : ℕ} {l : List ℕ} → Same f h k → HalfCol f g n k l → HalfCol h g n k l
+half-as e r = record { long = r .long; new = λ i b. r .new i b ∙ e i b; old = r .old }
 
 -- the tests of words are those of the tables
 pub modes-read : (n : ℕ) (f : ℕ → ℕ) → n ≤ 16 → allBelow (λ i. leb 1 (f i) && leb (f i) 3) n ≡ modesOk (column 16 n f) n
@@ -88,20 +105,64 @@ ids-read (suc k) f b =
     rw (e, sym (add-one k))
     (floors f k ∙ all-ext (λ l. ltb (f l) (f (l + 1))) (λ l. ltb (numberAt (column 128 (k + 1) f) l) (numberAt (column 128 (k + 1) f) (l + 1))) k (λ l h. rw (column-at 128 (k + 1) f l (omega arith) (omega arith), column-at 128 (k + 1) f (l + 1) (omega arith) (omega arith))))
 
-pub links-read : (n m : ℕ) (f g : ℕ → ℕ) → n ≤ 128 → allBelow (λ l. leb (floorOf f l) (f l) && ltb (g l) m) n ≡ (ascends (column 128 n f) n && allUnder (column 128 n g) m n)
+under-read : (n m : ℕ) (f : ℕ → ℕ) → n ≤ 128 → allBelow (λ l. ltb (f l) m) n ≡ allUnder (column 128 n f) m n
 unfolding allUnder
+under-read n m f b = all-ext (λ l. ltb (f l) m) (λ l. ltb (numberAt (column 128 n f) l) m) n (λ l h. rw (column-at 128 n f l h b))
+
+pub links-read : (n m : ℕ) (f g : ℕ → ℕ) → n ≤ 128
+    → (allBelow (λ l. leb (floorOf f l) (f l) && ltb (low (g l)) m) n && allBelow (λ l. ltb (high (g l)) linkKinds) n)
+    ≡ (ascends (column 128 n f) n && (allUnder (column 128 n (λ l. low (g l))) m n && allUnder (column 128 n (λ l. high (g l))) linkKinds n))
 links-read n m f g b =
-    all-two (λ l. leb (floorOf f l) (f l)) (λ l. ltb (g l) m) n
-    ∙ rw (ids-read n f b, all-ext (λ l. ltb (g l) m) (λ l. ltb (numberAt (column 128 n g) l) m) n (λ l h. rw (column-at 128 n g l h b)))
+    rw (all-two (λ l. leb (floorOf f l) (f l)) (λ l. ltb (low (g l)) m) n, ids-read n f b, under-read n m (λ l. low (g l)) b, under-read n linkKinds (λ l. high (g l)) b)
+    (assoc (ascends (column 128 n f) n) (allUnder (column 128 n (λ l. low (g l))) m n) (allUnder (column 128 n (λ l. high (g l))) linkKinds n))
+  where
+    assoc : (u v w : Bool) → ((u && v) && w) ≡ (u && (v && w))
+    assoc true v w = refl
+    assoc false v w = refl
+
+pub and-same : {t u v w : Bool} → t ≡ u → v ≡ w → (t && v) ≡ (u && w)
+and-same p q = rw (p, q)
+
+-- two kinds are below 2 where their bits together are
+pub kinds-both : (x y : ℕ) → ltb (high (bitOr x y)) linkKinds ≡ (ltb (high x) linkKinds && ltb (high y) linkKinds)
+kinds-both x y =
+    let u = ltb (high x) 2 in
+    let v = ltb (high y) 2 in
+    same-truth (ltb (high (bitOr x y)) 2) (u && v)
+    (λ h.
+    let p = ltb-true (high (bitOr x y)) 2 h in
+    and-both u v (lt-ltb (high x) 2 (omega (arith, or-add-and x y, and-le-r x y))) (lt-ltb (high y) 2 (omega (arith, or-add-and x y, and-le-l x y))))
+    (λ h.
+    let p = ltb-true (high x) 2 (and-left u v h) in
+    let q = ltb-true (high y) 2 (and-right u v h) in
+    lt-ltb (high (bitOr x y)) 2 (omega (arith, or-lt 17 x y (omega arith) (omega arith))))
 
 -- of no rows every place is zero
 pub column-zero : (places : ℕ) (f : ℕ → ℕ) → column places 0 f ≡ replicate places 0
 unfolding column
 column-zero places f = sym (is-tabulate 0 (replicate places 0) places (λ i. cond (ltb i 0) (f i) 0) (length-replicate places 0) (λ i b. getD-replicate places i 0 0 b ∙ rw (le-ltb i 0 (omega arith))))
 
--- the modes and owners of good rows are bytes
+-- a number below 256 is its last byte: of a word, and of its halves
+pub word-byte : (s : List ℕ) (p : ℕ) → be 4 s p < 256 → getD s (p + 3) 0 ≡ be 4 s p
+unfolding be
+word-byte s p h = omega arith
+
+pub low-byte : (s : List ℕ) → Bytes s → (p : ℕ) → low (be 4 s p) < 256 → getD s (p + 3) 0 ≡ low (be 4 s p)
+unfolding be
+low-byte s z p h = omega (arith, z (p + 3))
+
+pub high-byte : (s : List ℕ) → Bytes s → (p : ℕ) → high (be 4 s p) < 256 → getD s (p + 1) 0 ≡ high (be 4 s p)
+unfolding be
+high-byte s z p h = omega (arith, z (p + 2), z (p + 3))
+
+-- so of the words of n rows, or of a half of each
+pub same-bytes : (s : List ℕ) (n at k row from : ℕ) (h : ℕ → ℕ) → from ≡ at + k → ((p : ℕ) → h (be 4 s p) < 256 → getD s (p + k) 0 ≡ h (be 4 s p))
+    → AllIn (λ i. h (wordOf s at row i)) n 256 → Same (byteOf s from row) (λ i. h (wordOf s at row i)) n
+same-bytes s n at k row from h e z b i l = ap (λ j. getD s j 0) (omega (arith, e)) ∙ z (at + row * i) (b i l)
+
+-- the modes, owners and kinds of good rows are bytes
 pub mode-bytes : (n : ℕ) (f : ℕ → ℕ) → n ≤ 16 → modesOk (column 16 n f) n ≡ true → AllIn f n 256
 mode-bytes n f b h i l = omega (arith, column-at 16 n f i l b, mode-small (column 16 n f) n h i l)
 
-pub owner-bytes : (n m : ℕ) (f : ℕ → ℕ) → n ≤ 128 → m ≤ 16 → allUnder (column 128 n f) m n ≡ true → AllIn f n 256
-owner-bytes n m f b k h i l = omega (arith, column-at 128 n f i l b, owner-small (column 128 n f) m n h i l)
+pub under-bytes : (n m : ℕ) (f : ℕ → ℕ) → n ≤ 128 → m ≤ 16 → allUnder (column 128 n f) m n ≡ true → AllIn f n 256
+under-bytes n m f b k h i l = omega (arith, column-at 128 n f i l b, under-small (column 128 n f) m n h i l)
