@@ -7,7 +7,7 @@ use super::plans::{self, Plan};
 use super::rng::Rng;
 use super::{malformed, orders, reading, retrievals, scenes};
 use crate::events::{bits, Event};
-use crate::gateway::{Each, Gateway, HOLD_BYTES, IDLE, IN_SERVICE, STARTING};
+use crate::gateway::{Each, Gateway, HOLD_BYTES, IDLE, IN_SERVICE, STARTING, STOPPING};
 use crate::script::{put_number, Session};
 use crate::wire::*;
 use std::collections::VecDeque;
@@ -312,7 +312,7 @@ impl Made {
                 return made;
             }
         }
-        if rng.one_in(10) {
+        if rng.one_in(6) {
             if let Some(made) = retrievals::event(rng, gateway) {
                 return made;
             }
@@ -352,6 +352,8 @@ impl Made {
                 let name = Piece::new(TEXT_INTERFACE_ID, rng.bytes(6));
                 Made::Message(p, Message::new(4, 1, vec![name]).encode())
             }
+            53..=56 => Made::Message(p, aimed(rng, gateway, p, 6, 4).encode()),
+            57..=60 => Made::LinkDown(link_in(rng, gateway, STOPPING)),
             _ => Made::any(rng, gateway),
         };
         if let Made::Message(_, message) | Made::LinkMessage(message) = &mut made {

@@ -553,9 +553,10 @@ pub fn any(rng: &mut Rng) -> Vec<u8> {
             return bytes;
         }
         24..=83 => return noise(rng),
-        84..=143 => return retrievals::any(rng).encode(),
-        144..=153 => return longest(rng).encode(),
-        154..=163 => return traffic_mode(rng).encode(),
+        84..=133 => return retrievals::any(rng).encode(),
+        134..=163 => return retrievals::fitting(rng).encode(),
+        164..=173 => return longest(rng).encode(),
+        174..=183 => return traffic_mode(rng).encode(),
         _ => {}
     }
     let mut message = valid(rng, class, kind);

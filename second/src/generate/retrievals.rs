@@ -36,10 +36,10 @@ pub fn good_number(rng: &mut Rng) -> u32 {
     }
 }
 
-/// Any sequence number.
-pub fn number(rng: &mut Rng) -> u32 {
-    match rng.below(3) {
-        0 => rng.pick(&BORDERS),
+/// Any sequence number, mostly one that reads.
+fn number(rng: &mut Rng) -> u32 {
+    match rng.below(6) {
+        0 => rng.pick(&BORDERS[READABLE..]),
         _ => good_number(rng),
     }
 }
@@ -66,8 +66,9 @@ pub fn any(rng: &mut Rng) -> Message {
     Message::new(6, kind, pieces)
 }
 
-/// 6.10 or 6.11 about a link, mostly with a sequence number.
-fn about(rng: &mut Rng, kind: u8, id: u32) -> Vec<u8> {
+/// 6.10 or 6.11 about a link, mostly with a sequence number, which alone may be
+/// wrong.
+fn about(rng: &mut Rng, kind: u8, id: u32) -> Message {
     let (with, without) = if kind == 10 { (2, 1) } else { (1, 2) };
     let mut pieces = if rng.one_in(10) {
         vec![Piece::word(ACTION, without)]
@@ -82,21 +83,30 @@ fn about(rng: &mut Rng, kind: u8, id: u32) -> Vec<u8> {
     }
     rng.shuffle(&mut pieces);
     pieces.insert(0, Piece::word(INTERFACE_ID, id));
-    Message::new(6, kind, pieces).encode()
+    Message::new(6, kind, pieces)
 }
 
-/// A link, as often a plain one as a high-speed one where the plan has both.
+/// The same about any link.
+pub fn fitting(rng: &mut Rng) -> Message {
+    let (kind, id) = (rng.pick(&[10, 11]), rng.word());
+    about(rng, kind, id)
+}
+
+/// A link, mostly one that is served, and as often a plain one as a high-speed
+/// one where the plan has both.
 fn any_link(rng: &mut Rng, gateway: &Gateway) -> Option<usize> {
     let kind = rng.pick(&[PLAIN, HIGH_SPEED]);
     let all = 0..gateway.links as usize;
-    let links: Vec<usize> = all
-        .filter(|link| gateway.highspeed[*link] == kind)
-        .collect();
-    match links[..] {
-        [] if gateway.links == 0 => None,
-        [] => Some(rng.below(gateway.links as u64) as usize),
-        _ => Some(rng.pick(&links)),
+    let of_kind = |link: &usize| gateway.highspeed[*link] == kind;
+    let served = |link: &usize| gateway.actives(gateway.owner[*link] as usize) != 0;
+    let mut links: Vec<usize> = all.clone().filter(of_kind).collect();
+    if links.is_empty() {
+        links = all.collect();
     }
+    if links.iter().any(served) && !rng.one_in(5) {
+        links.retain(served);
+    }
+    (!links.is_empty()).then(|| rng.pick(&links))
 }
 
 /// Mostly an ASP that is active for the link; else one that is up, down, or no
@@ -123,11 +133,11 @@ pub fn event(rng: &mut Rng, gateway: &Gateway) -> Option<Made> {
     let link = any_link(rng, gateway)?;
     let id = gateway.link_id[link];
     Some(if rng.one_in(3) {
-        Made::LinkMessage(about(rng, 11, id))
+        Made::LinkMessage(about(rng, 11, id).encode())
     } else {
         let p = any_sender(rng, gateway, link);
         // Now and then a Confirm, which no ASP sends.
         let kind = if rng.one_in(12) { 11 } else { 10 };
-        Made::Message(p, about(rng, kind, id))
+        Made::Message(p, about(rng, kind, id).encode())
     })
 }

@@ -68,9 +68,10 @@ pub fn line(rng: &mut Rng, line: &mut Vec<u8>) {
     }
     let message = match rng.below(300) {
         0 => huge(rng),
-        1..=20 => retrievals::any(rng),
-        21..=24 => message::longest(rng),
-        25..=30 => message::traffic_mode(rng),
+        1..=16 => retrievals::any(rng),
+        17..=26 => retrievals::fitting(rng),
+        27..=30 => message::longest(rng),
+        31..=36 => message::traffic_mode(rng),
         _ => any(rng),
     };
     put(rng, &message, line);
