@@ -54,7 +54,7 @@ HOST int main(int argc, char **argv) {
     static const struct {
         const char *what;
         uint32_t kind;
-        uint8_t msg[28];
+        uint8_t msg[40];
         size_t len;
     } events[] = {
         {"Up", M2UA_MESSAGE, {1, 0, 3, 1, 0, 0, 0, 8}, 8},
@@ -67,6 +67,9 @@ HOST int main(int argc, char **argv) {
         {"link up", M2UA_LINK_UP, {0}, 0},
         {"Data", M2UA_MESSAGE, {1, 0, 6, 1, 0, 0, 0, 28, 0, 1, 0, 8, 0, 0, 0, 100, 3, 0, 0, 9, 1, 2, 3, 4, 5, 0, 0, 0}, 28},
         {"Data of the link side", M2UA_LINK_MESSAGE, {1, 0, 6, 1, 0, 0, 0, 28, 0, 1, 0, 8, 0, 0, 0, 100, 3, 0, 0, 9, 1, 2, 3, 4, 5, 0, 0, 0}, 28},
+        {"Retrieval Request", M2UA_MESSAGE, {1, 0, 6, 10, 0, 0, 0, 32, 0, 1, 0, 8, 0, 0, 0, 100, 3, 6, 0, 8, 0, 0, 0, 2, 3, 7, 0, 8, 0, 0, 0, 127}, 32},
+        {"Retrieval Request that the link cannot have", M2UA_MESSAGE, {1, 0, 6, 10, 0, 0, 0, 32, 0, 1, 0, 8, 0, 0, 0, 100, 3, 6, 0, 8, 0, 0, 0, 2, 3, 7, 0, 8, 0, 0, 15, 255}, 32},
+        {"Retrieval Confirm", M2UA_LINK_MESSAGE, {1, 0, 6, 11, 0, 0, 0, 40, 0, 1, 0, 8, 0, 0, 0, 100, 3, 6, 0, 8, 0, 0, 0, 1, 3, 7, 0, 8, 0, 0, 0, 127, 3, 8, 0, 8, 0, 0, 0, 0}, 40},
         {"Release", M2UA_MESSAGE, {1, 0, 6, 4, 0, 0, 0, 16, 0, 1, 0, 8, 0, 0, 0, 100}, 16},
         {"link down", M2UA_LINK_DOWN, {0}, 0},
         {"Inactive", M2UA_MESSAGE, {1, 0, 4, 2, 0, 0, 0, 8}, 8},
@@ -78,12 +81,14 @@ HOST int main(int argc, char **argv) {
         {"Down", M2UA_MESSAGE, {1, 0, 3, 2, 0, 0, 0, 8}, 8},
         {"lost", M2UA_LOST, {0}, 0},
     };
+    const uint8_t confirm[40] = {1, 0, 6, 11, 0, 0, 0, 40, 0, 1, 0, 8, 0, 0, 0, 100, 3, 6, 0, 8, 0, 0, 0, 1, 3, 7, 0, 8, 0, 0, 0, 128, 3, 8, 0, 8, 0, 0, 0, 0};
     m2ua_gateway g = m2ua_load(file, sizeof file).gateway;
     for (size_t k = 0; k < sizeof events / sizeof *events; k++) {
         event(events[k].what, &g, events[k].kind, events[k].len ? events[k].msg : NULL, events[k].len, 0, sizeof hold, M2UA_LIST_WORDS);
     }
     event("a list of 1,543 words", &g, M2UA_LOST, NULL, 0, 101, sizeof hold, M2UA_LIST_WORDS - 1);
     event("a hold of 34,943 bytes", &g, M2UA_LOST, NULL, 0, 106, sizeof hold - 1, M2UA_LIST_WORDS);
+    event("a Retrieval Confirm that the link cannot have", &g, M2UA_LINK_MESSAGE, confirm, sizeof confirm, 102, sizeof hold, M2UA_LIST_WORDS);
     event("a kind that there is not", &g, 6, NULL, 0, 102, sizeof hold, M2UA_LIST_WORDS);
     g.asps = 0;
     event("an unsound state", &g, M2UA_LOST, NULL, 0, 105, sizeof hold, M2UA_LIST_WORDS);

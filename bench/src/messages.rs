@@ -36,6 +36,15 @@ pub fn data(id: u32) -> Vec<u8> {
     )
 }
 
+/// A Retrieval Request with a sequence number.
+pub fn retrieval(id: u32, sequence: u32) -> Vec<u8> {
+    message(
+        6,
+        10,
+        &[number(0x1, id), number(0x306, 2), number(0x307, sequence)],
+    )
+}
+
 /// An Active that names identifiers.
 pub fn active_of(ids: impl Iterator<Item = u32>) -> Vec<u8> {
     let value: Vec<u8> = ids.flat_map(u32::to_be_bytes).collect();

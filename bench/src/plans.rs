@@ -1,6 +1,6 @@
 //! Plan files.
 
-/// A plan file: ASPs (identifier, mask), ASes (mode), links (identifier, owner).
+/// A plan file: ASPs (identifier, mask), ASes (mode), links (identifier, and a word with kind and owner).
 pub fn plan(asps: &[(u32, u16)], ases: &[u32], links: &[(u32, u32)]) -> Vec<u8> {
     let at = [
         24,
@@ -20,16 +20,25 @@ pub fn plan(asps: &[(u32, u16)], ases: &[u32], links: &[(u32, u32)]) -> Vec<u8> 
     for mode in ases {
         f.extend(mode.to_be_bytes());
     }
-    for (id, owner) in links {
+    for (id, word) in links {
         f.extend(id.to_be_bytes());
-        f.extend(owner.to_be_bytes());
+        f.extend(word.to_be_bytes());
     }
     f
 }
 
+/// What makes an owner's word that of a high-speed link.
+pub const HIGH_SPEED: u32 = 1 << 16;
+
 /// Plan S (Rule 11.1).
 pub fn plan_s() -> Vec<u8> {
+    plan_s_with(0)
+}
+
+/// Plan S with link 100 of this kind.
+pub fn plan_s_with(kind: u32) -> Vec<u8> {
     let mut links: Vec<(u32, u32)> = (100..=115).map(|id| (id, 0)).collect();
+    links[0].1 |= kind;
     links.push((200, 1));
     plan(&[(7, 1), (8, 1), (9, 2)], &[1, 2], &links)
 }

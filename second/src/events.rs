@@ -267,7 +267,8 @@ impl Gateway {
         }
     }
 
-    /// The place of the link that a link-side message is about.
+    /// The place of the link that a link-side message is about, if the link has
+    /// such messages.
     #[inline]
     pub(crate) fn link_message_place(&self, message: &[u8]) -> Option<(usize, Reading)> {
         let reading = read(message);
@@ -277,7 +278,9 @@ impl Gateway {
         if !fits {
             return None;
         }
-        Some((self.find_link(reading.id)?, reading))
+        let link = self.find_link(reading.id)?;
+        self.can_have(link, reading.sequence)
+            .then_some((link, reading))
     }
 
     /// Whether a link-side message is refused, else its link and what it says.
@@ -577,7 +580,12 @@ impl Gateway {
                 }
             }
             STATE_REQUEST => orders.push(LINK_SIDE, received, id, reading.state),
-            RETRIEVAL_REQUEST => orders.push(LINK_SIDE, received, id, reading.action),
+            RETRIEVAL_REQUEST => {
+                if !self.can_have(link, reading.sequence) {
+                    return orders.error(p, BAD_VALUE);
+                }
+                orders.push(LINK_SIDE, received, id, reading.action);
+            }
             // Data Ack: nothing.
             _ => {}
         }

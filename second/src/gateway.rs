@@ -1,7 +1,7 @@
 //! The state: what the gateway knows of ASPs, ASes, links and the units that
 //! wait with an AS.
 
-use crate::wire::DATA2;
+use crate::wire::{DATA2, MAX_PLAIN_SEQUENCE};
 
 /// Most ASPs and most ASes.
 pub const MAX_ASPS: usize = 16;
@@ -25,6 +25,10 @@ pub const IDLE: u8 = 0;
 pub const STARTING: u8 = 1;
 pub const IN_SERVICE: u8 = 2;
 pub const STOPPING: u8 = 3;
+
+// Kinds of a link.
+pub const PLAIN: u8 = 0;
+pub const HIGH_SPEED: u8 = 1;
 
 /// The state with its plan. The place of a pair is 16 times the AS plus the
 /// ASP, so that the ASPs of one AS are 16 bytes in a row. The place of a unit
@@ -53,6 +57,8 @@ pub struct Gateway {
     /// The AS that owns each link.
     pub owner: [u8; 128],
     pub state: [u8; 128],
+    /// 1 for a link of 12-bit sequence numbers.
+    pub highspeed: [u8; 128],
     /// How many units each AS holds.
     pub held: [u8; 16],
     /// Tag and length field of each unit's data parameter.
@@ -144,6 +150,7 @@ impl Gateway {
         link_id: [0; 128],
         owner: [0; 128],
         state: [0; 128],
+        highspeed: [PLAIN; 128],
         held: [0; 16],
         held_tag: [0; 128],
         held_len: [0; 128],
@@ -214,6 +221,12 @@ impl Gateway {
     pub fn find_link(&self, id: u32) -> Option<usize> {
         let place = self.first_link_from(id);
         (self.link_ids().get(place) == Some(&id)).then_some(place)
+    }
+
+    /// Whether a link can have a sequence number that reads; 0 stands for none.
+    #[inline(always)]
+    pub fn can_have(&self, link: usize, sequence: u32) -> bool {
+        self.highspeed[link] == HIGH_SPEED || sequence <= MAX_PLAIN_SEQUENCE
     }
 
     /// How many units an AS holds.
@@ -338,6 +351,7 @@ impl Gateway {
         let (ids, ids_beyond) = self.link_id.split_at(links);
         let (owners, owners_beyond) = self.owner.split_at(links);
         let (states, states_beyond) = self.state.split_at(links);
+        let (kinds, kinds_beyond) = self.highspeed.split_at(links);
         let mut wrong = false;
         for (id, next) in ids.iter().zip(ids.iter().skip(1)) {
             wrong |= id >= next;
@@ -346,9 +360,11 @@ impl Gateway {
         wrong |= last as usize >= ases;
         // 0 to 3 are all numbers of two bits.
         wrong |= states.iter().fold(0, |bits, state| bits | state) > STOPPING;
+        wrong |= kinds.iter().fold(0, |bits, kind| bits | kind) > HIGH_SPEED;
         let mut beyond = ids_beyond.iter().fold(0, |bits, id| bits | id);
         beyond |= owners_beyond.iter().fold(0, |bits, owner| bits | owner) as u32;
         beyond |= states_beyond.iter().fold(0, |bits, state| bits | state) as u32;
+        beyond |= kinds_beyond.iter().fold(0, |bits, kind| bits | kind) as u32;
         !wrong & (beyond == 0)
     }
 

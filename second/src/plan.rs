@@ -1,6 +1,6 @@
 //! The plan file.
 
-use crate::gateway::{Gateway, MAX_ASES, MAX_ASPS, MAX_LINKS};
+use crate::gateway::{Gateway, HIGH_SPEED, MAX_ASES, MAX_ASPS, MAX_LINKS};
 use crate::wire::be32;
 
 /// A count, an offset or the length of the file is wrong.
@@ -101,12 +101,14 @@ fn fill(file: &[u8], gateway: &mut Gateway) -> Result<(), u32> {
     let mut last = -1;
     for (i, row) in link_rows.as_chunks::<LINK_ROW>().0.iter().enumerate() {
         let row = u64::from_be_bytes(*row);
-        let (id, owner) = ((row >> 32) as u32, row as u32);
+        let (id, kind, owner) = ((row >> 32) as u32, (row >> 16) as u16, row as u16);
         wrong |= id as i64 <= last;
-        wrong |= owner >= ases as u32;
+        wrong |= owner >= ases as u16;
+        wrong |= kind > HIGH_SPEED as u16;
         last = id as i64;
         gateway.link_id[i] = id;
         gateway.owner[i] = owner as u8;
+        gateway.highspeed[i] = kind as u8;
     }
 
     if wrong {

@@ -22,6 +22,8 @@ pub struct Reading {
     pub correlation: u32,
     pub state: u32,
     pub action: u32,
+    pub has_sequence: u32,
+    pub sequence: u32,
 }
 
 /// Known tags get a number below 32, so that sets of tags are bit masks.
@@ -154,7 +156,7 @@ static TAGS: [Tag; 32] = {
     tags = limit(tags, DISCARD, 0, 3);
     tags = limit(tags, ACTION, 1, 2);
     tags = limit(tags, RESULT, 0, 1);
-    limit(tags, SEQUENCE, 0, 127)
+    limit(tags, SEQUENCE, 0, MAX_SEQUENCE)
 };
 
 const fn limit(mut tags: [Tag; 32], tag: u16, low: u32, high: u32) -> [Tag; 32] {
@@ -328,6 +330,8 @@ impl Check {
             correlation: self.numbers[CORRELATION_ID as usize % 16] * has_correlation,
             state: self.numbers[STATE as usize % 16],
             action: self.numbers[ACTION as usize % 16],
+            has_sequence: self.seen >> slot(SEQUENCE) & 1,
+            sequence: self.numbers[SEQUENCE as usize % 16],
         }
     }
 }

@@ -4,6 +4,11 @@ pub const HEADER_LEN: usize = 8;
 /// House limit of a whole message.
 pub const MAX_MESSAGE: usize = 2048;
 
+/// The highest sequence number: those of a high-speed link have 12 bits, those
+/// of a plain one 7.
+pub const MAX_SEQUENCE: u32 = 4095;
+pub const MAX_PLAIN_SEQUENCE: u32 = 127;
+
 // Parameter tags.
 pub const INTERFACE_ID: u16 = 0x1;
 pub const TEXT_INTERFACE_ID: u16 = 0x3;

@@ -856,7 +856,14 @@ mod plain {
         if r.code != 0 || r.class != 6 || ![1, 8, 9, 11, 12, 13, 14].contains(&r.kind) {
             return None;
         }
-        find(g, r.id as u64)
+        find(g, r.id as u64).filter(|link| !too_high(g, *link, m))
+    }
+
+    /// Whether a message has a sequence number that its link cannot have.
+    fn too_high(g: &Gateway, link: usize, m: &[u8]) -> bool {
+        let most = [127, 4095][g.highspeed[link] as usize];
+        let mut numbers = Params::new(m).filter(|param| param.tag == 0x307);
+        numbers.any(|n| u32::from_be_bytes(n.value.try_into().unwrap()) > most)
     }
 
     /// What AS a holds goes out to p.
@@ -1071,6 +1078,7 @@ mod plain {
                     }
                     (1, _) => orders.push([to, 0, 0, 6]),
                     (7, _) => orders.push(there(r.state)),
+                    (10, _) if too_high(g, link, m) => orders.push([to, 0, 0, 17]),
                     (10, _) => orders.push(there(r.action)),
                     _ => {}
                 }

@@ -641,9 +641,13 @@ fn generated_batches() {
             };
             let next = gateway.event(event, &mut hold.clone(), &mut [0; 1544]);
             let count = next.count as u64;
-            let place = rng.below(count + 1 + count / 8) as u32;
-            let slots = rng.pick(&[0, 1, 2, 3, 17, 258, 386, 400]);
-            let room = rng.pick(&[0, 8, 16, 24, 52, 64, 1000, 20_000]) + rng.below(40) as usize;
+            let mut place = rng.below(count + 1 + count / 8) as u32;
+            let mut slots = rng.pick(&[0, 1, 2, 3, 17, 258, 386, 400]);
+            let mut room = rng.pick(&[0, 8, 16, 24, 52, 64, 1000, 20_000]) + rng.below(40) as usize;
+            // Many orders are rare: often all of them.
+            if count > 100 && rng.one_in(2) {
+                (place, slots, room) = (rng.below(9) as u32, 386, 40_000);
+            }
             let (mut lens, mut out) = (vec![UNSET; slots], vec![STALE; room]);
             let (mut told_lens, mut told_out) = (lens.clone(), out.clone());
             let got = gateway.orders_bytes(event, &hold, place, &mut lens, &mut out);

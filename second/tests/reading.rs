@@ -285,11 +285,27 @@ fn values() {
         (6, 14, 0x305, 0, 3),
         (6, 10, 0x306, 1, 2),
         (6, 11, 0x308, 0, 1),
-        (6, 10, 0x307, 0, 127),
+        (6, 10, 0x307, 0, 4095),
     ];
     for (class, kind, tag, low, high) in cases {
         let wrong = if tag == 0xb { 5 } else { 17 };
-        for number in [0, 1, 2, 3, 4, 5, 10, 11, 127, 128, 256, 257, u32::MAX] {
+        for number in [
+            0,
+            1,
+            2,
+            3,
+            4,
+            5,
+            10,
+            11,
+            127,
+            128,
+            256,
+            257,
+            4095,
+            4096,
+            u32::MAX,
+        ] {
             let value = word(number);
             let mut params: Vec<(u16, &[u8])> = vec![(tag, &value)];
             if class == 6 {
@@ -353,7 +369,7 @@ fn sequence_numbers() {
     }
     // Missing comes before the rules, a bad number before missing.
     assert_eq!(code(6, 11, &[ID, (0x306, &word(2)), (0x307, &word(5))]), 22);
-    assert_eq!(code(6, 10, &[ID, (0x307, &word(128))]), 17);
+    assert_eq!(code(6, 10, &[ID, (0x307, &word(4096))]), 17);
 }
 
 #[test]
@@ -405,7 +421,11 @@ fn fields() {
     let m = message(6, 7, &[ID, (0x302, &word(9))]);
     assert_eq!(read(&m).state, 9);
     let m = message(6, 10, &[ID, (0x307, &word(9)), (0x306, &word(2))]);
-    assert_eq!(read(&m).action, 2);
+    let reading = read(&m);
+    assert_eq!(
+        (reading.action, reading.has_sequence, reading.sequence),
+        (2, 1, 9)
+    );
 }
 
 /// A second reader, straight from the table, with no masks and no tricks.
@@ -495,7 +515,7 @@ fn plain_verdict(m: &[u8]) -> u32 {
             0x303 => (1..=4).contains(&v(0)),
             0x304 | 0x305 => v(0) <= 3,
             0x306 => (1..=2).contains(&v(0)),
-            0x307 => v(0) <= 127,
+            0x307 => v(0) <= 4095,
             0x308 => v(0) <= 1,
             _ => true,
         };

@@ -72,7 +72,7 @@ fn sample_plan() {
     assert_eq!(g.up, [0; 16]);
     assert_eq!(g.active, [0; 256]);
     assert_eq!(g.waiting, [0; 16]);
-    assert_eq!(g.state, [0; 128]);
+    assert_eq!((g.state, g.highspeed), ([0; 128], [0; 128]));
     assert_eq!(
         (g.held, g.held_tag, g.held_len),
         ([0; 16], [0; 128], [0; 128])
@@ -175,7 +175,8 @@ fn plainly_held(g: &Gateway) -> bool {
     true
 }
 
-/// Soundness as the rules say it (5.5 to 5.13 and 5.20), place by place.
+/// Soundness as the rules say it (5.5 to 5.13, 5.20, 5.21 and 5.24), place by
+/// place.
 fn plainly_sound(g: &Gateway) -> bool {
     let (n, m, l) = (g.asps as usize, g.ases as usize, g.links as usize);
     if !(1..=16).contains(&n) || !(1..=16).contains(&m) || l > 128 || g.spare != 0 {
@@ -222,6 +223,9 @@ fn plainly_sound(g: &Gateway) -> bool {
         if i >= l && (g.link_id[i] != 0 || g.owner[i] != 0 || g.state[i] != 0) {
             return false;
         }
+        if g.highspeed[i] > 1 || (i >= l && g.highspeed[i] != 0) {
+            return false;
+        }
         if i < l && (g.owner[i] as usize >= m || g.state[i] > 3) {
             return false;
         }
@@ -247,6 +251,7 @@ fn busy(file: &[u8]) -> Gateway {
     }
     for i in 0..g.links as usize {
         g.state[i] = (i % 4) as u8;
+        g.highspeed[i] = (i % 3 == 1) as u8;
     }
     for a in 0..g.ases as usize {
         let own = (0..g.links as usize).filter(|l| g.owner[*l] as usize == a);
@@ -318,6 +323,7 @@ fn every_byte_of_a_state() {
             check(&|g, b| g.link_id[i] = u32::MAX - b as u32);
             check(&|g, b| g.owner[i] = b);
             check(&|g, b| g.state[i] = b);
+            check(&|g, b| g.highspeed[i] = b);
             check(&|g, b| g.held_tag[i] = b as u16);
             check(&|g, b| g.held_tag[i] = 0x2fe + b as u16);
             check(&|g, b| g.held_len[i] = b as u16);
@@ -433,7 +439,8 @@ fn plain_verdict(file: &[u8]) -> u32 {
     }
     for i in 0..l as usize {
         let row = at[2] as usize + 8 * i;
-        if w(row + 4) >= m || (i > 0 && w(row - 8) >= w(row)) {
+        let (kind, owner) = (w(row + 4) / 65_536, w(row + 4) % 65_536);
+        if owner >= m || kind > 1 || (i > 0 && w(row - 8) >= w(row)) {
             return 202;
         }
     }
@@ -464,6 +471,10 @@ fn generated_plans() {
         assert_eq!(code(&bytes), plain_verdict(&bytes), "{text}");
         let g = load(&bytes).gateway;
         sizes.insert((g.asps, g.ases, g.links));
+        let rows = bytes.len().saturating_sub(8 * g.links as usize);
+        for (link, row) in bytes[rows..].chunks_exact(8).enumerate() {
+            assert_eq!(row[4..], [0, g.highspeed[link], 0, g.owner[link]]);
+        }
         Ok(())
     })
     .unwrap();

@@ -1,8 +1,8 @@
 //! Times events of the proved library against the hand-written second program, both in this one run. A time is of one call: the state goes in by value
 //! and comes out by value. Each call is first checked to give the same on both sides: refusal, count, state, the whole list of words and the whole hold.
 use bench::holds::{full_hold, held_on_plan_s};
-use bench::messages::{active_of, bytes, data, message, number, sample_m};
-use bench::plans::{full_plan, plan_s};
+use bench::messages::{active_of, bytes, data, message, number, retrieval, sample_m};
+use bench::plans::{full_plan, plan_s, plan_s_with, HIGH_SPEED};
 use bench::{proved, timing};
 use second::events::LIST_WORDS as ROOM;
 use second::{load, Gateway, Next, HOLD_BYTES};
@@ -147,9 +147,31 @@ fn with_units() {
     messages("Active in 16 ASes, 128 units", &[(full, 0, &all)], 385);
 }
 
+/// The highest sequence number: for a high-speed link it goes to the link side, for a plain one it is Error 17.
+fn with_sequence_numbers() {
+    let (up, m) = (message(3, 1, &[]), sample_m());
+    let fresh = load(&plan_s_with(HIGH_SPEED)).gateway;
+    let active = after(fresh, &[(0, &up), (0, &m)]);
+    for (name, id, order) in [
+        (
+            "Retrieval 4,095, high-speed link",
+            100,
+            [255, 0x60a, 100, 2],
+        ),
+        ("Retrieval 4,095, plain: Error 17", 101, [0, 0, 0, 17]),
+    ] {
+        let msg = retrieval(id, 4095);
+        let mut words = [0; ROOM];
+        active.message(0, &msg, &mut [0; HOLD_BYTES], &mut words);
+        assert_eq!(words[..4], order, "{name}");
+        messages(name, &[(active, 0, &msg)], 1);
+    }
+}
+
 fn main() {
     timing::heading();
     on_plan_s();
     on_full_plan();
     with_units();
+    with_sequence_numbers();
 }

@@ -1,49 +1,93 @@
 //! Generated histories of events, call by call through the proved library and through the second program: refusal, count, next state, the whole list
-//! of words and the whole hold must be the same, and a hold of another length must stay. `events SEED LINES`.
-use bench::lines::{generated, Hold, Line};
-use bench::proved::Outcome;
+//! of words and the whole hold must be the same, and a hold of another length must stay. So must all that is read of each event's message, and the
+//! state that each plan file gives, of the histories and of other generated plans. `events SEED LINES`.
+use bench::lines::{generated, generated_of, Call, Hold, Line};
+use bench::proved::{self, Outcome};
+use second::generate::Kind;
+use second::read::read;
 use second::{load, Gateway, Next};
+use std::fmt::Debug;
+
+#[derive(Default)]
+struct Tried {
+    plans: u32,
+    calls: u32,
+    kinds: [u32; 6],
+    refused: u32,
+    orders: u32,
+    failures: u32,
+}
 
 fn differs(a: &Outcome, b: &Next, x: &[u32], y: &[u32]) -> bool {
     a.refusal != b.code || a.count != b.count as usize || a.gateway != b.gateway || x != y
+}
+
+impl Tried {
+    fn expect(&mut self, same: bool, what: &impl Debug) {
+        if same {
+            return;
+        }
+        self.failures += 1;
+        if self.failures <= 5 {
+            println!("differs: {what:?}");
+        }
+    }
+
+    /// A plan file; gives its state.
+    fn plan(&mut self, file: &[u8]) -> Gateway {
+        let loaded = load(file);
+        self.expect(proved::load(file) == loaded, &("plan", file));
+        self.plans += 1;
+        loaded.gateway
+    }
+
+    /// An event, lent one hold by the proved library and the other by the second program; gives the next state.
+    fn call(&mut self, call: &Call, state: Gateway, v: &mut Hold, w: &mut Hold) -> Gateway {
+        let message = &call.message[..];
+        self.expect(proved::read(message) == read(message), &("read", message));
+        let (mut x, mut y) = (call.list(), call.list());
+        let a = call.proved(state, v.lend(call.hold), &mut x);
+        let b = call.second(state, w.lend(call.hold), &mut y);
+        let same = !differs(&a, &b, &x, &y) && v == w && w.other_untouched();
+        self.expect(same, call);
+        self.calls += 1;
+        self.kinds[call.what as usize] += 1;
+        self.refused += (b.code != 0) as u32;
+        self.orders += b.count;
+        b.gateway
+    }
 }
 
 fn main() {
     let mut args = std::env::args().skip(1);
     let seed = args.next().and_then(|w| w.parse().ok()).unwrap_or(1);
     let lines = args.next().and_then(|w| w.parse().ok()).unwrap_or(50_000);
+    let mut tried = Tried::default();
     let mut state = Gateway::ZERO;
-    let (mut tried, mut refused, mut orders, mut failures) = (0, 0, 0, 0);
-    let mut kinds = [0u32; 6];
     let (mut v, mut w) = (Hold::default(), Hold::default());
     for line in generated(seed, lines) {
-        let call = match line {
-            Line::Plan(file) => {
-                state = load(&file).gateway;
-                continue;
-            }
+        match line {
+            Line::Plan(file) => state = tried.plan(&file),
             Line::Paint(byte) => {
                 v.kept.fill(byte);
                 w.kept.fill(byte);
-                continue;
             }
-            Line::Call(call) => call,
-        };
-        let (mut x, mut y) = (call.list(), call.list());
-        let a = call.proved(state, v.lend(call.hold), &mut x);
-        let b = call.second(state, w.lend(call.hold), &mut y);
-        if differs(&a, &b, &x, &y) || v != w || !w.other_untouched() {
-            failures += 1;
-            if failures <= 5 {
-                println!("differs: {call:?}");
-            }
+            Line::Call(call) => state = tried.call(&call, state, &mut v, &mut w),
         }
-        tried += 1;
-        kinds[call.what as usize] += 1;
-        refused += (b.code != 0) as u32;
-        orders += b.count;
-        state = b.gateway;
     }
-    println!("events, seed {seed}: {tried} calls {kinds:?} (message, lost, recovery, link up, link down, link side), {refused} refused, {orders} orders, {failures} differences");
+    for line in generated_of(Kind::Plan, seed, lines / 4) {
+        if let Line::Plan(file) = line {
+            tried.plan(&file);
+        }
+    }
+    let Tried {
+        plans,
+        calls,
+        kinds,
+        refused,
+        orders,
+        failures,
+    } = tried;
+    println!("events, seed {seed}: {calls} calls {kinds:?} (message, lost, recovery, link up, link down, link side), {refused} refused, {orders} orders, {plans} plans, {failures} differences");
     std::process::exit((failures > 0) as i32);
 }

@@ -48,6 +48,10 @@ const BREAKS: &[Break] = &[
     ("an owner beyond the links", |g| g.owner[17] = 1),
     ("a link state of 4", |g| g.state[0] = 4),
     ("a link state beyond the links", |g| g.state[17] = 1),
+    ("a kind of 2", |g| g.highspeed[16] = 2),
+    ("a kind of 255", |g| g.highspeed[0] = 255),
+    ("a kind beyond the links", |g| g.highspeed[17] = 1),
+    ("a kind at the last place", |g| g.highspeed[127] = 1),
 ];
 
 /// Each leaves the state sound.
@@ -57,6 +61,8 @@ const KEEPS: &[Break] = &[
     ("a link in each state", |g| {
         g.state[..4].copy_from_slice(&[0, 1, 2, 3])
     }),
+    ("a high-speed link", |g| g.highspeed[16] = 1),
+    ("all links high-speed", |g| g.highspeed[..17].fill(1)),
     ("an ASP up and not active", |g| g.up[2] = 1),
     ("an AS without members", |g| g.member[16 + 2] = 0),
 ];
@@ -153,6 +159,9 @@ fn main() {
     let mut tried = 0u32;
     let mut busy = load(&full_plan()).gateway;
     busy.up = [1; 16];
+    for l in 0..128 {
+        busy.highspeed[l] = (l % 3 == 0) as u8;
+    }
     for a in 0..16 {
         // AS a has mode a % 3 + 1: in override one is active, else several
         for q in 0..if busy.mode[a] == 1 { 1 } else { a } {

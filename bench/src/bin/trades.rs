@@ -118,7 +118,7 @@ fn untouched(call: &Call, old: &World, new: &World) -> bool {
     let plan = |g: &Gateway| {
         (
             (g.asps, g.ases, g.links, g.spare, g.asp_id),
-            (g.member, g.mode, g.link_id, g.owner),
+            (g.member, g.mode, g.link_id, g.owner, g.highspeed),
         )
     };
     let ases = (0..16).filter(|a| outside(*a));

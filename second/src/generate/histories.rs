@@ -5,9 +5,9 @@ use super::hex::put_bytes;
 use super::message::{self, Message, Piece, MESSAGES};
 use super::plans::{self, Plan};
 use super::rng::Rng;
-use super::{malformed, orders, reading, scenes};
+use super::{malformed, orders, reading, retrievals, scenes};
 use crate::events::{bits, Event};
-use crate::gateway::{Each, Gateway, HOLD_BYTES, IDLE, IN_SERVICE, STARTING};
+use crate::gateway::{Each, Gateway, HOLD_BYTES, IDLE, IN_SERVICE, STARTING, STOPPING};
 use crate::script::{put_number, Session};
 use crate::wire::*;
 use std::collections::VecDeque;
@@ -177,7 +177,7 @@ impl History {
         let full = links > 0 && (self.first || rng.one_in(2));
         if full {
             for (i, link) in plan.links.iter_mut().enumerate() {
-                link.1 = i as u32 % 16;
+                link.owner = i as u16 % 16;
             }
         }
         let lines = scenes::storm(rng, &plan, full, self.bytes);
@@ -312,6 +312,11 @@ impl Made {
                 return made;
             }
         }
+        if rng.one_in(6) {
+            if let Some(made) = retrievals::event(rng, gateway) {
+                return made;
+            }
+        }
         match rng.below(100) {
             0 | 1 => Made::Lost(index(rng, gateway.asps)),
             2..=7 => Made::Recovery(waiting_server(rng, gateway)),
@@ -347,6 +352,8 @@ impl Made {
                 let name = Piece::new(TEXT_INTERFACE_ID, rng.bytes(6));
                 Made::Message(p, Message::new(4, 1, vec![name]).encode())
             }
+            53..=56 => Made::Message(p, aimed(rng, gateway, p, 6, 4).encode()),
+            57..=60 => Made::LinkDown(link_in(rng, gateway, STOPPING)),
             _ => Made::any(rng, gateway),
         };
         if let Made::Message(_, message) | Made::LinkMessage(message) = &mut made {
@@ -392,7 +399,7 @@ impl Made {
 }
 
 /// An index below the count, seldom one beyond.
-fn index(rng: &mut Rng, count: u8) -> u32 {
+pub fn index(rng: &mut Rng, count: u8) -> u32 {
     if count == 0 || rng.one_in(80) {
         return rng.pick(&[count as u32, count as u32 + 1, 16, 128, 255, 256, u32::MAX]);
     }

@@ -1,5 +1,6 @@
 //! Messages to be read: valid ones, and the many ways to damage them.
 
+use super::retrievals;
 use super::rng::Rng;
 use crate::wire::*;
 
@@ -117,7 +118,7 @@ pub fn limits(tag: u16) -> Option<(u32, u32)> {
         CONGESTION | DISCARD => (0, 3),
         ACTION => (1, 2),
         RESULT => (0, 1),
-        SEQUENCE => (0, 127),
+        SEQUENCE => (0, MAX_SEQUENCE),
         _ => return None,
     })
 }
@@ -136,6 +137,7 @@ fn size(rng: &mut Rng, low: usize, high: usize) -> usize {
 pub fn good_piece(rng: &mut Rng, tag: u16) -> Piece {
     if let Some((low, high)) = limits(tag) {
         let number = match rng.below(4) {
+            _ if tag == SEQUENCE => retrievals::good_number(rng),
             0 => low,
             1 => high,
             _ if high == u32::MAX => rng.word(),
@@ -270,28 +272,6 @@ fn fit_sequence(rng: &mut Rng, kind: u8, pieces: &mut Vec<Piece>) {
     if wanted {
         pieces.push(good_piece(rng, SEQUENCE));
     }
-}
-
-/// 6.10 and 6.11 with every combination of action, result and sequence
-/// number, at and beyond their limits.
-pub fn retrieval(rng: &mut Rng) -> Message {
-    let kind = rng.pick(&[10, 11]);
-    let mut pieces = vec![Piece::word(ACTION, rng.pick(&[1, 2, 1, 2, 1, 2, 0, 3]))];
-    if kind == 11 || rng.one_in(20) {
-        pieces.push(Piece::word(RESULT, rng.pick(&[0, 1, 0, 1, 0, 1, 2])));
-    }
-    if rng.one_in(2) {
-        pieces.push(Piece::word(SEQUENCE, rng.pick(&[0, 5, 127, 127, 128])));
-    }
-    if rng.one_in(12) {
-        let at = rng.below(pieces.len() as u64) as usize;
-        pieces.remove(at);
-    }
-    rng.shuffle(&mut pieces);
-    if !rng.one_in(20) {
-        pieces.insert(0, Piece::word(INTERFACE_ID, rng.word()));
-    }
-    Message::new(6, kind, pieces)
 }
 
 /// One fault, or something that looks like one, among the parameters.
@@ -573,9 +553,10 @@ pub fn any(rng: &mut Rng) -> Vec<u8> {
             return bytes;
         }
         24..=83 => return noise(rng),
-        84..=143 => return retrieval(rng).encode(),
-        144..=153 => return longest(rng).encode(),
-        154..=163 => return traffic_mode(rng).encode(),
+        84..=133 => return retrievals::any(rng).encode(),
+        134..=163 => return retrievals::fitting(rng).encode(),
+        164..=173 => return longest(rng).encode(),
+        174..=183 => return traffic_mode(rng).encode(),
         _ => {}
     }
     let mut message = valid(rng, class, kind);

@@ -8,6 +8,7 @@ mod message;
 mod orders;
 mod plans;
 mod reading;
+mod retrievals;
 mod rng;
 mod scenes;
 mod writing;

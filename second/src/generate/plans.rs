@@ -10,8 +10,15 @@ pub struct Plan {
     /// Identifier, mask of ASes, spare.
     pub asps: Vec<(u32, u16, u16)>,
     pub modes: Vec<u32>,
-    /// Identifier, owner.
-    pub links: Vec<(u32, u32)>,
+    pub links: Vec<Link>,
+}
+
+/// A link's row.
+#[derive(Clone)]
+pub struct Link {
+    pub id: u32,
+    pub kind: u16,
+    pub owner: u16,
 }
 
 impl Plan {
@@ -35,9 +42,10 @@ impl Plan {
         for mode in &self.modes {
             out.extend_from_slice(&mode.to_be_bytes());
         }
-        for (id, owner) in &self.links {
-            out.extend_from_slice(&id.to_be_bytes());
-            out.extend_from_slice(&owner.to_be_bytes());
+        for link in &self.links {
+            out.extend_from_slice(&link.id.to_be_bytes());
+            out.extend_from_slice(&link.kind.to_be_bytes());
+            out.extend_from_slice(&link.owner.to_be_bytes());
         }
         out
     }
@@ -81,22 +89,29 @@ pub fn valid(rng: &mut Rng, asps: usize, ases: usize, links: usize) -> Plan {
 }
 
 /// Links with identifiers ascending: mostly dense, so that ranges hit them,
-/// with gaps.
-fn valid_links(rng: &mut Rng, ases: usize, count: usize) -> Vec<(u32, u32)> {
+/// with gaps. About a third are high-speed.
+fn valid_links(rng: &mut Rng, ases: usize, count: usize) -> Vec<Link> {
     let mut id = match rng.below(8) {
         0 => 0,
         1 => u32::MAX - 20_000,
         2 => 0x7fff_fff0,
         _ => rng.range(1, 200) as u32,
     };
-    let single = rng.one_in(8).then(|| rng.below(ases as u64) as u32);
-    let mut owner = rng.below(ases as u64) as u32;
+    let single = rng.one_in(8).then(|| rng.below(ases as u64) as u16);
+    let mut owner = rng.below(ases as u64) as u16;
+    // Now and then all are of one kind.
+    let all = rng.one_in(6).then(|| rng.below(2) as u16);
     let mut links = Vec::new();
     for _ in 0..count {
         if rng.one_in(3) {
-            owner = rng.below(ases as u64) as u32;
+            owner = rng.below(ases as u64) as u16;
         }
-        links.push((id, single.unwrap_or(owner)));
+        let kind = rng.one_in(3) as u16;
+        links.push(Link {
+            id,
+            kind: all.unwrap_or(kind),
+            owner: single.unwrap_or(owner),
+        });
         id += match rng.below(12) {
             0 => rng.range(2, 5) as u32,
             1 if rng.one_in(4) => rng.range(6, 150) as u32,
@@ -106,7 +121,7 @@ fn valid_links(rng: &mut Rng, ases: usize, count: usize) -> Vec<(u32, u32)> {
     // The last one may be the highest there is.
     if let Some(last) = links.last_mut() {
         if rng.one_in(20) {
-            last.0 = u32::MAX;
+            last.id = u32::MAX;
         }
     }
     links
@@ -133,13 +148,21 @@ fn any_size(rng: &mut Rng) -> (usize, usize, usize) {
     (side(rng), side(rng), links)
 }
 
+/// Kinds of a link, two good ones and others.
+const KINDS: [u16; 12] = [0, 1, 0, 1, 2, 3, 4, 255, 256, 257, 0x8000, 0xffff];
+
+/// An owner about the last AS, or far beyond it.
+fn owner_near(rng: &mut Rng, ases: u16) -> u16 {
+    rng.pick(&[ases, ases - 1, ases + 1, 16, 255, 256, u16::MAX])
+}
+
 /// A row made wrong, or nearly.
 fn damage_row(rng: &mut Rng, plan: &mut Plan) {
     let ases = plan.modes.len() as u32;
     let p = rng.below(plan.asps.len() as u64) as usize;
     let a = rng.below(ases as u64) as usize;
     let links = plan.links.len();
-    match rng.below(10) {
+    match rng.below(13) {
         0 => plan.modes[a] = rng.pick(&[0, 4, 255, 256, 257, 0x0100_0001, u32::MAX]),
         1 => plan.modes[a] = rng.pick(&[1, 3]),
         2 => plan.asps[p].1 |= rng.pick(&[1u32 << ases.min(15), 1 << 15]) as u16,
@@ -150,9 +173,9 @@ fn damage_row(rng: &mut Rng, plan: &mut Plan) {
         }
         5 if links > 1 => {
             let at = rng.range(1, links as u64 - 1) as usize;
-            plan.links[at].0 = match rng.below(3) {
-                0 => plan.links[at - 1].0,
-                1 => plan.links[at - 1].0.wrapping_sub(1),
+            plan.links[at].id = match rng.below(3) {
+                0 => plan.links[at - 1].id,
+                1 => plan.links[at - 1].id.wrapping_sub(1),
                 _ => rng.word(),
             };
         }
@@ -162,7 +185,17 @@ fn damage_row(rng: &mut Rng, plan: &mut Plan) {
         }
         7 | 8 if links > 0 => {
             let at = rng.below(links as u64) as usize;
-            plan.links[at].1 = rng.pick(&[ases, ases - 1, ases + 1, 16, 255, 256, u32::MAX]);
+            plan.links[at].owner = owner_near(rng, ases as u16);
+        }
+        9..=11 if links > 0 => {
+            let at = rng.below(links as u64) as usize;
+            plan.links[at].kind = match rng.below(6) {
+                0 => rng.next64() as u16,
+                _ => rng.pick(&KINDS),
+            };
+            if rng.one_in(6) {
+                plan.links[at].owner = owner_near(rng, ases as u16);
+            }
         }
         _ => plan.asps[p].1 = 0,
     }

@@ -268,8 +268,8 @@ pub fn storm(rng: &mut Rng, plan: &Plan, full: bool, bytes: bool) -> Lines {
 fn fill_up(rng: &mut Rng, plan: &Plan) -> Lines {
     let mut ids = Vec::new();
     for a in 0..16 {
-        let own = plan.links.iter().filter(|link| link.1 == a);
-        let own: Vec<u32> = own.map(|link| link.0).collect();
+        let own = plan.links.iter().filter(|link| link.owner == a);
+        let own: Vec<u32> = own.map(|link| link.id).collect();
         let extra = rng.one_in(4) as usize;
         ids.extend((0..MAX_HELD + extra).map(|_| rng.pick(&own)));
     }

@@ -2,7 +2,7 @@
 
 use super::message::{self, Message, Piece};
 use super::rng::Rng;
-use super::{malformed, reading};
+use super::{malformed, reading, retrievals};
 use crate::script::{put_hex, put_number};
 use crate::wire::*;
 
@@ -68,9 +68,10 @@ pub fn line(rng: &mut Rng, line: &mut Vec<u8>) {
     }
     let message = match rng.below(300) {
         0 => huge(rng),
-        1..=20 => message::retrieval(rng),
-        21..=24 => message::longest(rng),
-        25..=30 => message::traffic_mode(rng),
+        1..=16 => retrievals::any(rng),
+        17..=26 => retrievals::fitting(rng),
+        27..=30 => message::longest(rng),
+        31..=36 => message::traffic_mode(rng),
         _ => any(rng),
     };
     put(rng, &message, line);
