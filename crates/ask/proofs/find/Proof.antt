@@ -10,8 +10,8 @@ use Rattle.ask.proofs.find.Tie as tie
 returns-9 : tie.Need-returns-9
 returns-9 c =
     let e = c .before .place-of .ensures in
-    let k = c .named9 .ensures .0 ∙ ap (λ (l : ℕ). ltb l (c .before .before .before .before .before .args .links)) e ∙ place-there _ _ _ in
-    rw (c .before .before .before .ask9 .given .1) (k, λ h. c .named9 .ensures .1 ∙ e ∙ place-is _ _ _ (sym k ∙ h))
+    let k = c .named9 .ensures .0 ∙ ap (λ (l : ℕ). ltb l (c .before .before .before .before .before .args .links)) e ∙ place-there _ _ _ _ in
+    rw (c .before .before .before .ask9 .given .1) (k, λ h. c .named9 .ensures .1 ∙ e ∙ place-is _ _ _ _ (sym k ∙ h))
 
 pub find-spec : {M : Type 1} → statement M
 find-spec =

@@ -32,11 +32,20 @@ use Rattle.events.proofs.m2ua_run.Tie as tie
 abbrev start : tie.After-asked → tie.Start
 start c = c .before .before .before .before
 
+abbrev to-asked-from : tie.After-sound-of → tie.After-asked
+to-asked-from c = c .before .before .before .before .before .before .before .before .before .before .before .before .before .before .before .before .before .before
+
+abbrev to-sound : tie.After-refused → tie.After-sound-of
+to-sound c = c .before .before .before .before
+
 abbrev to-asked : tie.After-refused → tie.After-asked
-to-asked c = c .before .before .before .before .before .before .before .before .before .before .before .before .before .before .before .before .before .before .before .before
+to-asked c = to-asked-from (to-sound c)
+
+abbrev to-wide : tie.After-decided → tie.After-wide
+to-wide c = c .before .before .before .before .before .before .before .before .before .before .before .before .before
 
 abbrev to-refused : tie.After-decided → tie.After-refused
-to-refused c = c .before .before .before .before .before .before .before .before .before .before .before .before .before .before .before
+to-refused c = to-wide c .before .before .before
 
 abbrev to-settle : tie.After-first → tie.After-settle
 to-settle c = c .before .before
@@ -70,7 +79,7 @@ state-long c = search needs
 refusal-is : (c : tie.After-refused) → c .refused .result .code ≡ refusal (to-start c .args .g) (event (to-start c))
 refusal-is c =
     c .refused .ensures .0
-    ∙ (λ j. refusalOf (c .before .before .before .sound-of .ensures j) (to-asked c .asked .ensures .known (to-start c .args .g) j) (to-start c .args .size) (length (to-start c .args .words .now)))
+    ∙ (λ j. refusalOf (to-sound c .sound-of .ensures j) (to-asked c .asked .ensures .known (to-start c .args .g) j) (to-start c .args .size) (length (to-start c .args .words .now)))
 
 -- an event that is not refused
 whole : (c : tie.After-refused) → c .refused .result .code ≡ 0 → Accepted (isSound (to-start c .args .g)) (inPlan (to-start c .args .g) (happens (to-start c))) (to-start c .args .size) (length (to-start c .args .words .now))
@@ -78,8 +87,8 @@ whole c h = accepted _ _ _ _ (sym (refusal-is c) ∙ h)
 
 refused-requires : tie.Need-refused-requires
 refused-requires c κs h =
-    let g = start (c .before .before .before .before .before .before .before .before .before .before .before .before .before .before .before .before .before .before .before) .args .g in
-    let t = table g (sym (c .before .before .sound-of .ensures) ∙ h) in
+    let s = c .before .before .before in
+    let t = table (start (to-asked-from s) .args .g) (sym (s .sound-of .ensures) ∙ h) in
     (t .few, t .order)
 
 four : {n : ℕ} → n ≤ 4 → n < 5
@@ -91,7 +100,7 @@ module _ (c : tie.After-decided) where
   first-one = to-start (to-refused c)
 
   not-refused : to-refused c .refused .result .code ≡ 0
-  not-refused = c .before .before .before .before .before .before .before .before .before .before .before .before .before .if1 .left
+  not-refused = to-wide c .before .if1 .left
 
   accepted-at : Accepted (isSound (first-one .args .g)) (inPlan (first-one .args .g) (happens first-one)) (first-one .args .size) (length (first-one .args .words .now))
   accepted-at = whole (to-refused c) not-refused
@@ -99,9 +108,9 @@ module _ (c : tie.After-decided) where
   decides : Decides (c .decided .result) (effectOf (first-one .args .g) (happens first-one))
   decides =
       let g = first-one .args .g in
-      let w = c .before .before .before .before .before .before .before .before .before .before .before .before .wide .ensures in
+      let w = to-wide c .wide .ensures in
       decided
-      (c .decided .ensures .on g (record { links-is = sym w; aspid-is = refl; up-is = refl; member-is = refl; active-is = refl; mode-is = refl; waiting-is = refl; count-is = refl; iid-is = refl; owner-is = refl; state-is = refl }))
+      (c .decided .ensures .on g (record { links-is = sym w; aspid-is = refl; up-is = refl; member-is = refl; active-is = refl; mode-is = refl; waiting-is = refl; count-is = refl; iid-is = refl; owner-is = refl; state-is = refl; highspeed-is = refl }))
       (to-asked (to-refused c) .asked .ensures .effect g)
 
   takes : 4 < c .decided .result .what → Taken (c .decided .result) (numberAt (first-one .args .g .held .count) (c .decided .result .link)) (first-one .args .kind) (first-one .args .i) (first-one .args .msg .now)
@@ -109,9 +118,10 @@ module _ (c : tie.After-decided) where
 
 decided-requires : tie.Need-decided-requires
 decided-requires c κs =
-    let r = c .before .before .before .before .before .before .before .before .before .before .before .before .before .before in
-    let z = c .before .before .before .before .before .before .before .before .before .before .before .before .if1 .left in
-    let w = c .before .before .before .before .before .before .before .before .before .before .before .wide .ensures in
+    let e = c .before .before .before .before .before .before .before .before .before .before .before .before in
+    let r = e .before .before .before in
+    let z = e .before .if1 .left in
+    let w = e .wide .ensures in
     let g = to-start r .args .g in
     let a = to-asked r .asked .ensures in
     let t = whole r z in
