@@ -8,7 +8,8 @@ use crate::wire::*;
 
 /// The lent list is too short.
 pub const SHORT_LIST: u32 = 101;
-/// An index beyond the plan, or a link-side message that is none.
+/// An index beyond the plan, or a link-side message that is none or that its
+/// link cannot have.
 pub const BAD_EVENT: u32 = 102;
 /// The state is not sound.
 pub const NOT_SOUND: u32 = 105;
@@ -267,8 +268,8 @@ impl Gateway {
         }
     }
 
-    /// The place of the link that a link-side message is about, if the link has
-    /// such messages.
+    /// The place of the link that a link-side message is about; none for one
+    /// that the link side does not send, or that link cannot have.
     #[inline]
     pub(crate) fn link_message_place(&self, message: &[u8]) -> Option<(usize, Reading)> {
         let reading = read(message);

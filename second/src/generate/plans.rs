@@ -149,7 +149,7 @@ fn any_size(rng: &mut Rng) -> (usize, usize, usize) {
 }
 
 /// Kinds of a link, two good ones and others.
-const KINDS: [u16; 12] = [0, 1, 0, 1, 2, 3, 4, 255, 256, 257, 0x8000, 0xffff];
+const KINDS: [u16; 12] = [0, 1, 1, 2, 2, 2, 3, 255, 256, 257, 0x8000, 0xffff];
 
 /// An owner about the last AS, or far beyond it.
 fn owner_near(rng: &mut Rng, ases: u16) -> u16 {

@@ -26,8 +26,8 @@ const BORDERS: [u32; 14] = [
 ];
 const READABLE: usize = 10;
 
-/// A sequence number that reads, as often below as above the limit of a plain
-/// link.
+/// A sequence number that reads, about as often below as above the limit of a
+/// plain link.
 pub fn good_number(rng: &mut Rng) -> u32 {
     match rng.below(6) {
         0 => rng.range(0, MAX_PLAIN_SEQUENCE as u64) as u32,
