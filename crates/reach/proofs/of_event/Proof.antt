@@ -13,9 +13,9 @@ use Rattle.reach.specs.Inner.Rows.{row-is, reached-no, reached-yes}
 use Rattle.reach.proofs.of_event.Statement.{statement}
 use Rattle.reach.proofs.of_event.Tie as tie
 
--- the way back: a further column that is lent makes it one longer
+-- the way back
 abbrev to-asked : tie.After-refused → tie.After-asked
-to-asked c = c .before .before .before .before .before .before .before .before .before .before .before .before .before .before .before .before .before .before .before .before
+to-asked c = c .before .before .before .before .before
 
 abbrev start : tie.After-asked → tie.Start
 start c = c .before .before
@@ -27,14 +27,14 @@ happens c = eventOf (happened (start c .args .kind) (start c .args .i) (start c 
 refusal-is : (c : tie.After-refused) → c .refused .result .code ≡ refusal (start (to-asked c) .args .t1) (happens (to-asked c))
 refusal-is c =
     c .refused .ensures .0
-    ∙ (λ j. refusalOf (c .before .before .before .sound-of .ensures j) (to-asked c .asked .ensures .known (start (to-asked c) .args .t1) j) (start (to-asked c) .args .hold) (start (to-asked c) .args .room))
+    ∙ (λ j. refusalOf (c .before .before .before .before .is-sound .ensures j) (to-asked c .asked .ensures .known (start (to-asked c) .args .t1) j) (start (to-asked c) .args .hold) (start (to-asked c) .args .room))
 
 taken : (c : tie.After-refused) → c .refused .result .code ≡ 0 → Accepted (isSound (start (to-asked c) .args .t1)) (inPlan (start (to-asked c) .args .t1) (happens (to-asked c) .kind)) (start (to-asked c) .args .hold) (start (to-asked c) .args .room)
 taken c h = accepted _ _ _ _ (sym (refusal-is c) ∙ h)
 
 refused-requires : tie.Need-refused-requires
 refused-requires c κs h =
-    let t = table (start (c .before .before .before .before .before .before .before .before .before .before .before .before .before .before .before .before .before .before .before) .args .t1) (sym (c .before .before .sound-of .ensures) ∙ h) in
+    let t = table (start (c .before .before .before .before) .args .t1) (sym (c .before .before .before .is-sound .ensures) ∙ h) in
     (t .few, t .order)
 
 row-of-requires : tie.Need-row-of-requires
