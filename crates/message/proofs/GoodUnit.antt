@@ -10,7 +10,7 @@ use lib.Dec.{ltb, eqb}
 use borrow.Author.Tests.{ltb-false, eqb-true, eq-eqb, not-false}
 use Rattle.laws.specs.Inner.Below.{both-true}
 use Rattle.wire.specs.Walk.{Par, padded, walk}
-use Rattle.parameter.specs.Table.{Usage, table, among, rowIn, entriesIn, key, usage}
+use Rattle.parameter.specs.Table.{Usage, forbidden, table, among, rowIn, entriesIn, key, usage}
 use Rattle.parameter.specs.Value.{bytesOf, limitsOf, plainCode, bodyCode}
 use Rattle.parameter.specs.Check.{allowedCode, parCode}
 use Rattle.parameter.proofs.Slots.{near}
@@ -36,12 +36,17 @@ place-behind t at (p ∷ ps) h = let n = at + padded (4 + length (p .body)) in g
     go true e d ih = omega arith
     go false e d ih = ih e
 
--- a tag u that counts as t, and a value v of it that was checked
-record Passed (i t u : ℕ) (v : List ℕ) : Type 0 where
-  same-key : key u ≡ key t
-  no-fault : bodyCode (usage i u) u v ≡ 0
+-- a tag u that counts as t, which the row may have, and a value v of it that was checked
+pub record Passed (i t u : ℕ) (v : List ℕ) : Type 0 where
+  pub same-key : key u ≡ key t
+  pub allowed : eqb u 0x3 ≡ false → usage i u ≡ forbidden → ⊥
+  pub no-fault : bodyCode (usage i u) u v ≡ 0
 
-first-passed : (i t : ℕ) (before ps : List Par) → inTurn i before ps ≡ 0 → has t ps ≡ true → Passed i t (tagIn t ps) (bodyIn t ps)
+may-stand : (u₁ u : Usage) (first again : Bool) (t : ℕ) → allowedCode u₁ u first again t ≡ 0 → eqb t 0x3 ≡ false → u ≡ forbidden → ⊥
+unfolding allowedCode
+may-stand u₁ u first again t e n f = let z : _≡_ {A = ℕ} 19 0 = rw (n, f) at e in omega (arith, z)
+
+pub first-passed : (i t : ℕ) (before ps : List Par) → inTurn i before ps ≡ 0 → has t ps ≡ true → Passed i t (tagIn t ps) (bodyIn t ps)
 unfolding inTurn has tagIn bodyIn parCode
 first-passed i t before [] e h = absurd (false≢true h)
 first-passed i t before (p ∷ ps) e h =
@@ -49,12 +54,12 @@ first-passed i t before (p ∷ ps) e h =
     let u = usage i (p .tag) in
     let o = or-none (parCode u₁ u (isNone before) (has (p .tag) before) (p .tag) (p .body)) _ e in
     let b = or-none (allowedCode u₁ u (isNone before) (has (p .tag) before) (p .tag)) _ (o .0) in
-    go (eqb (key (p .tag)) (key t)) refl h (b .1) (first-passed i t (before ++ (p ∷ [])) ps (o .1))
+    go (eqb (key (p .tag)) (key t)) refl h (may-stand u₁ u (isNone before) (has (p .tag) before) (p .tag) (b .0)) (b .1) (first-passed i t (before ++ (p ∷ [])) ps (o .1))
   where
-    go : (b : Bool) → eqb (key (p .tag)) (key t) ≡ b → (b || has t ps) ≡ true → bodyCode (usage i (p .tag)) (p .tag) (p .body) ≡ 0
+    go : (b : Bool) → eqb (key (p .tag)) (key t) ≡ b → (b || has t ps) ≡ true → (eqb (p .tag) 0x3 ≡ false → usage i (p .tag) ≡ forbidden → ⊥) → bodyCode (usage i (p .tag)) (p .tag) (p .body) ≡ 0
         → (has t ps ≡ true → Passed i t (tagIn t ps) (bodyIn t ps)) → Passed i t (cond b (p .tag) (tagIn t ps)) (cond b (p .body) (bodyIn t ps))
-    go true q a z ih = record { same-key = eqb-true (key (p .tag)) (key t) q; no-fault = z }
-    go false q a z ih = ih a
+    go true q a m z ih = record { same-key = eqb-true (key (p .tag)) (key t) q; allowed = m; no-fault = z }
+    go false q a m z ih = ih a
 
 -- ---- protocol data
 

@@ -6,3 +6,4 @@ pub mod Places
 pub mod Accepted
 pub mod GoodUnit
 pub mod NoParameters
+pub mod Sequence

@@ -8,7 +8,8 @@ use lib.ListN.{length, getD, take, drop}
 use lib.Dec.{eqb}
 use Rattle.wire.specs.Walk.{Par, padded, walk}
 use Rattle.parameter.specs.Table.{key}
-use Rattle.message.specs.Verdict.{has, number, verdict}
+use Rattle.parameter.specs.Value.{limitsOf}
+use Rattle.message.specs.Verdict.{has, number, isRetrievalRequest, isRetrievalConfirm, verdict}
 use Rattle.message.specs.declared.Reading.{Reading}
 use Rattle.message.specs.declared.DataAt.{DataAt}
 
@@ -63,6 +64,15 @@ outcome n s = cond (eqb n 0) (meaning (getD s 2 0) (getD s 3 0) (walk s 8 .pars)
 -- what reading a message gives
 unfoldable pub readingOf : List ℕ → Reading
 readingOf s = outcome (verdict s) s
+
+-- The sequence number that reading gives: only a Retrieval Request and a Retrieval Confirm have one, within its limits (Rules 2.16, 2.17); where none is given it is 0.
+pub record SequenceNumber (r : Reading) : Type 0 where
+  pub only : r .sequenced ≡ 1 → (isRetrievalRequest (r .class) (r .msgtype) || isRetrievalConfirm (r .class) (r .msgtype)) ≡ true
+  pub most : r .sequence ≤ limitsOf 0x307 .high
+  pub none : r .sequenced ≡ 0 → r .sequence ≡ 0
+
+abbrev pub SequenceNumbers : Type 0
+SequenceNumbers = (s : List ℕ) → SequenceNumber (readingOf s)
 
 -- the value of the first parameter of a tag; nothing where there is none
 unfoldable pub bodyIn : ℕ → List Par → List ℕ
