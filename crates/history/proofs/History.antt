@@ -19,20 +19,21 @@ use Rattle.message.specs.Meaning.{readingOf}
 use Rattle.gateway.specs.Sound.{isSound}
 use Rattle.gateway.specs.declared.Gateway.{Gateway}
 use Rattle.action.specs.Types.{aspUp}
-use Rattle.rules.specs.Event.{Event, message}
+use Rattle.rules.specs.Event.{EventKind, Event, message}
 use Rattle.rules.specs.Identifiers.{isMember}
 use Rattle.rules.specs.Effect.{holdBytes}
 use Rattle.rules.specs.Rules.{isError, classTypeOf, inPlan, refusal}
-use Rattle.rules.specs.Reach.{reach, messageReach, readReach}
+use Rattle.rules.specs.Reach.{reach, messageReach, readReach, fromController}
 use Rattle.rules.specs.Entry.{actions, next, nextHold, MeetsRules}
 use Rattle.rules.specs.Calls.{Board, nextBoard, Call, events, boardAfter, Calls, none, call, answer, rulesAnswer}
 use Rattle.rules.specs.Inner.Accepted.{accepted}
 use Rattle.rules.specs.Inner.Calls.{made, lend-same, made-meets, made-hold}
-use Rattle.rules.specs.Samples.{g₁, takes, comesUp}
-use Rattle.rules.proofs.Samples.{reach-apart}
+use Rattle.rules.specs.Samples.{event, g₁, g₅, takes, arrives, comesUp}
+use Rattle.rules.specs.Inner.Samples.{ReachApart}
+use Rattle.rules.proofs.Samples.{reach-apart, held-apart}
 use Rattle.history.specs.Trade.{swaps, outs, last}
 use Rattle.history.specs.Inner.Trade.{traded-outs, traded-last}
-use Rattle.history.specs.History.{reaches, Independent, Untouched, UnitsStay, Outside, Statement, isUp, ReachOfUp, Rooms, blanks, Made, sampleBoard, TradesExist}
+use Rattle.history.specs.History.{reaches, Independent, Untouched, UnitsStay, Outside, Statement, isUp, ReachOfUp, Rooms, blanks, Made, sampleBoard, TradeExists, TradesExist}
 use Rattle.history.proofs.Units.{Column, counts, tags, lengths, marks, ids, correlations, column, placeOf, as-place}
 use Rattle.history.proofs.Frame.{Plan, planOf, plan, wait, act, line, up, unit, live, not-mine, not-reached, reach-next}
 use Rattle.history.proofs.Boards.{gate, byte, hold-dead, untouched, free-commute}
@@ -161,31 +162,36 @@ some-rooms (e ∷ h) = (length-replicate (e .room) 0, some-rooms h)
 
 -- ---- and trades exist
 
--- ASP 0 takes AS 0 over, ASP 2 comes up in AS 1
-apart-events : Independent (sampleBoard g₁) takes comesUp
-unfolding takes comesUp reach
-apart-events =
-    record { controllers = λ q x y. let z : ⊥ = omega (arith, eqb-true 0 q x, eqb-true 2 q y) in absurd z; servers = go }
+-- events that reach different ASes, and are not of one controller
+apart-events : (g : Gateway) (e f : Event) → ReachApart g e f → ((q : ℕ) → fromController (e .kind) q ≡ true → fromController (f .kind) q ≡ true → ⊥) → Independent (sampleBoard g) e f
+unfolding reach
+apart-events g e f r n = record { controllers = n; servers = go }
   where
-    go : (a : ℕ) → reaches g₁ takes a ≡ true → reaches g₁ comesUp a ≡ true → ⊥
-    go zero x y = false≢true (sym (reach-apart .second .0) ∙ y)
-    go (suc zero) x y = false≢true (sym (reach-apart .first .1) ∙ x)
+    go : (a : ℕ) → reaches g e a ≡ true → reaches g f a ≡ true → ⊥
+    go zero x y = false≢true (sym (r .second .0) ∙ y)
+    go (suc zero) x y = false≢true (sym (r .first .1) ∙ x)
     go (suc (suc a)) x y =
-        let w = ltb-true (suc (suc a)) (g₁ .ases) (and-left _ _ (and-right (eqb (refusal g₁ takes) 0) _ x)) in
-        let z : ⊥ = omega (arith, w, reach-apart .ases) in
+        let w = ltb-true (suc (suc a)) (g .ases) (and-left _ _ (and-right (eqb (refusal g e) 0) _ x)) in
+        let z : ⊥ = omega (arith, w, r .ases) in
         absurd z
 
-pub trades-exist : TradesExist
-unfolding takes comesUp
-trades-exist =
+trade-exists : (g : Gateway) (k m : EventKind) → (let e : Event = event k in let f : Event = event m in ReachApart g e f → Independent (sampleBoard g) e f → TradeExists g e f)
+trade-exists g k m r i =
     record {
-      calls = some-calls (sampleBoard g₁) (length-replicate {A = ℕ} holdBytes 0) (takes ∷ comesUp ∷ []) _ (some-rooms (takes ∷ comesUp ∷ []));
-      traded = some-calls (sampleBoard g₁) (length-replicate {A = ℕ} holdBytes 0) (comesUp ∷ takes ∷ []) _ (some-rooms (comesUp ∷ takes ∷ []));
-      trades = (apart-events, tt);
+      calls = some-calls (sampleBoard g) (length-replicate {A = ℕ} holdBytes 0) (event k ∷ event m ∷ []) _ (some-rooms (event k ∷ event m ∷ []));
+      traded = some-calls (sampleBoard g) (length-replicate {A = ℕ} holdBytes 0) (event m ∷ event k ∷ []) _ (some-rooms (event m ∷ event k ∷ []));
+      trades = (i, tt);
       events-trade = refl;
-      first = reach-apart .first .0;
-      second = reach-apart .second .1;
+      first = r .first .0;
+      second = r .second .1;
     }
+
+pub trades-exist : TradesExist
+unfolding takes arrives comesUp
+trades-exist = (
+  trade-exists g₁ _ _ reach-apart (apart-events g₁ takes comesUp reach-apart (λ q x y. let z : ⊥ = omega (arith, eqb-true 0 q x, eqb-true 2 q y) in absurd z)),
+  trade-exists g₅ _ _ held-apart (apart-events g₅ arrives comesUp held-apart (λ q x y. false≢true x)),
+)
 
 -- ---- reach
 

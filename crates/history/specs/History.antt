@@ -18,7 +18,7 @@ use Rattle.rules.specs.Rules.{refusal, isError, classTypeOf}
 use Rattle.rules.specs.Reach.{reach, fromController}
 use Rattle.rules.specs.Effect.{holdBytes}
 use Rattle.rules.specs.Calls.{Board, nextBoard, Call, events, boardAfter, Calls, answer, rulesAnswer}
-use Rattle.rules.specs.Samples.{g₁, takes, comesUp}
+use Rattle.rules.specs.Samples.{g₁, g₅, takes, arrives, comesUp}
 use Rattle.history.specs.Trade.{swaps, Trades, outs, last}
 
 -- AS a is reached by the event e on the state g; a link of the plan is reached with its owner (Rule 9.4).
@@ -116,12 +116,15 @@ pub record Made (b : Board) (h : List Event) (ls : List (List ℕ)) : Type 0 whe
 abbrev pub sampleBoard : Gateway → Board
 sampleBoard g = record { gateway = g; hold = replicate holdBytes 0 }
 
--- Trades exist: everything that the statement asks for is there in a history of plan S, where ASP 0 takes AS 0 over and ASP 2 comes up, and the two
--- trade places. Each reaches an AS.
-pub record TradesExist : Type 0 where
-  pub calls : Made (sampleBoard g₁) (takes ∷ comesUp ∷ []) (replicate 1544 0 ∷ replicate 1544 0 ∷ [])
-  pub traded : Made (sampleBoard g₁) (comesUp ∷ takes ∷ []) (replicate 1544 0 ∷ replicate 1544 0 ∷ [])
-  pub trades : Trades nextBoard Independent (sampleBoard g₁) (takes ∷ comesUp ∷ []) (0 ∷ [])
-  pub events-trade : comesUp ∷ takes ∷ [] ≡ swaps (0 ∷ []) (takes ∷ comesUp ∷ [])
-  pub first : reaches g₁ takes 0 ≡ true
-  pub second : reaches g₁ comesUp 1 ≡ true
+-- everything that the statement asks for is there in a history of two events of plan S, which trade places; each reaches an AS
+pub record TradeExists (g : Gateway) (e f : Event) : Type 0 where
+  pub calls : Made (sampleBoard g) (e ∷ f ∷ []) (replicate 1544 0 ∷ replicate 1544 0 ∷ [])
+  pub traded : Made (sampleBoard g) (f ∷ e ∷ []) (replicate 1544 0 ∷ replicate 1544 0 ∷ [])
+  pub trades : Trades nextBoard Independent (sampleBoard g) (e ∷ f ∷ []) (0 ∷ [])
+  pub events-trade : f ∷ e ∷ [] ≡ swaps (0 ∷ []) (e ∷ f ∷ [])
+  pub first : reaches g e 0 ≡ true
+  pub second : reaches g f 1 ≡ true
+
+-- Trades exist: ASP 0 takes AS 0 over, or a unit comes in for it and is held; and ASP 2 comes up.
+abbrev pub TradesExist : Type 0
+TradesExist = TradeExists g₁ takes comesUp × TradeExists g₅ arrives comesUp

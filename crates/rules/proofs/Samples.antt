@@ -38,19 +38,23 @@ use Rattle.rules.specs.Identifiers.{firstRefused, ownsNamed, ownersNamed
 use Rattle.rules.specs.Link.{establish, release, dataEffect, canHave, linkEffect, classSixEffect, recipientsOf, toRecipients, linkUpEffect, linkDownEffect, isPending, arrival, holdEffect, linkMessageEffect}
 use Rattle.rules.specs.Reach.{ownsId, readReach, messageReach, reach}
 use Rattle.rules.specs.Rules.{isError, fromAsp, readEffect, messageEffect, fromLink, refusalOf}
-use Rattle.rules.specs.Samples.{planS, fresh as fresh-rules, bare, m, g₁, g₂, g₃, g₄, g₅, unit, g₆, retrieval, confirm, takes, comesUp}
+use Rattle.rules.specs.Samples.{planS, fresh as fresh-rules, bare, m, g₁, g₂, g₃, g₄, g₅, unit, g₆, retrieval, confirm, takes, arrives, comesUp}
 use Rattle.rules.specs.Inner.Decision.{firstActions, spread, effectIn}
 
-computed : Samples × ReachApart
-unfolding anyBelow allBelow concatBelow firstBelow countBelow tabulate be stepAt walkF walk partOf textCode allowedCode parCode slot tagAt infoOf allMet allAsked rowBits table among hasClass rowIn entriesIn useIn usage limitsOf wordCode plainCode idCode rangeCode bodyCode meaning outcome readingOf bodyIn tagIn placeIn dataOf dataTag dataAt active up there word sequenceAt endAt meaningAt outcomeAt rowOutcome checksOutcome has head number isNone inTurn allThere sequenceCode parsCode lastChecks verdict countsIn blankFrom differs flagWithin soundAsps memberAt activeAt soundRow activeIn modeAt waitingAt overrideAt soundAs ascends allUnder soundLinks soundKinds isLinkOf unitAt blankAt unitsOk sized allUnits soundUnits soundTables isSound soundAses zeros offset count follow layoutOk column aspIds masks spares modes linkIds owners kinds modesOk masksOk sparesOk rowsOk members fresh built loadOf indexOf known rank stateOf before receives ownerOf isRefused isOwnedBy firstIn someIn startAt stopAt entries firstOf refusedIn refusedEntry someOf someEntry wordsOf toEach toAll putAt place without joined activated overtaken nobody recordWith isNotified notifiesTo notifies actionsIn unitOut unitsOut letOut announced spoken row membersUp recordFrom some stateIn withRow columnOf withFlag actionsAt newActive newWaiting clearedFrom letsGo withChange allActions upEffect downEffect lostEffect otherMode activeEffect inactiveEffect trafficEffect actions next firstRefused ownsNamed ownersNamed isKnown linkOf establish release dataEffect canHave linkEffect classSixEffect recipientsOf toRecipients linkUpEffect linkDownEffect isPending arrival holdEffect linkMessageEffect ownsId readReach messageReach reach isError fromAsp readEffect messageEffect fromLink refusalOf planS fresh-rules bare m g₁ g₂ g₃ g₄ g₅ unit g₆ retrieval confirm takes comesUp firstActions spread effectIn
+computed : Samples × ReachApart g₁ takes comesUp × ReachApart g₅ arrives comesUp
+unfolding anyBelow allBelow concatBelow firstBelow countBelow tabulate be stepAt walkF walk partOf textCode allowedCode parCode slot tagAt infoOf allMet allAsked rowBits table among hasClass rowIn entriesIn useIn usage limitsOf wordCode plainCode idCode rangeCode bodyCode meaning outcome readingOf bodyIn tagIn placeIn dataOf dataTag dataAt active up there word sequenceAt endAt meaningAt outcomeAt rowOutcome checksOutcome has head number isNone inTurn allThere sequenceCode parsCode lastChecks verdict countsIn blankFrom differs flagWithin soundAsps memberAt activeAt soundRow activeIn modeAt waitingAt overrideAt soundAs ascends allUnder soundLinks soundKinds isLinkOf unitAt blankAt unitsOk sized allUnits soundUnits soundTables isSound soundAses zeros offset count follow layoutOk column aspIds masks spares modes linkIds owners kinds modesOk masksOk sparesOk rowsOk members fresh built loadOf indexOf known rank stateOf before receives ownerOf isRefused isOwnedBy firstIn someIn startAt stopAt entries firstOf refusedIn refusedEntry someOf someEntry wordsOf toEach toAll putAt place without joined activated overtaken nobody recordWith isNotified notifiesTo notifies actionsIn unitOut unitsOut letOut announced spoken row membersUp recordFrom some stateIn withRow columnOf withFlag actionsAt newActive newWaiting clearedFrom letsGo withChange allActions upEffect downEffect lostEffect otherMode activeEffect inactiveEffect trafficEffect actions next firstRefused ownsNamed ownersNamed isKnown linkOf establish release dataEffect canHave linkEffect classSixEffect recipientsOf toRecipients linkUpEffect linkDownEffect isPending arrival holdEffect linkMessageEffect ownsId readReach messageReach reach isError fromAsp readEffect messageEffect fromLink refusalOf planS fresh-rules bare m g₁ g₂ g₃ g₄ g₅ unit g₆ retrieval confirm takes arrives comesUp firstActions spread effectIn
 computed = (
   record { reader = reader-samples; takes-over = refl; overrides = refl; pends = refl; recovers = refl; holds = refl; sends-held = refl; retrieves = refl; too-large = refl; confirms = refl; refuses = refl },
+  record { ases = refl; first = (refl, refl); second = (refl, refl) },
   record { ases = refl; first = (refl, refl); second = (refl, refl) },
 )
 
 pub samples : Samples
 samples = computed .0
 
--- and what two events of the sample's plan reach
-pub reach-apart : ReachApart
+-- and what events of the sample's plan reach
+pub reach-apart : ReachApart g₁ takes comesUp
 reach-apart = computed .1
+
+pub held-apart : ReachApart g₅ arrives comesUp
+held-apart = computed .2

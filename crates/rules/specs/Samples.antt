@@ -89,12 +89,16 @@ pub record Samples : Type 0 where
   pub confirms : actions g₂ (event (linkMessage (confirm 127))) ≡ action 0 1547 100 0 ∷ []
   pub refuses : refusal g₂ (event (linkMessage (confirm 128))) ≡ 102
 
--- ---- two events of plan S that reach different ASes
+-- ---- events of plan S that reach different ASes
 
 -- in the state g₁: ASP 0 takes AS 0 over, by message M
 unfoldable pub takes : Event
 takes = event (message 0 m)
 
--- ASP 2 comes up
+-- in the state g₅: Data comes in for AS 0, and is held
+unfoldable pub arrives : Event
+arrives = event (linkMessage unit)
+
+-- in both: ASP 2 comes up
 unfoldable pub comesUp : Event
 comesUp = event (message 2 (bare 3 1))

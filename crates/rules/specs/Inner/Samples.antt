@@ -2,10 +2,12 @@
 -- Assumes nothing.
 use mathlib.Core.Path.{_≡_}
 use mathlib.Core.Bool.{true, false}
+use Rattle.gateway.specs.declared.Gateway.{Gateway}
+use Rattle.rules.specs.Event.{Event}
 use Rattle.rules.specs.Reach.{reach}
-use Rattle.rules.specs.Samples.{g₁, takes, comesUp}
 
-pub record ReachApart : Type 0 where
-  pub ases : g₁ .ases ≡ 2
-  pub first : (reach g₁ takes 0 ≡ true) × (reach g₁ takes 1 ≡ false)
-  pub second : (reach g₁ comesUp 0 ≡ false) × (reach g₁ comesUp 1 ≡ true)
+-- of two ASes an event reaches the first, and another the second
+pub record ReachApart (g : Gateway) (e f : Event) : Type 0 where
+  pub ases : g .ases ≡ 2
+  pub first : (reach g e 0 ≡ true) × (reach g e 1 ≡ false)
+  pub second : (reach g f 0 ≡ false) × (reach g f 1 ≡ true)
