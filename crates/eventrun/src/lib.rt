@@ -1,8 +1,7 @@
-// The event that a script's line says: run by the entry of its kind, what it reaches, and its actions as bytes.
+// The event that a script's line says: run, what it reaches, and its actions as bytes, each by the entry that takes the number of its kind.
 use encode::Written;
 use eventline::EventKind;
 use gateway::Gateway;
-use node::Node;
 use rules::Outcome;
 ghost use mathlib.Core.Path.{_≡_};
 ghost use Rattle.ask.specs.Happened.{event, eventOf};
@@ -11,51 +10,6 @@ ghost use Rattle.reach.specs.Reached.{reached};
 ghost use Rattle.rules.specs.Entry.{MeetsRules};
 ghost use Rattle.eventrun.specs.Line.{said};
 ghost use Rattle.eventrun.specs.Inner.Numbers.{numberOf};
-
-// One of the six events, with the index and the message of its line.
-pub fn happen(
-    kind: EventKind,
-    index: u32,
-    msg: &[u8],
-    hold: &mut [u8],
-    words: &mut [u32],
-    g: Gateway,
-) -> Outcome
-    ensures { λ r. ⌜ MeetsRules g (event (said kind index (now (msg .entry))) (now (words .entry)) (now (hold .entry))) (now (words .entry)) (now (words .exit)) (now (hold .entry)) (now (hold .exit)) r ⌝ }
-{
-    let i = index as usize;
-    let node = Node { gateway: g };
-    match kind {
-        EventKind::Message => node.message(i, msg, hold, words),
-        EventKind::Lost => node.lost(i, hold, words),
-        EventKind::Recovery => node.recovery(i, hold, words),
-        EventKind::LinkUp => node.link_up(i, hold, words),
-        EventKind::LinkDown => node.link_down(i, hold, words),
-        EventKind::LinkMessage => node.link_message(msg, hold, words),
-    }
-}
-
-// The ASes that it reaches, where its list has `room` words and its hold `hold` bytes.
-pub fn reached_by(
-    kind: EventKind,
-    index: u32,
-    msg: &[u8],
-    room: usize,
-    hold: usize,
-    g: Gateway,
-) -> [bool; 16]
-    ensures { λ r. ⌜ r ≡ reached g (eventOf (said kind index (now (msg .entry))) room hold) ⌝ }
-{
-    let i = index as usize;
-    match kind {
-        EventKind::Message => reach::of_message(g, i, msg, room, hold),
-        EventKind::Lost => reach::of_lost(g, i, room, hold),
-        EventKind::Recovery => reach::of_recovery(g, i, room, hold),
-        EventKind::LinkUp => reach::of_link_up(g, i, room, hold),
-        EventKind::LinkDown => reach::of_link_down(g, i, room, hold),
-        EventKind::LinkMessage => reach::of_link_message(g, msg, room, hold),
-    }
-}
 
 // The number that a call says a kind by.
 fn number(kind: EventKind) -> u32
@@ -69,6 +23,35 @@ fn number(kind: EventKind) -> u32
         EventKind::LinkDown => ask::LINK_DOWN,
         EventKind::LinkMessage => ask::LINK_MESSAGE,
     }
+}
+
+// One of the six events, with the index and the message of its line.
+pub fn happen(
+    kind: EventKind,
+    index: u32,
+    msg: &[u8],
+    hold: &mut [u8],
+    words: &mut [u32],
+    g: Gateway,
+) -> Outcome
+    ensures { λ r. ⌜ MeetsRules g (event (said kind index (now (msg .entry))) (now (words .entry)) (now (hold .entry))) (now (words .entry)) (now (words .exit)) (now (hold .entry)) (now (hold .exit)) r ⌝ }
+{
+    let size = hold.len();
+    events::m2ua_run(g, number(kind), index as usize, msg, hold, size, words)
+}
+
+// The ASes that it reaches, where its list has `room` words and its hold `hold` bytes.
+pub fn reached_by(
+    kind: EventKind,
+    index: u32,
+    msg: &[u8],
+    room: usize,
+    hold: usize,
+    g: Gateway,
+) -> [bool; 16]
+    ensures { λ r. ⌜ r ≡ reached g (eventOf (said kind index (now (msg .entry))) room hold) ⌝ }
+{
+    reach::of_event(g, number(kind), index as usize, msg, room, hold)
 }
 
 // One of its actions as bytes.

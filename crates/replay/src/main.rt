@@ -37,45 +37,7 @@ fn flush(out: &[u8; 65536], s: State) -> State
     session::at(s, 0)
 }
 
-// The line that is held is whole.
-fn end_line(
-    line: &[u8; 65536],
-    bytes: &mut [u8; 32768],
-    hold: &mut [u8; 34944],
-    out: &mut [u8; 65536],
-    s: Session,
-) -> Session
-    requires { ⌜ Sound s ⌝ }
-    ensures { λ r. ⌜ Sound r ⌝ }
-{
-    let held = s.held;
-    let state = s.state;
-    let answered = session::run(first(line, held), bytes, hold, out, state);
-    session_of(0, flush(out, answered))
-}
-
-// A part of the input without a line's end, and whether one follows.
-fn take_part(
-    part: &[u8],
-    ended: bool,
-    line: &mut [u8; 65536],
-    bytes: &mut [u8; 32768],
-    hold: &mut [u8; 34944],
-    out: &mut [u8; 65536],
-    s: Session,
-) -> Session
-    requires { ⌜ Sound s ⌝ }
-    ensures { λ r. ⌜ Sound r ⌝ }
-{
-    let state = s.state;
-    let t = session_of(collect(line, s.held, part), state);
-    if ended {
-        return end_line(line, bytes, hold, out, t);
-    }
-    t
-}
-
-// A block of the input.
+// A block of the input: the lines that end in it are answered, and what follows the last of them is held.
 fn take_block(
     block: &[u8],
     line: &mut [u8; 65536],
@@ -91,78 +53,22 @@ fn take_block(
     let mut at = 0;
     while at < block.len() {
         let end = bytes::scan::find(block, at, block.len(), b'\n');
-        t = take_part(
-            &block[at..end],
-            end < block.len(),
-            line,
-            bytes,
-            hold,
-            out,
-            t,
-        );
+        let held = collect(line, t.held, &block[at..end]);
+        let state = t.state;
+        if end == block.len() {
+            return session_of(held, state);
+        }
+        let answered = session::run(first(line, held), bytes, hold, out, state);
+        t = session_of(0, flush(out, answered));
         at = end + 1;
     }
     t
 }
 
-// One block is read and taken. Nothing is read at the end of the input.
-struct Taken {
-    more: bool,
-    session: Session,
-}
-
-fn turn(
+// The blocks of the input, and the end that its last line may lack. Nothing says that the input ends, so the loop counts its blocks down, from more than any
+// input has.
+fn take_input(
     line: &mut [u8; 65536],
-    bytes: &mut [u8; 32768],
-    hold: &mut [u8; 34944],
-    out: &mut [u8; 65536],
-    s: Session,
-) -> Taken
-    requires { ⌜ Sound s ⌝ }
-    ensures { λ r. ⌜ Sound (r .session) ⌝ }
-{
-    let mut block = io::large_buffer();
-    let n = io::read_full(STDIN_FILENO, &mut block);
-    if n == 0 {
-        return Taken {
-            more: false,
-            session: s,
-        };
-    }
-    let t = take_block(&block[..n], line, bytes, hold, out, s);
-    Taken {
-        more: true,
-        session: t,
-    }
-}
-
-// Nothing says that the input ends, so the loop counts its blocks down, from more than any input has.
-fn blocks(
-    line: &mut [u8; 65536],
-    bytes: &mut [u8; 32768],
-    hold: &mut [u8; 34944],
-    out: &mut [u8; 65536],
-    s: Session,
-) -> Session
-    requires { ⌜ Sound s ⌝ }
-    ensures { λ r. ⌜ Sound r ⌝ }
-{
-    let mut t = s;
-    let mut left: u64 = 0x1000000000000;
-    while left > 0 {
-        let one = turn(line, bytes, hold, out, t);
-        t = one.session;
-        if !one.more {
-            return t;
-        }
-        left -= 1;
-    }
-    t
-}
-
-// The last line may lack its end.
-fn last_line(
-    line: &[u8; 65536],
     bytes: &mut [u8; 32768],
     hold: &mut [u8; 34944],
     out: &mut [u8; 65536],
@@ -170,8 +76,19 @@ fn last_line(
 ) -> State
     requires { ⌜ Sound s ⌝ }
 {
-    let t = end_line(line, bytes, hold, out, s);
-    t.state
+    let mut t = s;
+    let mut left: u64 = 0x1000000000000;
+    while left > 0 {
+        let mut block = io::large_buffer();
+        let n = io::read_full(STDIN_FILENO, &mut block);
+        if n == 0 {
+            break;
+        }
+        t = take_block(&block[..n], line, bytes, hold, out, t);
+        left -= 1;
+    }
+    let last = take_block(b"\n", line, bytes, hold, out, t);
+    last.state
 }
 
 fn main() {
@@ -179,13 +96,12 @@ fn main() {
     let mut bytes = [0u8; 32768];
     let mut hold = [0u8; 34944];
     let mut out = io::large_buffer();
-    let s = blocks(
+    let t = take_input(
         &mut line,
         &mut bytes,
         &mut hold,
         &mut out,
         session_of(0, session::start()),
     );
-    let t = last_line(&line, &mut bytes, &mut hold, &mut out, s);
     write_out(&out, t.used);
 }

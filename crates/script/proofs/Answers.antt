@@ -41,13 +41,13 @@ unfolding onBytes
 on-none f w e = rw e
 
 -- a command on the bytes of a word
-pub bytes-answered : (f : List ℕ → List ℕ) {w room room₁ v before after : List ℕ} {r : Size} {used m next n : ℕ}
+pub bytes-answered : (f : List ℕ → List ℕ) {w room room₁ v before after : List ℕ} {r : Size} {used next n : ℕ}
     → Bytes w room room₁ r → r ≡ Count n → length w ≤ 65535 → v ≡ take n room₁
-    → Put before after used (f v) m → m ≤ used + 17000 → next ≡ m
+    → Put before after used (f v) next → next ≤ used + 17000
     → Answered room before after used (onBytes f w) next
-bytes-answered f {w} {room} {room₁} {v} {before} {after} {r} {used} {m} {next} {n} h e b ev p q z =
+bytes-answered f {w} {room} {room₁} {v} {before} {after} {r} {used} {next} {n} h e b ev p q =
     record {
-      put = λ k. rw (z, on-count f w n (sym (h .size) ∙ e), ← bytes-are n h e (omega arith), ← ev) p;
+      put = λ k. rw (on-count f w n (sym (h .size) ∙ e), ← bytes-are n h e (omega arith), ← ev) p;
       within = omega arith;
     }
 
@@ -80,8 +80,8 @@ module _ {room before : List ℕ} {used : ℕ} (line : List ℕ) where
         rw (ne-eqb (length line) 0 n, eq-eqb (getD line 0 0) 35 e)
         (record { put = λ k. put-none before used; within = omega arith })
 
-    pub run-line : {mid after : List ℕ} {m o next : ℕ} → (getD line 0 0 ≡ 35 → ⊥) → Answered room before mid used (answerText line) m → m ≤ used + 17000 → Put mid after m (10 ∷ []) o → next ≡ o → Answered room before after used (lineText line) next
+    pub run-line : {mid after : List ℕ} {m next : ℕ} → (getD line 0 0 ≡ 35 → ⊥) → Answered room before mid used (answerText line) m → m ≤ used + 17000 → Put mid after m (10 ∷ []) next → Answered room before after used (lineText line) next
     unfolding lineText
-    run-line e a q p z =
+    run-line e a q p =
         rw (ne-eqb (length line) 0 n, ne-eqb (getD line 0 0) 35 e)
-        (record { put = λ k. rw z (put-then (a .put k) p); within = omega (arith, p .place) })
+        (record { put = λ k. put-then (a .put k) p; within = omega (arith, p .place) })

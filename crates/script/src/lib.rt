@@ -1,4 +1,4 @@
-// Scripts: one line in, its answer out.
+// Scripts: one line in, its answer out, put into `out` from `at` on; each function returns the place after it.
 //
 // A further command is a case of `Command`, a line of `command_of`, an arm of `answer` and a
 // function of its own.
@@ -18,11 +18,6 @@ ghost use Rattle.text.specs.Put.{Put};
 ghost use Rattle.report.specs.Shown.{readText, shownText};
 ghost use Rattle.script.specs.Script.{badText, commandIn, onBytes, answerOf, answerText, lineText, Answered};
 
-// What goes from line to line: how much of the output buffer is filled.
-pub struct State {
-    pub used: usize,
-}
-
 pub enum Command {
     Read,
     Show,
@@ -41,51 +36,39 @@ fn command_of(name: &[u8]) -> Command
     Command::Bad
 }
 
-// The output buffer is filled up to a place.
-pub fn at(s: State, used: usize) -> State
-    ensures { λ r. ⌜ r .used ≡ used ⌝ }
-{
-    let mut t = s;
-    t.used = used;
-    t
-}
-
 // A line that is no command.
-fn bad(out: &mut [u8; 65536], s: State) -> State
-    requires { ⌜ s .used + 17000 ≤ 65536 ⌝ }
-    ensures { λ r. ⌜ Put (now (out .entry)) (now (out .exit)) (s .used) badText (r .used) ⌝ }
-    ensures { λ r. ⌜ r .used ≡ s .used + 1 ⌝ }
+fn bad(out: &mut [u8; 65536], at: usize) -> usize
+    requires { ⌜ at + 17000 ≤ 65536 ⌝ }
+    ensures { λ r. ⌜ Put (now (out .entry)) (now (out .exit)) at badText r ⌝ }
+    ensures { λ r. ⌜ r ≡ at + 1 ⌝ }
 {
-    at(s, put_byte(out, s.used, b'?'))
+    put_byte(out, at, b'?')
 }
 
 // `read HEX`
-fn read(hex: &[u8], bytes: &mut [u8; 32768], out: &mut [u8; 65536], s: State) -> State
-    requires { ⌜ (s .used + 17000 ≤ 65536) × (length (now hex) ≤ 65535) ⌝ }
-    ensures { λ r. ⌜ Answered (now (bytes .entry)) (now (out .entry)) (now (out .exit)) (s .used) (onBytes readText (now (hex .entry))) (r .used) ⌝ }
-    ensures { λ r. ⌜ r .used ≤ s .used + 17000 ⌝ }
+fn read(hex: &[u8], bytes: &mut [u8; 32768], out: &mut [u8; 65536], at: usize) -> usize
+    requires { ⌜ (at + 17000 ≤ 65536) × (length (now hex) ≤ 65535) ⌝ }
+    ensures { λ r. ⌜ Answered (now (bytes .entry)) (now (out .entry)) (now (out .exit)) at (onBytes readText (now (hex .entry))) r ⌝ }
+    ensures { λ r. ⌜ r ≤ at + 17000 ⌝ }
 {
     let size = bytes_of(hex, bytes);
     let Size::Count(n) = size else {
-        return bad(out, s);
+        return bad(out, at);
     };
-    at(s, report::put_read(first(bytes, n), out, s.used))
+    report::put_read(first(bytes, n), out, at)
 }
 
 // `show HEX`
-fn show(hex: &[u8], bytes: &mut [u8; 32768], out: &mut [u8; 65536], s: State) -> State
-    requires { ⌜ (s .used + 17000 ≤ 65536) × (length (now hex) ≤ 65535) ⌝ }
-    ensures { λ r. ⌜ Answered (now (bytes .entry)) (now (out .entry)) (now (out .exit)) (s .used) (onBytes (shownText Style.Bars) (now (hex .entry))) (r .used) ⌝ }
-    ensures { λ r. ⌜ r .used ≤ s .used + 17000 ⌝ }
+fn show(hex: &[u8], bytes: &mut [u8; 32768], out: &mut [u8; 65536], at: usize) -> usize
+    requires { ⌜ (at + 17000 ≤ 65536) × (length (now hex) ≤ 65535) ⌝ }
+    ensures { λ r. ⌜ Answered (now (bytes .entry)) (now (out .entry)) (now (out .exit)) at (onBytes (shownText Style.Bars) (now (hex .entry))) r ⌝ }
+    ensures { λ r. ⌜ r ≤ at + 17000 ⌝ }
 {
     let size = bytes_of(hex, bytes);
     let Size::Count(n) = size else {
-        return bad(out, s);
+        return bad(out, at);
     };
-    at(
-        s,
-        report::put_shown(Style::Bars, first(bytes, n), out, s.used),
-    )
+    report::put_shown(Style::Bars, first(bytes, n), out, at)
 }
 
 // The answer of a command to what follows its name.
@@ -94,43 +77,43 @@ fn answer(
     rest: &[u8],
     bytes: &mut [u8; 32768],
     out: &mut [u8; 65536],
-    s: State,
-) -> State
-    requires { ⌜ (s .used + 17000 ≤ 65536) × (length (now rest) ≤ 65535) ⌝ }
-    ensures { λ r. ⌜ Answered (now (bytes .entry)) (now (out .entry)) (now (out .exit)) (s .used) (answerOf command (now (rest .entry))) (r .used) ⌝ }
-    ensures { λ r. ⌜ r .used ≤ s .used + 17000 ⌝ }
+    at: usize,
+) -> usize
+    requires { ⌜ (at + 17000 ≤ 65536) × (length (now rest) ≤ 65535) ⌝ }
+    ensures { λ r. ⌜ Answered (now (bytes .entry)) (now (out .entry)) (now (out .exit)) at (answerOf command (now (rest .entry))) r ⌝ }
+    ensures { λ r. ⌜ r ≤ at + 17000 ⌝ }
 {
     match command {
-        Command::Read => read(rest, bytes, out, s),
-        Command::Show => show(rest, bytes, out, s),
-        Command::Bad => bad(out, s),
+        Command::Read => read(rest, bytes, out, at),
+        Command::Show => show(rest, bytes, out, at),
+        Command::Bad => bad(out, at),
     }
 }
 
 // The answer to a line, without its end.
-fn answer_line(line: &[u8], bytes: &mut [u8; 32768], out: &mut [u8; 65536], s: State) -> State
-    requires { ⌜ s .used + 17000 ≤ 65536 ⌝ }
-    ensures { λ r. ⌜ Answered (now (bytes .entry)) (now (out .entry)) (now (out .exit)) (s .used) (answerText (now (line .entry))) (r .used) ⌝ }
-    ensures { λ r. ⌜ r .used ≤ s .used + 17000 ⌝ }
+fn answer_line(line: &[u8], bytes: &mut [u8; 32768], out: &mut [u8; 65536], at: usize) -> usize
+    requires { ⌜ at + 17000 ≤ 65536 ⌝ }
+    ensures { λ r. ⌜ Answered (now (bytes .entry)) (now (out .entry)) (now (out .exit)) at (answerText (now (line .entry))) r ⌝ }
+    ensures { λ r. ⌜ r ≤ at + 17000 ⌝ }
 {
     if line.len() > 65535 {
-        return bad(out, s);
+        return bad(out, at);
     }
     let command = command_of(word_of(line));
-    answer(command, rest_of(line), bytes, out, s)
+    answer(command, rest_of(line), bytes, out, at)
 }
 
 // A line of a script: a blank line or a comment has no answer, and any other one line of it.
-pub fn run(line: &[u8], bytes: &mut [u8; 32768], out: &mut [u8; 65536], s: State) -> State
-    requires { ⌜ s .used + 17001 ≤ 65536 ⌝ }
-    ensures { λ r. ⌜ Answered (now (bytes .entry)) (now (out .entry)) (now (out .exit)) (s .used) (lineText (now (line .entry))) (r .used) ⌝ }
+pub fn run(line: &[u8], bytes: &mut [u8; 32768], out: &mut [u8; 65536], at: usize) -> usize
+    requires { ⌜ at + 17001 ≤ 65536 ⌝ }
+    ensures { λ r. ⌜ Answered (now (bytes .entry)) (now (out .entry)) (now (out .exit)) at (lineText (now (line .entry))) r ⌝ }
 {
     if line.len() == 0 {
-        return s;
+        return at;
     }
     if line[0] == b'#' {
-        return s;
+        return at;
     }
-    let t = answer_line(line, bytes, out, s);
-    at(t, put_byte(out, t.used, b'\n'))
+    let end = answer_line(line, bytes, out, at);
+    put_byte(out, end, b'\n')
 }

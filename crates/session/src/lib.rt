@@ -316,30 +316,7 @@ fn show_bytes<'a>(
     shown(w, &message, out, s)
 }
 
-// The buffer's length and the event.
-fn action_in(
-    place: u32,
-    rest: &[u8],
-    bytes: &mut [u8; 32768],
-    hold: &[u8; 34944],
-    out: &mut [u8; 65536],
-    s: State,
-) -> State
-    requires { ⌜ (s .used + 18000 ≤ 65536) × (length (now rest) ≤ 65535) ⌝ }
-    ensures { λ r. ⌜ r .used ≤ s .used + 18000 ⌝ }
-{
-    let number = number_of(word_of(rest));
-    let Number::Value(room) = number else {
-        return bad(out, s);
-    };
-    let parsed = event_of(rest_of(rest), bytes);
-    let Parsed::Line(e) = parsed else {
-        return bad(out, s);
-    };
-    show_bytes(e, place, room, bytes, hold, out, s)
-}
-
-// The place among its actions, and what follows it.
+// The place among its actions, the buffer's length and the event.
 fn one_action(
     rest: &[u8],
     bytes: &mut [u8; 32768],
@@ -354,7 +331,16 @@ fn one_action(
     let Number::Value(place) = number else {
         return bad(out, s);
     };
-    action_in(place, rest_of(rest), bytes, hold, out, s)
+    let after = rest_of(rest);
+    let length = number_of(word_of(after));
+    let Number::Value(room) = length else {
+        return bad(out, s);
+    };
+    let parsed = event_of(rest_of(after), bytes);
+    let Parsed::Line(e) = parsed else {
+        return bad(out, s);
+    };
+    show_bytes(e, place, room, bytes, hold, out, s)
 }
 
 // ---- `hold LEN`, `paint N`, `held A K`
@@ -492,8 +478,7 @@ fn other(line: &[u8], bytes: &mut [u8; 32768], out: &mut [u8; 65536], s: State) 
     requires { ⌜ s .used + 18001 ≤ 65536 ⌝ }
     ensures { λ r. ⌜ r .used ≤ s .used + 18001 ⌝ }
 {
-    let t = script::run(line, bytes, out, script::State { used: s.used });
-    at(s, t.used)
+    at(s, script::run(line, bytes, out, s.used))
 }
 
 // A line of a script, with the hold that is kept.

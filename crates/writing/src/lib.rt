@@ -82,25 +82,6 @@ fn keep(tags: &mut [u16; 512], lens: &mut [u32; 512], tag: u16, n: usize, l: Ite
     }
 }
 
-// The value of an item, after its tag.
-fn take_value(
-    value: &[u8],
-    tag: u16,
-    tags: &mut [u16; 512],
-    lens: &mut [u32; 512],
-    values: &mut [u8; 32768],
-    l: Items,
-) -> Taken
-    requires { ⌜ (l .filled ≤ 32768) × (l .count ≤ 512) ⌝ }
-    ensures { λ r. ⌜ Within r ⌝ }
-{
-    let size = put_octets(value, values, l.filled);
-    let Size::Count(n) = size else {
-        return Taken::NoList;
-    };
-    Taken::List(keep(tags, lens, tag, n, l))
-}
-
 // `TAG:HEX`
 fn take_item(
     item: &[u8],
@@ -117,10 +98,14 @@ fn take_item(
         return Taken::NoList;
     }
     let tag = number_of(&item[..colon]);
-    let Number::Value(n) = tag else {
+    let Number::Value(t) = tag else {
         return Taken::NoList;
     };
-    take_value(&item[colon + 1..], tag_of(n), tags, lens, values, l)
+    let size = put_octets(&item[colon + 1..], values, l.filled);
+    let Size::Count(n) = size else {
+        return Taken::NoList;
+    };
+    Taken::List(keep(tags, lens, tag_of(t), n, l))
 }
 
 // `TAG:HEX,TAG:HEX,..`
@@ -323,51 +308,32 @@ fn write_list(
     write_items(class, msgtype, room, l, &tags, &lens, values, out, at)
 }
 
-// The buffer's length and the list.
-fn write_into(
-    class: u8,
-    msgtype: u8,
-    rest: &[u8],
-    values: &mut [u8; 32768],
-    out: &mut [u8; 65536],
-    at: usize,
-) -> usize
-    requires { ⌜ at + 17000 ≤ 65536 ⌝ }
-    ensures { λ r. ⌜ r ≤ at + 17000 ⌝ }
-{
-    let room = number_of(word_of(rest));
-    let Number::Value(n) = room else {
-        return bad(out, at);
-    };
-    write_list(class, msgtype, n as usize, rest_of(rest), values, out, at)
-}
-
-// The type and what follows it.
-fn write_kind(
-    class: u8,
-    rest: &[u8],
-    values: &mut [u8; 32768],
-    out: &mut [u8; 65536],
-    at: usize,
-) -> usize
-    requires { ⌜ at + 17000 ≤ 65536 ⌝ }
-    ensures { λ r. ⌜ r ≤ at + 17000 ⌝ }
-{
-    let msgtype = number_of(word_of(rest));
-    let Number::Value(n) = msgtype else {
-        return bad(out, at);
-    };
-    write_into(class, clamped(n), rest_of(rest), values, out, at)
-}
-
 // `CLASS TYPE BUFLEN LIST`, what follows `write`: the answer, and the place after it.
 pub fn put_message(rest: &[u8], values: &mut [u8; 32768], out: &mut [u8; 65536], at: usize) -> usize
     requires { ⌜ at + 17000 ≤ 65536 ⌝ }
     ensures { λ r. ⌜ r ≤ at + 17000 ⌝ }
 {
     let class = number_of(word_of(rest));
-    let Number::Value(n) = class else {
+    let Number::Value(c) = class else {
         return bad(out, at);
     };
-    write_kind(clamped(n), rest_of(rest), values, out, at)
+    let second = rest_of(rest);
+    let msgtype = number_of(word_of(second));
+    let Number::Value(t) = msgtype else {
+        return bad(out, at);
+    };
+    let third = rest_of(second);
+    let room = number_of(word_of(third));
+    let Number::Value(n) = room else {
+        return bad(out, at);
+    };
+    write_list(
+        clamped(c),
+        clamped(t),
+        n as usize,
+        rest_of(third),
+        values,
+        out,
+        at,
+    )
 }

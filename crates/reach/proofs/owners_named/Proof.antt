@@ -1,7 +1,7 @@
 use Rattle.traffic.specs.Inner.Named.{Owners, owners-none, owners-more, owners-end}
 use Rattle.ranges.specs.Named.{isOwnedBy}
 use Rattle.ranges.specs.Inner.Laws.{Table}
-use Rattle.wire.proofs.Steps.{step-next, Next, pars-next, pars-stop}
+use Rattle.wire.proofs.Steps.{step-next, pars-next, pars-stop}
 use Rattle.wire.specs.declared.Step.the-variants.{Param}
 use Rattle.wire.specs.Walk.{stepAt, walk}
 use lib.ListN.{length}
@@ -24,11 +24,6 @@ reads-at : (c : tie.After-known-told Inv-loop μ-loop)
     ≡ Param (c .before .w .given .0 .0) (c .before .w .given .0 .1 .0) (c .before .w .given .0 .1 .1 .0)
 reads-at c = sym (c .before .before .before .step-at .ensures) ∙ c .before .w .given .1
 
-next-at : (c : tie.After-known-told Inv-loop μ-loop)
-    → Next (c .before .before .before .before .before .before .args .s .now) (c .before .before .before .before .loop .at)
-    (c .before .w .given .0 .1 .0) (c .before .w .given .0 .1 .1 .0)
-next-at c = step-next _ _ _ _ _ (reads-at c)
-
 loop-again : tie.Need-loop-again Inv-loop μ-loop
 loop-again c = let k = c .before .before in let i = k .before .before .before .before .loop .inv in (owners-more _ _ _ _ _ _ (rw (pars-next _ _ _ _ _ (reads-at k)) at (i .0)) (c .owners-par .ensures), i .1)
 
@@ -42,12 +37,12 @@ owners-named-spec =
     (λ c κs. search needs)
     (λ c. search needs)
     (λ c. owners-end _ _ _ (rw (pars-stop _ _ _ (sym (c .before .step-at .ensures)) (c .match .keys2)) at (c .before .before .loop .inv .0)))
-    (λ c. let k = next-at c in omega arith)
-    (λ c. let k = next-at c in omega arith)
-    (λ c. let k = next-at c in omega arith)
-    (λ c. let k = next-at c in omega arith)
-    (λ c. let k = next-at c in omega arith)
-    (λ c. let k = next-at c in omega arith)
+    (λ c. let k = step-next _ _ _ _ _ (reads-at c) in omega arith)
+    (λ c. let k = step-next _ _ _ _ _ (reads-at c) in omega arith)
+    (λ c. let k = step-next _ _ _ _ _ (reads-at c) in omega arith)
+    (λ c. let k = step-next _ _ _ _ _ (reads-at c) in omega arith)
+    (λ c. let k = step-next _ _ _ _ _ (reads-at c) in omega arith)
+    (λ c. let k = step-next _ _ _ _ _ (reads-at c) in omega arith)
     (λ c κs. c .before .before .before .before .before .loop .inv .1)
-    (λ c. let k = next-at (c .before .before) in omega arith)
+    (λ c. let k = step-next _ _ _ _ _ (reads-at (c .before .before)) in omega arith)
     loop-again)

@@ -10,11 +10,11 @@ returns : tie.Need-returns
 returns c = (no-bytes (shownText Bars) (c .before .before .before .before .bytes-of .ensures) (c .before .before .enum-told .given .1) (c .bad .ensures .0) (c .bad .ensures .1), omega arith)
 
 returns-2 : tie.Need-returns-2
-returns-2 c = (bytes-answered (shownText Bars) (c .before .before .before .before .before .before .before .before .before .bytes-of .ensures) (c .before .before .before .before .before .before .before .size .given .1) (omega arith) (c .before .before .before .first .ensures) (c .before .put-shown .ensures .0) (c .before .put-shown .ensures .1) (c .at .ensures), omega arith)
+returns-2 c = (bytes-answered (shownText Bars) (c .before .before .before .before .before .before .before .before .bytes-of .ensures) (c .before .before .before .before .before .before .size .given .1) (omega arith) (c .before .before .first .ensures) (c .put-shown .ensures .0) (c .put-shown .ensures .1), omega arith)
 
 pub show-spec : {M : Type 1} → statement M
 show-spec =
     tie.close
     (tie.spec
     (λ c κs. search needs) (λ c. search needs) (λ c. search needs) (λ c κs. search needs) returns (λ c κs. search needs) (λ c κs. search needs)
-    (λ c κs. search needs) returns-2)
+    returns-2)

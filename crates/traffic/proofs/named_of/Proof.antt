@@ -3,7 +3,7 @@ use Rattle.ranges.specs.Named.{isRefused, isOwnedBy}
 use Rattle.naming.specs.Inner.Laws.{names-found, names-none}
 use Rattle.naming.specs.Inner.Bits.{flagsOf, flags-zero}
 use Rattle.ranges.specs.Inner.Laws.{Table}
-use Rattle.wire.proofs.Steps.{step-next, Next, pars-next, pars-stop}
+use Rattle.wire.proofs.Steps.{step-next, pars-next, pars-stop}
 use Rattle.wire.specs.declared.Step.the-variants.{Param}
 use Rattle.wire.specs.Walk.{stepAt, walk}
 use lib.ListN.{length}
@@ -26,11 +26,6 @@ reads-at : (c : tie.After-known-told Inv-loop μ-loop)
     ≡ Param (c .before .w .given .0 .0) (c .before .w .given .0 .1 .0) (c .before .w .given .0 .1 .1 .0)
 reads-at c = sym (c .before .before .before .step-at .ensures) ∙ c .before .w .given .1
 
-next-at : (c : tie.After-known-told Inv-loop μ-loop)
-    → Next (c .before .before .before .before .before .before .args .s .now) (c .before .before .before .before .loop .at)
-    (c .before .w .given .0 .1 .0) (c .before .w .given .0 .1 .1 .0)
-next-at c = step-next _ _ _ _ _ (reads-at c)
-
 returns : tie.Need-returns Inv-loop μ-loop
 unfolding refusedPars
 returns c = let i = c .before .before .before .loop .inv in let z = pars-stop _ _ _ (sym (c .before .before .step-at .ensures)) (c .before .match .keys2) in names-none (c .passes .ensures .0) (ap (refusedPars _) (sym z) ∙ i .0) (c .passes .ensures .1) (owners-end _ _ _ (rw z at (i .1)))
@@ -45,9 +40,9 @@ pub named-of-spec : {M : Type 1} → statement M
 named-of-spec =
     tie.close
     (tie.spec Inv-loop μ-loop (λ c. (refl, rw flags-zero (owners-none _ _), c .before .pre .0, c .before .pre .1))
-    (λ c κs. search needs) (λ c. search needs) (λ c κs. search needs) returns (λ c. let k = next-at c in omega arith)
-    (λ c. let k = next-at c in omega arith) (λ c. let k = next-at c in omega arith)
-    (λ c. let k = next-at c in omega arith) (λ c. let k = next-at c in omega arith)
-    (λ c. let k = next-at c in omega arith)
+    (λ c κs. search needs) (λ c. search needs) (λ c κs. search needs) returns (λ c. let k = step-next _ _ _ _ _ (reads-at c) in omega arith)
+    (λ c. let k = step-next _ _ _ _ _ (reads-at c) in omega arith) (λ c. let k = step-next _ _ _ _ _ (reads-at c) in omega arith)
+    (λ c. let k = step-next _ _ _ _ _ (reads-at c) in omega arith) (λ c. let k = step-next _ _ _ _ _ (reads-at c) in omega arith)
+    (λ c. let k = step-next _ _ _ _ _ (reads-at c) in omega arith)
     (λ c κs. let i = c .before .before .before .before .before .loop .inv in (i .2, i .3)) returns-2
-    (λ c. let k = next-at (c .before .before .before .before) in omega arith) loop-again)
+    (λ c. let k = step-next _ _ _ _ _ (reads-at (c .before .before .before .before)) in omega arith) loop-again)
