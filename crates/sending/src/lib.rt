@@ -14,7 +14,7 @@ ghost use Rattle.put.specs.Bytes.{overlay};
 ghost use Rattle.ask.specs.Happened.{happened};
 ghost use Rattle.outgoing.specs.Send.{Sends, SendsMany};
 ghost use Rattle.outgoing.specs.Inner.Kinds.{lentBy};
-ghost use Rattle.sending.specs.Inner.Part.{partShown, PutIf, Fits, lentOf, partIn, Ready};
+ghost use Rattle.sending.specs.Inner.Part.{partOf, partMade, PutIf, Fits, lentOf, partIn, Ready};
 ghost use Rattle.sending.specs.Inner.Alike.{areAlike, repeatsIn};
 ghost use Rattle.sending.specs.Inner.Batch.{Ended};
 ghost use Rattle.sending.specs.Inner.Many.{batchOf};
@@ -39,32 +39,71 @@ fn received(kind: u32, msg: &[u8]) -> &[u8]
     &msg[..0]
 }
 
-// What is written for an action, at a position, where it goes in; the bytes that it has. Nothing is written for the link side.
-fn put_new<'a, 'b>(
+// How many bytes are written for an action: none where it goes to the link side.
+fn part_size<'a>(
     x: Sent,
-    links: usize,
-    at: usize,
-    msg: &'b [u8],
-    hold: &'b [u8],
+    msg: &[u8],
+    body: &[u8],
     iid: &'a [u32; 128],
     owner: &'a [u8; 128],
-    out: &mut [u8],
+    links: usize,
 ) -> usize
-    requires { ⌜ Fits (now iid) (now owner) links (now msg) (now hold) x at (now out) ⌝ }
-    ensures { λ r. ⌜ PutIf (now (out .entry)) at (partShown (now (iid .entry)) (now (owner .entry)) links (now (msg .entry)) (now (hold .entry)) x) r (now (out .exit)) ⌝ }
+    requires { ⌜ (links ≤ 128) × (length (now body) ≤ 273) × (length (partOf (now iid) (now owner) links (now msg) (now body) x) ≤ 2048) ⌝ }
+    ensures { λ r. ⌜ r ≡ length (partOf (now (iid .entry)) (now (owner .entry)) links (now (msg .entry)) (now (body .entry)) x) ⌝ }
 {
     let o = x.o;
     if o.to == LINK_SIDE {
         return 0;
     }
     let u = x.unit;
-    let f = outgoing::form_of(x.passed, o, u);
+    outgoing::size_of(
+        outgoing::form_of(x.passed, o, u),
+        msg,
+        body,
+        iid,
+        owner,
+        links,
+    )
+}
+
+// An action whose message is made: its unit's index, whether it passes the received message on, how many links there are, and where it goes.
+pub struct Turn {
+    pub o: Action,
+    pub index: usize,
+    pub passed: bool,
+    pub links: usize,
+    pub at: usize,
+}
+
+// What is written for an action, where it goes in; the bytes that it has.
+fn put_new<'a, 'b>(
+    t: Turn,
+    msg: &'b [u8],
+    hold: &'b [u8],
+    iid: &'a [u32; 128],
+    owner: &'a [u8; 128],
+    tags: &'a [u16; 128],
+    lengths: &'a [u16; 128],
+    marks: &'a [u16; 128],
+    correlations: &'a [u32; 128],
+    out: &mut [u8],
+) -> usize
+    requires { ⌜ Fits (now iid) (now owner) (now tags) (now lengths) (now marks) (now correlations) t (now msg) (now hold) (now out) ⌝ }
+    ensures { λ r. ⌜ PutIf (now (out .entry)) (t .at) (partMade (now (iid .entry)) (now (owner .entry)) (now (tags .entry)) (now (lengths .entry)) (now (marks .entry)) (now (correlations .entry)) (t .links) (now (msg .entry)) (now (hold .entry)) (t .passed) (t .index) (t .o)) r (now (out .exit)) ⌝ }
+{
+    let o = t.o;
+    let x = sent::sent_at(o, t.passed, t.index, tags, lengths, marks, correlations);
     let shown = sent::body(msg, hold, x.held, x.from, x.to);
-    let size = outgoing::size_of(f, msg, shown, iid, owner, links);
-    if out.len() - at < size {
+    let size = part_size(x, msg, shown, iid, owner, t.links);
+    if out.len() - t.at < size {
         return size;
     }
-    outgoing::put_form(f, size, msg, shown, iid, owner, links, out, at);
+    if o.to == LINK_SIDE {
+        return size;
+    }
+    let u = x.unit;
+    let form = outgoing::form_of(x.passed, o, u);
+    outgoing::put_form(form, size, msg, shown, iid, owner, t.links, out, t.at);
     size
 }
 
@@ -113,18 +152,26 @@ pub extern "C" fn m2ua_order<'a>(
         &g.held.count,
         &after,
     );
-    let x = sent::sent_at(
+    let turn = Turn {
         o,
+        index: u,
         passed,
-        u,
+        links: gateway::wide(g.links),
+        at: 0,
+    };
+    let lent = received(kind, msg);
+    let size = put_new(
+        turn,
+        lent,
+        hold,
+        &g.iid,
+        &g.owner,
         &g.held.tag,
         &g.held.length,
         &g.held.marked,
         &g.held.correlation,
+        out,
     );
-    let links = gateway::wide(g.links);
-    let lent = received(kind, msg);
-    let size = put_new(x, links, 0, lent, hold, &g.iid, &g.owner, out);
     if out.len() < size {
         return Written {
             code: SHORT_BUFFER,
@@ -254,9 +301,25 @@ fn put_many<'a, 'b>(
         if repeats(words, place, n, run.passed) {
             size = put_again(out, at, size);
         } else {
-            let index = sent::index_at(list, d);
-            let x = sent::sent_at(o, run.passed, index, tags, lengths, marks, correlations);
-            size = put_new(x, run.links, at, msg, hold, iid, owner, out);
+            let turn = Turn {
+                o,
+                index: sent::index_at(list, d),
+                passed: run.passed,
+                links: run.links,
+                at,
+            };
+            size = put_new(
+                turn,
+                msg,
+                hold,
+                iid,
+                owner,
+                tags,
+                lengths,
+                marks,
+                correlations,
+                out,
+            );
         }
         if out.len() - at < size {
             return Reached {

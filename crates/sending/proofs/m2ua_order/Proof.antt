@@ -1,6 +1,6 @@
 -- `sending::m2ua_order`: the event's refusal, 104, 103, or the message. Assumes nothing.
 use Prim.Native.Nat.{ℕ, _<_}
-use mathlib.Core.Path.{_≡_, refl, sym, ap, _∙_, subst}
+use mathlib.Core.Path.{_≡_, refl, ap, _∙_}
 use mathlib.Core.Bool.{Bool, true, cond, not, _&&_}
 use mathlib.Core.List.{List}
 use native.Mathlib.Omega.{arith}
@@ -14,9 +14,8 @@ use Rattle.ask.specs.Happened.{happened}
 use Rattle.outgoing.specs.Send.{partAt}
 use Rattle.sent.specs.Inner.Words.{dataIn}
 use Rattle.sent.specs.Inner.Units.{goneList, index-small, if-small}
-use Rattle.sent.specs.Inner.Made.{heldOf, Long, Lies, lies}
-use Rattle.sent.specs.declared.Sent.{Sent}
-use Rattle.sending.specs.Inner.Part.{partShown, partFrom, PutIf, put-as, put-none, put-done, put-length}
+use Rattle.sent.specs.Inner.Made.{heldOf}
+use Rattle.sending.specs.Inner.Part.{partFrom, PutIf, put-as, put-none, put-done, put-length}
 use Rattle.sending.specs.Inner.There.{part-small}
 use Rattle.sending.specs.Inner.Ran.{Ran, Found, found, no-101, ran, part-called, long-called, part-is, sends-refused, sends-beyond, sends-side, sends-short, sends-all}
 use borrow.Author.Needs.{needs}
@@ -34,10 +33,10 @@ abbrev to-action : tie.After-unit-for → tie.After-action-at
 to-action c = c .before .before .before .before .before .before .before .before .before
 
 abbrev to-unit : tie.After-received → tie.After-unit-for
-to-unit c = c .before .before .before .before .before .before .before .before
+to-unit c = c .before .before
 
 abbrev to-received : tie.After-put-new → tie.After-received
-to-received c = c .before .before .before .before .before
+to-received c = c .before .before .before .before .before .before .before .before .before
 
 abbrev the-event : tie.After-m2ua-run → EventKind
 the-event c = happened (start c .args .kind) (start c .args .i) (start c .args .msg .now)
@@ -73,19 +72,8 @@ written-at c = let u = to-unit c in
     let z = start (to-run (to-action u)) .args in
     part-called (z .t1) (z .hold .now) (z .kind) (z .i) (z .msg .now) (ran-at (to-action u)) (z .place) (to-action u .before .before .if2 .left) (c .before .wide .ensures) (c .received .ensures) (to-action u .action-at .ensures) (unit-at u)
 
--- so of the action with its unit
-shown-at : (c : tie.After-received)
-    → (let z = start (to-run (to-action (to-unit c))) .args in partShown (z .t1 .iid) (z .t1 .owner) (c .before .wide .result) (c .received .result .now) (z .hold .now) (c .before .before .sent-at .result))
-    ≡ sought (to-action (to-unit c))
-shown-at c = let z = start (to-run (to-action (to-unit c))) .args in
-    ap (λ (x : Sent). partShown (z .t1 .iid) (z .t1 .owner) (c .before .wide .result) (c .received .result .now) (z .hold .now) x) (c .before .before .sent-at .ensures) ∙ written-at c
-
-long-at : (c : tie.After-unit-for) → heldOf (passed (to-action c)) (to-action c .action-at .result) ≡ true → Long (numberAt (start (to-run (to-action c)) .args .t1 .held .length) (c .unit-for .result))
-long-at u = let z = start (to-run (to-action u)) .args in
-    long-called (z .t1) (z .hold .now) (z .kind) (z .i) (z .msg .now) (ran-at (to-action u)) (z .place) (to-action u .before .before .if2 .left) (to-action u .action-at .ensures) (unit-at u)
-
-put-at : (c : tie.After-put-new) → PutIf (start (to-run (to-action (to-unit (to-received c)))) .args .out .now) 0 (sought (to-action (to-unit (to-received c)))) (c .put-new .result) (c .put-new .last .1 .1 .1 .1 .1 .1 .1 .0)
-put-at c = put-as (c .put-new .ensures) (shown-at (to-received c)) refl refl
+put-at : (c : tie.After-put-new) → PutIf (start (to-run (to-action (to-unit (to-received c)))) .args .out .now) 0 (sought (to-action (to-unit (to-received c)))) (c .put-new .result) (c .put-new .last .1 .1 .1 .1 .1 .1 .1 .1 .1 .0)
+put-at c = put-as (c .put-new .ensures) (written-at (to-received c)) refl refl
 
 returns : tie.Need-returns
 returns c = let e = c .before .before .before .before in sends-refused _ _ _ _ _ _ (no-101 _ (start e .args .hold .now) (the-event e) refl (e .m2ua-run .ensures)) (c .if1 .taken)
@@ -102,18 +90,17 @@ returns-3 c = sends-side _ _ _ _ _ (found-at (c .before .before)) (c .if3 .taken
 unit-for-requires : tie.Need-unit-for-requires
 unit-for-requires c κs = omega (arith, c .before .before .before .before .before .before .before .before .before .before .if2 .left, ran-at (c .before .before .before .before .before .before .before .before) .few)
 
-sent-at-requires : tie.Need-sent-at-requires
-sent-at-requires c κs = let u = c .before .before .before .before .before in (unit-small u, λ e. omega (arith, long-at u e .least))
-
 put-new-requires : tie.Need-put-new-requires
-put-new-requires c κs = let d = c .before .before .before .before in
+put-new-requires c κs = let d = c .before .before .before .before .before .before .before .before in
     let u = to-unit d in
     let t = ran-at (to-action u) in
     let z = start (to-run (to-action u)) .args in
     record {
       links = rw (d .before .wide .ensures) (counts-within _ (t .sound) .links);
-      lies = subst (λ (x : Sent). Lies (d .received .result .now) (z .hold .now) x) (sym (d .before .before .sent-at .ensures)) (lies (d .received .result .now) (z .hold .now) (z .t1 .held .tag) (z .t1 .held .length) (z .t1 .held .marked) (z .t1 .held .correlation) (passed (to-action u)) (u .unit-for .result) (to-action u .action-at .result) (t .whole) (unit-small u) (long-at u));
-      small = rw (shown-at d) (part-small _ _ _ _ (t .sound) (t .planned));
+      whole = t .whole;
+      place = unit-small u;
+      long = long-called (z .t1) (z .hold .now) (z .kind) (z .i) (z .msg .now) t (z .place) (to-action u .before .before .if2 .left) (to-action u .action-at .ensures) (unit-at u);
+      small = rw (written-at d) (part-small _ _ _ _ (t .sound) (t .planned));
       room = omega arith;
     }
 
@@ -139,5 +126,5 @@ pub m2ua-order-spec : {M : Type 1} → statement M
 m2ua-order-spec =
     tie.close
     (tie.spec
-    (λ c. search needs) (λ c. search needs) (λ c κs. search needs) returns returns-2 action-at-requires returns-3 (λ c κs. search needs) unit-for-requires sent-at-requires (λ c κs. search needs) (λ c κs. search needs)
+    (λ c. search needs) (λ c. search needs) (λ c κs. search needs) returns returns-2 action-at-requires returns-3 (λ c κs. search needs) unit-for-requires (λ c κs. search needs) (λ c κs. search needs)
     put-new-requires (λ c. search needs) returns-4 (λ c. search needs) returns-5)

@@ -1,6 +1,6 @@
 -- `sending::put_many`: the parts written so far, and that none of them was the last. Assumes nothing.
 use Prim.Native.Nat.{ℕ, _+_, _-_, _<_, _≤_}
-use mathlib.Core.Path.{_≡_, refl, sym, ap, _∙_, subst}
+use mathlib.Core.Path.{_≡_, refl, sym, ap, _∙_}
 use mathlib.Core.Bool.{true}
 use mathlib.Core.List.{List}
 use mathlib.Core.Logic.{⊎-elim}
@@ -14,9 +14,8 @@ use Rattle.laws.specs.Columns.{numberAt}
 use Rattle.action.specs.declared.Action.{Action}
 use Rattle.rules.specs.Sent.{isData}
 use Rattle.sent.specs.Inner.Words.{dataIn, data-more, data-small}
-use Rattle.sent.specs.Inner.Made.{heldOf, Long, Lies, lies}
-use Rattle.sent.specs.declared.Sent.{Sent}
-use Rattle.sending.specs.Inner.Part.{Lent, lentOf, indexIn, madeIn, partShown, partIn, part-of, PutIf, put-as, put-length, put-none, put-done}
+use Rattle.sent.specs.Inner.Made.{heldOf}
+use Rattle.sending.specs.Inner.Part.{Lent, lentOf, indexIn, madeIn, partIn, part-of, PutIf, put-as, put-length, put-none, put-done}
 use Rattle.sending.specs.Inner.Alike.{repeats-part}
 use Rattle.sending.specs.Inner.Batch.{Filled, StandsBefore, filled-none, filled-lens, filled-out, filled-more, filled-as, filled-before, ends-all, ends-slots, ends-room}
 use borrow.Author.Needs.{needs}
@@ -75,24 +74,12 @@ index-now c = let n = to-loop (c .before .before .before) in c .index-at .ensure
 made-now : (c : tie.After-index-at Inv-loop μ-loop) → madeIn (lent (to-loop (c .before .before .before))) (c .index-at .result) (c .before .before .before .action-at .result) ≡ next (to-loop (c .before .before .before))
 made-now c = let n = to-loop (c .before .before .before) in part-of (lent n) (here n) _ _ (c .before .before .before .before .before .if1 .left) (index-now c) (c .before .before .before .action-at .ensures)
 
-shown-now : (c : tie.After-sent-at Inv-loop μ-loop)
-    → (let v = lent (to-loop (c .before .before .before .before)) in partShown (v .iid) (v .owner) (v .run .links) (v .msg) (v .hold) (c .sent-at .result)) ≡ next (to-loop (c .before .before .before .before))
-shown-now c = let v = lent (to-loop (c .before .before .before .before)) in ap (λ (x : Sent). partShown (v .iid) (v .owner) (v .run .links) (v .msg) (v .hold) x) (c .sent-at .ensures) ∙ made-now (c .before)
-
-place-now : (c : tie.After-index-at Inv-loop μ-loop) → c .index-at .result < 128
-place-now c = let n = to-loop (c .before .before .before) in rw (index-now c) (start n .pre .indices (dataIn (lent n .words) (here n)))
-
-long-now : (c : tie.After-index-at Inv-loop μ-loop)
-    → heldOf (lent (to-loop (c .before .before .before)) .run .passed) (c .before .before .before .action-at .result) ≡ true → Long (numberAt (lent (to-loop (c .before .before .before)) .lengths) (c .index-at .result))
-long-now c e = let n = to-loop (c .before .before .before) in
-    rw (index-now c) (start n .pre .long (here n) (c .before .before .before .before .before .if1 .left) (ap (λ (o : Action). heldOf (lent n .run .passed) o) (sym (c .before .before .before .action-at .ensures)) ∙ e))
-
 -- either way this is what is put, where it goes in
 put-now : (c : tie.Joined3 Inv-loop μ-loop) → PutIf (to-loop (c .before .before) .loop .out) (to-loop (c .before .before) .loop .at) (next (to-loop (c .before .before))) (c .if3 .size) (c .if3 .out)
 put-now c = let n = to-loop (c .before .before) in
     ⊎-elim
     (λ w. let t = w .0 .taken in let e = last-now (c .before) t in put-as (w .2 .ensures) ((λ y. take (e y) (drop (n .loop .at - e y) (n .loop .out))) ∙ stands-now (c .before) t .stand) (w .6) (w .5))
-    (λ w. put-as (w .4 .ensures) (shown-now (record { before = record { before = record { before = c .before; if3 = w .0 }; index-at = w .1 }; sent-at = w .2 })) (w .8) (w .7))
+    (λ w. put-as (w .3 .ensures) (made-now (record { before = record { before = c .before; if3 = w .0 }; index-at = w .1 })) (w .7) (w .6))
     (c .if3 .came)
 
 data-before-requires : tie.Need-data-before-requires Inv-loop μ-loop
@@ -141,20 +128,17 @@ put-again-requires c κs = let d = c .before .before in
 index-at-requires : tie.Need-index-at-requires Inv-loop μ-loop
 index-at-requires c κs = search needs
 
-sent-at-requires : tie.Need-sent-at-requires Inv-loop μ-loop
-sent-at-requires c κs = (place-now c, λ e. omega (arith, long-now c e .least))
-
 put-new-requires : tie.Need-put-new-requires Inv-loop μ-loop
 put-new-requires c κs = let d = c .before in
-    let i = d .before in
-    let n = to-loop (i .before .before .before) in
-    let v = lent n in
+    let n = to-loop (d .before .before .before) in
     let p = start n .pre in
     let h = n .loop .inv .1 in
     record {
       links = p .links;
-      lies = subst (λ (x : Sent). Lies (v .msg) (v .hold) x) (sym (d .sent-at .ensures)) (lies (v .msg) (v .hold) (v .tags) (v .lengths) (v .marks) (v .correlations) (v .run .passed) (i .index-at .result) (i .before .before .before .action-at .result) (p .whole) (place-now i) (long-now i));
-      small = rw (shown-now d) (small-now n);
+      whole = p .whole;
+      place = rw (index-now d) (p .indices (dataIn (lent n .words) (here n)));
+      long = λ e. rw (index-now d) (p .long (here n) (d .before .before .before .before .before .if1 .left) (ap (λ (o : Action). heldOf (lent n .run .passed) o) (sym (d .before .before .before .action-at .ensures)) ∙ e));
+      small = rw (made-now d) (small-now n);
       room = omega (arith, h .goes-in, filled-out h);
     }
 
@@ -238,7 +222,6 @@ put-many-spec =
     repeats-requires
     put-again-requires
     index-at-requires
-    sent-at-requires
     put-new-requires
     sub-if4
     same-length-5

@@ -25,9 +25,10 @@ use Rattle.outgoing.specs.Message.{heldBody, sentPars, sentBytes}
 use Rattle.outgoing.specs.Inner.Form.{formPars, classOf, typeOf, formOf, unitOf, sent-form, form-cases, form-class, other-form, other-pars}
 use Rattle.outgoing.specs.declared.Form.{Form}
 use Rattle.sending.specs.declared.Run.{Run}
+use Rattle.sending.specs.declared.Turn.{Turn}
 use Rattle.sent.specs.declared.Sent.{Sent}
 use Rattle.sent.specs.Inner.Words.{actionIn, dataIn}
-use Rattle.sent.specs.Inner.Made.{heldOf, sentOf, shown, Long, Lies}
+use Rattle.sent.specs.Inner.Made.{heldOf, sentOf, shown, Long}
 
 -- ---- what is written for an action
 
@@ -38,14 +39,10 @@ unfoldable pub partOf : List ℕ → List ℕ → ℕ → List ℕ → List ℕ 
 partOf iid owner n s body x =
     cond (eqb (x .o .to) linkSide) [] (encode (formIn x .class) (formIn x .msgtype) (formPars iid owner n (walk s 8 .pars) body (formIn x)))
 
--- with the data that it shows, of the message s or the hold h
-abbrev pub partShown : List ℕ → List ℕ → ℕ → List ℕ → List ℕ → Sent → List ℕ
-partShown iid owner n s h x = partOf iid owner n s (shown s h x) x
-
 -- of the columns of links and units: n links, the message s, the hold h, and the action o with the unit at index i
 abbrev pub partMade : List ℕ → List ℕ → List ℕ → List ℕ → List ℕ → List ℕ → ℕ → List ℕ → List ℕ → Bool → ℕ → Action → List ℕ
 partMade iid owner tags lengths marks correlations n s h passed i o =
-    partShown iid owner n s h (sentOf tags lengths marks correlations passed i o)
+    partOf iid owner n s (shown s h (sentOf tags lengths marks correlations passed i o)) (sentOf tags lengths marks correlations passed i o)
 
 -- of the state g with the hold h: n links, the message s, and the action o with the unit at index i
 abbrev pub sentFrom : Gateway → Bool → ℕ → Action → Sent
@@ -86,11 +83,13 @@ module _ {out : List ℕ} {at : ℕ} {p : List ℕ} {r : ℕ} {out′ : List ℕ
   put-done l = w .bytes ∙ rw (le-ltb (length out - at) r (omega (arith, l, put-length w)))
 
 -- what the writer of one asks for
-pub record Fits (iid owner : List ℕ) (n : ℕ) (s h : List ℕ) (x : Sent) (at : ℕ) (out : List ℕ) : Type 0 where
-  pub links : n ≤ 128
-  pub lies : Lies s h x
-  pub small : length (partShown iid owner n s h x) ≤ 2048
-  pub room : at ≤ length out
+pub record Fits (iid owner tags lengths marks correlations : List ℕ) (t : Turn) (s h out : List ℕ) : Type 0 where
+  pub links : t .links ≤ 128
+  pub whole : length h ≡ 34944
+  pub place : t .index < 128
+  pub long : heldOf (t .passed) (t .o) ≡ true → Long (numberAt lengths (t .index))
+  pub small : length (partMade iid owner tags lengths marks correlations (t .links) s h (t .passed) (t .index) (t .o)) ≤ 2048
+  pub room : t .at ≤ length out
 
 -- ---- what is lent to the writer of many
 
@@ -148,7 +147,7 @@ pub record Ready (v : Lent) : Type 0 where
   pub long : (j : ℕ) → j < v .run .count → heldOf (v .run .passed) (actionIn (v .words) j) ≡ true → Long (numberAt (v .lengths) (indexIn v j))
   pub small : (j : ℕ) → length (partIn v j) ≤ 2048
 
--- ---- in the words of the writer
+-- ---- in the words of the writer's two functions
 
 module _ (iid owner : List ℕ) (n : ℕ) (s body : List ℕ) (x : Sent) where
   pub to-side : eqb (x .o .to) linkSide ≡ true → partOf iid owner n s body x ≡ []
