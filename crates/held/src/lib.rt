@@ -9,7 +9,7 @@ ghost use Rattle.laws.specs.Columns.{numberAt};
 ghost use Rattle.gateway.specs.Sound.{ascends, isSound, sized, allUnits};
 ghost use Rattle.gateway.specs.Inner.Sound.{unitsOf};
 ghost use Rattle.lookup.specs.Links.{indexOf};
-ghost use Rattle.held.specs.Inner.Sound.{isSoundOf, narrowBlank, wideBlank, blankPlaces, noneCounted, countsFit, dataFit, fieldsFit, idsFit, emptyFit, emptiesFit, rowsFit};
+ghost use Rattle.held.specs.Inner.Sound.{isSoundOf, narrowBlank, wideBlank, blankPlaces, noneCounted, countsFit, dataFit, fieldsFit, idsFit, emptyFit, emptiesFit, rowFit, rowsFit};
 
 // n places of three columns, or of two, are zero. Columns of one width in one loop without a branch: so it becomes operations on 16 bytes.
 fn narrow_blank<'a>(
@@ -154,7 +154,7 @@ fn ids_ok<'a>(
     true
 }
 
-// The places of an AS that holds n, where n is 0.
+// The places of an AS that holds n, where n is 0; and where it is not.
 fn empty_ok<'a>(
     tag: &'a [u16; 128],
     length: &'a [u16; 128],
@@ -173,7 +173,31 @@ fn empty_ok<'a>(
     true
 }
 
-// Two loops over the ASes, of those that hold none and of those that hold some: of one the compiler makes slower code.
+fn row_ok<'a>(
+    tag: &'a [u16; 128],
+    length: &'a [u16; 128],
+    marked: &'a [u16; 128],
+    id: &'a [u32; 128],
+    correlation: &'a [u32; 128],
+    iid: &'a [u32; 128],
+    owner: &'a [u8; 128],
+    links: usize,
+    n: usize,
+    a: usize,
+) -> bool
+    requires { ⌜ (links ≤ 128) × (ascends (now iid) links ≡ true) × (a < 16) × (n ≤ 8) ⌝ }
+    ensures { λ r. ⌜ r ≡ rowFit (now (tag .entry)) (now (length .entry)) (now (marked .entry)) (now (id .entry)) (now (correlation .entry)) (now (iid .entry)) (now (owner .entry)) links n a ⌝ }
+{
+    if n == 0 {
+        return true;
+    }
+    let x = fields_ok(tag, length, marked, correlation, a * 8, n);
+    let y = ids_ok(id, iid, owner, links, a, n);
+    let z = blank(tag, length, marked, id, correlation, a * 8 + n, 8 - n);
+    x & (y & z)
+}
+
+// Two loops over the ASes: of one the compiler makes slower code.
 fn empties_ok<'a>(
     count: &'a [u8; 16],
     tag: &'a [u16; 128],
@@ -208,13 +232,18 @@ fn rows_ok<'a>(
 {
     for a in 0..16usize {
         let n = gateway::wide(count[a]);
-        if n == 0 {
-            continue;
-        }
-        let x = fields_ok(tag, length, marked, correlation, a * 8, n);
-        let y = ids_ok(id, iid, owner, links, a, n);
-        let z = blank(tag, length, marked, id, correlation, a * 8 + n, 8 - n);
-        if !(x & (y & z)) {
+        if !row_ok(
+            tag,
+            length,
+            marked,
+            id,
+            correlation,
+            iid,
+            owner,
+            links,
+            n,
+            a,
+        ) {
             return false;
         }
     }
