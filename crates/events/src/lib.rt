@@ -67,8 +67,8 @@ fn decided<'a>(
         }
         Ask::Lost(p) => asps::lost_work(member, p),
         Ask::Recovery(a) => asps::recovery_work(a),
-        Ask::LinkUp(l) => links::link_up(links, active, mode, iid, owner, state, l),
-        Ask::LinkDown(l) => links::link_down(links, active, mode, iid, owner, state, l),
+        Ask::LinkUp(l) => links::link_turns(true, links, active, mode, iid, owner, state, l),
+        Ask::LinkDown(l) => links::link_turns(false, links, active, mode, iid, owner, state, l),
         Ask::LinkMessage(r) => {
             links::link_message(msg, links, active, mode, waiting, count, iid, owner, at, r)
         }

@@ -22,7 +22,7 @@ ghost use Rattle.rules.specs.Effect.{send, setLink, takeIn};
 ghost use Rattle.rules.specs.Rules.{fromLink};
 ghost use Rattle.work.specs.Inner.Decides.{Decides, DecidesOn};
 ghost use Rattle.links.specs.Inner.Recipients.{recipientsAt, pendingAt, SideColumns, SideHeld};
-ghost use Rattle.links.specs.Inner.Six.{dataTree, sixAt, SixColumns};
+ghost use Rattle.links.specs.Inner.Six.{dataTree, SixColumns};
 ghost use Rattle.links.specs.Inner.Side.{placeWith, placeOf, Side, Fits};
 ghost use Rattle.action.specs.Types.{establishConfirm, releaseConfirm, releaseIndication};
 
@@ -121,8 +121,8 @@ fn link_work(p: usize, x: u32, l: usize, st: u8, r: Reading) -> Decision
     work::nothing()
 }
 
-// The questions of Rule 7.14, of the link at l.
-fn six_at<'a>(
+// A message of class 6 that ASPs send: the questions of Rule 7.14, of the link that it names.
+pub fn class_six<'a>(
     links: usize,
     up: &'a [u8; 16],
     member: &'a [u8; 256],
@@ -132,12 +132,12 @@ fn six_at<'a>(
     state: &'a [u8; 128],
     highspeed: &'a [u8; 128],
     p: usize,
-    l: usize,
     r: Reading,
 ) -> Decision
     requires { ⌜ Table (now iid) (now owner) links × (p < 16) ⌝ }
-    ensures { λ w. ⌜ Decides w (sixAt links (now (up .entry)) (now (member .entry)) (now (active .entry)) (now (owner .entry)) (now (state .entry)) (now (highspeed .entry)) p l r) ⌝ }
+    ensures { λ w. ⌜ DecidesOn (SixColumns links (now (up .entry)) (now (member .entry)) (now (active .entry)) (now (iid .entry)) (now (owner .entry)) (now (state .entry)) (now (highspeed .entry))) (λ g. classSixEffect g p r) w ⌝ }
 {
+    let l = lookup::index_of(iid, links, r.id);
     if up[p] == 1 {
         if l < links {
             let a = owner[l] as usize;
@@ -157,38 +157,6 @@ fn six_at<'a>(
         return work::error_two(p, r.id);
     }
     work::error(p, 6)
-}
-
-// A message of class 6 that ASPs send (Rule 7.14).
-pub fn class_six<'a>(
-    links: usize,
-    up: &'a [u8; 16],
-    member: &'a [u8; 256],
-    active: &'a [u8; 256],
-    iid: &'a [u32; 128],
-    owner: &'a [u8; 128],
-    state: &'a [u8; 128],
-    highspeed: &'a [u8; 128],
-    p: usize,
-    r: Reading,
-) -> Decision
-    requires { ⌜ Table (now iid) (now owner) links × (p < 16) ⌝ }
-    ensures { λ w. ⌜ DecidesOn (SixColumns links (now (up .entry)) (now (member .entry)) (now (active .entry)) (now (iid .entry)) (now (owner .entry)) (now (state .entry)) (now (highspeed .entry))) (λ g. classSixEffect g p r) w ⌝ }
-{
-    let l = lookup::index_of(iid, links, r.id);
-    six_at(
-        links,
-        up,
-        member,
-        active,
-        iid,
-        owner,
-        state,
-        highspeed,
-        p,
-        l,
-        r,
-    )
 }
 
 // ---- to the recipients of the link at l
@@ -251,8 +219,9 @@ fn down_at(l: usize, st: u8, who: [bool; 16], classtype: u32, x: u32) -> Decisio
     work::turn_spread(l, 0, who, classtype, x)
 }
 
-// Link up (Rule 7.20).
-pub fn link_up<'a>(
+// The link goes up (Rule 7.20), or down (Rule 7.21).
+pub fn link_turns<'a>(
+    up: bool,
     links: usize,
     active: &'a [u8; 256],
     mode: &'a [u8; 16],
@@ -262,26 +231,12 @@ pub fn link_up<'a>(
     l: usize,
 ) -> Decision
     requires { ⌜ Table (now iid) (now owner) links × (l < links) ⌝ }
-    ensures { λ w. ⌜ DecidesOn (SideColumns links (now (active .entry)) (now (mode .entry)) (now (iid .entry)) (now (owner .entry)) (now (state .entry))) (λ g. linkUpEffect g l) w ⌝ }
+    ensures { λ w. ⌜ DecidesOn (SideColumns links (now (active .entry)) (now (mode .entry)) (now (iid .entry)) (now (owner .entry)) (now (state .entry))) (λ g. cond up (linkUpEffect g l) (linkDownEffect g l)) w ⌝ }
 {
     let who = recipients_at(links, active, mode, iid, owner, l);
-    up_at(l, state[l], who, iid[l])
-}
-
-// Link down (Rule 7.21).
-pub fn link_down<'a>(
-    links: usize,
-    active: &'a [u8; 256],
-    mode: &'a [u8; 16],
-    iid: &'a [u32; 128],
-    owner: &'a [u8; 128],
-    state: &'a [u8; 128],
-    l: usize,
-) -> Decision
-    requires { ⌜ Table (now iid) (now owner) links × (l < links) ⌝ }
-    ensures { λ w. ⌜ DecidesOn (SideColumns links (now (active .entry)) (now (mode .entry)) (now (iid .entry)) (now (owner .entry)) (now (state .entry))) (λ g. linkDownEffect g l) w ⌝ }
-{
-    let who = recipients_at(links, active, mode, iid, owner, l);
+    if up {
+        return up_at(l, state[l], who, iid[l]);
+    }
     down_at(l, state[l], who, down_type(state[l]), iid[l])
 }
 

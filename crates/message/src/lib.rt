@@ -292,22 +292,10 @@ fn bare(musts: u32, c: u8, t: u8) -> Reading
     if musts != 0 {
         return refused(MISSING_PARAMETER);
     }
-    Reading {
-        code: 0,
-        class: c as u32,
-        msgtype: t as u32,
-        ids: 0,
-        id: 0,
-        mode: 0,
-        identified: 0,
-        aspid: 0,
-        correlated: 0,
-        correlation: 0,
-        state: 0,
-        retrieval: 0,
-        sequenced: 0,
-        sequence: 0,
-    }
+    let mut r = refused(0);
+    r.class = c as u32;
+    r.msgtype = t as u32;
+    r
 }
 
 // The checks 6 to 8, of a message whose row is known.

@@ -22,7 +22,7 @@ ghost use Rattle.put.specs.Bytes.{overlay, bytes32, par, parsBytes};
 ghost use Rattle.encode.specs.Encode.{sizeOf, encode};
 ghost use Rattle.select.specs.Inner.Picks.{PutBytes, PutPars};
 ghost use Rattle.outgoing.specs.Message.{numberPar};
-ghost use Rattle.outgoing.specs.Inner.Form.{owns, idsIn, heldPars, saidPars, listedPars, copiedPars, formPars, dataSize, listedSize, FormFits, saying, releasing, listing, copying, formOf};
+ghost use Rattle.outgoing.specs.Inner.Form.{owns, idsIn, heldPars, saidPars, listedPars, copiedPars, formPars, dataSize, listedSize, FormFits, numbered, saying, releasing, listing, copying, formOf};
 
 // What a call did that writes many actions: 0, how many actions it went through, and the bytes of their messages; or the number of the refusal and zeros.
 #[repr(C)]
@@ -72,9 +72,18 @@ pub struct Form {
 
 // ---- the form of an action
 
-// One number, or two.
-fn say(classtype: u32, tag: u16, number: u32, two: bool, tag2: u16, number2: u32) -> Form
-    ensures { λ r. ⌜ r ≡ saying classtype tag number two tag2 number2 ⌝ }
+// One number, or two, and where `listed` the identifiers of an AS.
+fn numbers(
+    classtype: u32,
+    tag: u16,
+    number: u32,
+    two: bool,
+    tag2: u16,
+    number2: u32,
+    listed: bool,
+    owned: usize,
+) -> Form
+    ensures { λ r. ⌜ r ≡ numbered classtype tag number two tag2 number2 listed owned ⌝ }
 {
     Form {
         class: (classtype / 256 % 256) as u8,
@@ -87,11 +96,25 @@ fn say(classtype: u32, tag: u16, number: u32, two: bool, tag2: u16, number2: u32
         two,
         tag2,
         number2,
-        listed: false,
-        owned: 0,
+        listed,
+        owned,
         first: Which::Nothing,
         after: Which::Nothing,
     }
+}
+
+// One number, or two.
+fn say(classtype: u32, tag: u16, number: u32, two: bool, tag2: u16, number2: u32) -> Form
+    ensures { λ r. ⌜ r ≡ saying classtype tag number two tag2 number2 ⌝ }
+{
+    numbers(classtype, tag, number, two, tag2, number2, false, 0)
+}
+
+// One number, and the identifiers of an AS.
+fn list(classtype: u32, tag: u16, number: u32, owned: u32) -> Form
+    ensures { λ r. ⌜ r ≡ listing classtype tag number owned ⌝ }
+{
+    numbers(classtype, tag, number, false, 0, 0, true, owned as usize)
 }
 
 // The identifier of a link, a unit of that link that was held, and its correlation id where it has one (Rule 8.18).
@@ -111,28 +134,6 @@ fn release(classtype: u32, link: u32, u: Unit) -> Form
         number2: u.correlation,
         listed: false,
         owned: 0,
-        first: Which::Nothing,
-        after: Which::Nothing,
-    }
-}
-
-// One number, and the identifiers of an AS.
-fn list(classtype: u32, tag: u16, number: u32, owned: u32) -> Form
-    ensures { λ r. ⌜ r ≡ listing classtype tag number owned ⌝ }
-{
-    Form {
-        class: (classtype / 256 % 256) as u8,
-        msgtype: (classtype % 256) as u8,
-        one: true,
-        tag,
-        number,
-        held: false,
-        heldtag: 0,
-        two: false,
-        tag2: 0,
-        number2: 0,
-        listed: true,
-        owned: owned as usize,
         first: Which::Nothing,
         after: Which::Nothing,
     }

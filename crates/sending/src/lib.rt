@@ -66,39 +66,6 @@ fn part_size<'a>(
     )
 }
 
-// What is written for an action, at a position; its size is known.
-fn put_part<'a>(
-    x: Sent,
-    size: usize,
-    msg: &[u8],
-    body: &[u8],
-    iid: &'a [u32; 128],
-    owner: &'a [u8; 128],
-    links: usize,
-    out: &mut [u8],
-    at: usize,
-)
-    requires { ⌜ (links ≤ 128) × (length (now body) ≤ 273) × (size ≡ length (partOf (now iid) (now owner) links (now msg) (now body) x)) × (size ≤ 2048) × (at + size ≤ length (now out)) ⌝ }
-    ensures { λ _. ⌜ now (out .exit) ≡ overlay (now (out .entry)) at (partOf (now (iid .entry)) (now (owner .entry)) links (now (msg .entry)) (now (body .entry)) x) ⌝ }
-{
-    let o = x.o;
-    if o.to == LINK_SIDE {
-        return;
-    }
-    let u = x.unit;
-    outgoing::put_form(
-        outgoing::form_of(x.passed, o, u),
-        size,
-        msg,
-        body,
-        iid,
-        owner,
-        links,
-        out,
-        at,
-    );
-}
-
 // An action whose message is made: its unit's index, whether it passes the received message on, how many links there are, and where it goes.
 pub struct Turn {
     pub o: Action,
@@ -131,7 +98,12 @@ fn put_new<'a, 'b>(
     if out.len() - t.at < size {
         return size;
     }
-    put_part(x, size, msg, shown, iid, owner, t.links, out, t.at);
+    if o.to == LINK_SIDE {
+        return size;
+    }
+    let u = x.unit;
+    let form = outgoing::form_of(x.passed, o, u);
+    outgoing::put_form(form, size, msg, shown, iid, owner, t.links, out, t.at);
     size
 }
 

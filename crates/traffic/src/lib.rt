@@ -52,38 +52,6 @@ fn named_par<'a>(
     naming::passes(set)
 }
 
-// The first refused identifier, parameters in received order; or the ASes that own those named (Rule 7.8).
-fn named_of<'a>(
-    s: &[u8],
-    links: usize,
-    member: &'a [u8; 256],
-    iid: &'a [u32; 128],
-    owner: &'a [u8; 128],
-    p: usize,
-) -> Named
-    requires { ⌜ Table (now iid) (now owner) links × (p < 16) ⌝ }
-    ensures { λ r. ⌜ Names r (refusedPars (isRefused (now (iid .entry)) (now (owner .entry)) (now (member .entry)) links p) (walk (now (s .entry)) 8 .pars)) (ownersPars (isOwnedBy (now (iid .entry)) (now (owner .entry)) links) (walk (now (s .entry)) 8 .pars)) ⌝ }
-{
-    let mut set: u32 = 0;
-    let mut at: usize = 8;
-    loop {
-        let w = wire::step_at(s, at);
-        let Step::Param { tag, len, next } = w else {
-            return naming::passes(set);
-        };
-        let start = at + 4;
-        let stop = at + len as usize;
-        let e = named_par(set, tag, &s[start..stop], links, member, iid, owner, p);
-        let f = e.refused;
-        if f.found {
-            return e;
-        }
-        let new = e.set;
-        set = new;
-        at = next;
-    }
-}
-
 // ---- Active and Inactive
 
 // Whether the mode of some AS named is not m.
@@ -168,7 +136,8 @@ fn names_none(ids: bool, named: u32) -> bool
     !ids & (named % 65536 == 0)
 }
 
-// What a message names: by its identifiers, and without any all of p's ASes.
+// What a message names (Rule 7.8): by its identifiers the first that is refused, parameters in received order, or the ASes that own them; and without any all
+// of p's ASes.
 fn aim<'a>(
     ids: bool,
     s: &[u8],
@@ -181,10 +150,27 @@ fn aim<'a>(
     requires { ⌜ Table (now iid) (now owner) links × (p < 16) ⌝ }
     ensures { λ r. ⌜ Aims r ids (refusedPars (isRefused (now (iid .entry)) (now (owner .entry)) (now (member .entry)) links p) (walk (now (s .entry)) 8 .pars)) (ownersPars (isOwnedBy (now (iid .entry)) (now (owner .entry)) links) (walk (now (s .entry)) 8 .pars)) (columnOf (now (member .entry)) p) ⌝ }
 {
-    if ids {
-        return named_of(s, links, member, iid, owner, p);
+    if !ids {
+        return naming::passes(ases_of(member, p));
     }
-    naming::passes(ases_of(member, p))
+    let mut set: u32 = 0;
+    let mut at: usize = 8;
+    loop {
+        let w = wire::step_at(s, at);
+        let Step::Param { tag, len, next } = w else {
+            return naming::passes(set);
+        };
+        let start = at + 4;
+        let stop = at + len as usize;
+        let e = named_par(set, tag, &s[start..stop], links, member, iid, owner, p);
+        let f = e.refused;
+        if f.found {
+            return e;
+        }
+        let new = e.set;
+        set = new;
+        at = next;
+    }
 }
 
 // Active, where on holds, and Inactive (Rules 7.8 to 7.10).

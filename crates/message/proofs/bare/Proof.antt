@@ -7,4 +7,4 @@ use Rattle.message.proofs.bare.Tie as tie
 
 pub bare-spec : {M : Type 1} → statement M
 unfolding meaning has number
-bare-spec = tie.close (tie.spec (search needs) (λ c. search choices depth 9) (λ c. search choices depth 9))
+bare-spec = tie.close (tie.spec (search needs) (λ c. search choices depth 9) (search needs) (λ c. rw (c .refused2 .ensures) (search choices depth 9)))

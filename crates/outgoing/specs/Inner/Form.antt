@@ -81,9 +81,9 @@ classOf ct = ct / 256 % 256
 abbrev pub typeOf : ℕ → ℕ
 typeOf ct = ct % 256
 
--- one number, or two
-abbrev pub saying : ℕ → ℕ → ℕ → Bool → ℕ → ℕ → Form
-saying ct tag number two tag2 number2 =
+-- one number, or two, and where l holds the identifiers of AS a
+abbrev pub numbered : ℕ → ℕ → ℕ → Bool → ℕ → ℕ → Bool → ℕ → Form
+numbered ct tag number two tag2 number2 l a =
     record {
       class = classOf ct;
       msgtype = typeOf ct;
@@ -95,11 +95,19 @@ saying ct tag number two tag2 number2 =
       two = two;
       tag2 = tag2;
       number2 = number2;
-      listed = false;
-      owned = 0;
+      listed = l;
+      owned = a;
       first = Nothing;
       after = Nothing;
     }
+
+-- one number, or two
+abbrev pub saying : ℕ → ℕ → ℕ → Bool → ℕ → ℕ → Form
+saying ct tag number two tag2 number2 = numbered ct tag number two tag2 number2 false 0
+
+-- one number, and the identifiers of an AS
+abbrev pub listing : ℕ → ℕ → ℕ → ℕ → Form
+listing ct tag number a = numbered ct tag number false 0 0 true a
 
 -- the identifier of a link, and a unit of it
 abbrev pub releasing : ℕ → ℕ → Unit → Form
@@ -117,26 +125,6 @@ releasing ct link u =
       number2 = u .correlation;
       listed = false;
       owned = 0;
-      first = Nothing;
-      after = Nothing;
-    }
-
--- one number, and the identifiers of an AS
-abbrev pub listing : ℕ → ℕ → ℕ → ℕ → Form
-listing ct tag number a =
-    record {
-      class = classOf ct;
-      msgtype = typeOf ct;
-      one = true;
-      tag = tag;
-      number = number;
-      held = false;
-      heldtag = 0;
-      two = false;
-      tag2 = 0;
-      number2 = 0;
-      listed = true;
-      owned = a;
       first = Nothing;
       after = Nothing;
     }

@@ -1,19 +1,70 @@
-use mathlib.Core.Path.{_∙_, ap, sym}
-use mathlib.Core.Bool.{false≢true}
+-- `traffic::aim`: without identifiers all of p's ASes, else one parameter after the other. Assumes nothing.
+use Rattle.traffic.specs.Inner.Aims.{Aims, aims-all, aims-named}
+use Rattle.traffic.specs.Inner.Named.{refusedPars, refused-here, refused-later, Owners, owners-none, owners-more, owners-end}
+use Rattle.ranges.specs.Named.{isRefused, isOwnedBy}
+use Rattle.naming.specs.Inner.Laws.{names-found, names-none}
+use Rattle.naming.specs.Inner.Bits.{flagsOf, flags-zero}
+use Rattle.ranges.specs.Inner.Laws.{Table}
+use Rattle.wire.proofs.Steps.{step-next, Next, pars-next, pars-stop}
+use Rattle.wire.specs.declared.Step.the-variants.{Param}
+use Rattle.wire.specs.Walk.{stepAt, walk}
+use lib.ListN.{length}
+use mathlib.Core.Path.{_≡_, refl, sym, ap, _∙_}
+use Prim.Native.Nat.{_<_, _-_}
+use native.Mathlib.Omega.{arith}
 use borrow.Author.Needs.{needs}
-use Rattle.naming.specs.Inner.Bits.{flagsOf}
 use Rattle.traffic.proofs.aim.Statement.{statement}
 use Rattle.traffic.proofs.aim.Tie as tie
 
-returns-2 : tie.Need-returns-2
-returns-2 c = record { named = λ h. absurd (false≢true (sym (c .before .before .if1 .left) ∙ h)); all = λ h. (c .passes .ensures .0, ap flagsOf (c .passes .ensures .1) ∙ c .before .ases-of .ensures) }
+abbrev Inv-loop : tie.InvT-loop
+Inv-loop ids s links member iid owner p set₀ at₀ set at = (refusedPars (isRefused iid owner member links p) (walk s at .pars) ≡ refusedPars (isRefused iid owner member links p) (walk s 8 .pars)) × Owners (isOwnedBy iid owner links) (walk s at .pars) (walk s 8 .pars) (flagsOf set) × Table iid owner links × (p < 16)
+
+abbrev μ-loop : tie.MeasureT-loop
+μ-loop ids s links member iid owner p set₀ at₀ set at = length s - at
+
+-- the reading is the walk's, and the parameter lies within the message
+reads-at : (c : tie.After-known-told Inv-loop μ-loop)
+    → stepAt (c .before .before .before .before .before .before .before .args .s .now) (c .before .before .before .before .loop .at)
+    ≡ Param (c .before .w .given .0 .0) (c .before .w .given .0 .1 .0) (c .before .w .given .0 .1 .1 .0)
+reads-at c = sym (c .before .before .before .step-at .ensures) ∙ c .before .w .given .1
+
+next-at : (c : tie.After-known-told Inv-loop μ-loop)
+    → Next (c .before .before .before .before .before .before .before .args .s .now) (c .before .before .before .before .loop .at)
+    (c .before .w .given .0 .1 .0) (c .before .w .given .0 .1 .1 .0)
+next-at c = step-next _ _ _ _ _ (reads-at c)
+
+returns-2 : tie.Need-returns-2 Inv-loop μ-loop
+unfolding refusedPars
+returns-2 c =
+    let k = c .before .before .before in
+    let i = k .loop .inv in
+    let z = pars-stop _ _ _ (sym (c .before .before .step-at .ensures)) (c .before .match .keys2) in
+    aims-named (k .before .if1 .left) (names-none (c .passes2 .ensures .0) (ap (refusedPars _) (sym z) ∙ i .0) (c .passes2 .ensures .1) (owners-end _ _ _ (rw z at (i .1))))
+
+returns-3 : tie.Need-returns-3 Inv-loop μ-loop
+returns-3 c =
+    let k = c .before .before .before .before in
+    let l = k .before .before .before .before in
+    aims-named (l .before .if1 .left)
+    (names-found (c .if2 .taken) (refused-here _ _ _ _ (c .before .before .named-par .ensures .refused) (c .if2 .taken) ∙ ap (refusedPars _) (sym (pars-next _ _ _ _ _ (reads-at k))) ∙ l .loop .inv .0))
+
+loop-again : tie.Need-loop-again Inv-loop μ-loop
+loop-again c =
+    let k = c .before .before .before .before in
+    let i = k .before .before .before .before .loop .inv in
+    let e = c .before .before .named-par .ensures in
+    let z = pars-next _ _ _ _ _ (reads-at k) in
+    (refused-later _ _ _ _ (e .refused) (c .if2 .left) ∙ ap (refusedPars _) (sym z) ∙ i .0, owners-more _ _ _ _ _ _ (rw z at (i .1)) (e .set (c .if2 .left)), i .2, i .3)
 
 pub aim-spec : {M : Type 1} → statement M
 aim-spec =
     tie.close
-    (tie.spec
-    (λ c κs. search needs)
-    (λ c. record { named = λ h. c .named-of .ensures; all = λ h. absurd (false≢true (sym h ∙ c .before .if1 .taken)) })
-    (λ c κs. search needs)
-    (λ c κs. search needs)
-    returns-2)
+    (tie.spec Inv-loop μ-loop
+    (λ c κs. search needs) (λ c κs. search needs) (λ c. aims-all (c .before .before .if1 .taken) (c .passes .ensures .0) (ap flagsOf (c .passes .ensures .1) ∙ c .before .ases-of .ensures))
+    (λ c. (refl, rw flags-zero (owners-none _ _), c .before .before .pre .0, c .before .before .pre .1))
+    (λ c κs. search needs) (λ c. search needs) (λ c κs. search needs) returns-2 (λ c. let k = next-at c in omega arith)
+    (λ c. let k = next-at c in omega arith) (λ c. let k = next-at c in omega arith)
+    (λ c. let k = next-at c in omega arith) (λ c. let k = next-at c in omega arith)
+    (λ c. let k = next-at c in omega arith)
+    (λ c κs. let i = c .before .before .before .before .before .loop .inv in (i .2, i .3)) returns-3
+    (λ c. let k = next-at (c .before .before .before .before) in omega arith) loop-again)

@@ -55,6 +55,13 @@ pub record Aims (e : Named) (ids : Bool) (first : Refused) (owners mine : List B
   pub named : ids ≡ true → Names e first owners
   pub all : ids ≡ false → (e .refused ≡ nothing) × (flagsOf (e .set) ≡ mine)
 
+module _ {e : Named} {ids : Bool} {first : Refused} {owners mine : List Bool} where
+  pub aims-all : not ids ≡ true → e .refused ≡ nothing → flagsOf (e .set) ≡ mine → Aims e ids first owners mine
+  aims-all t r f = record { named = λ h. absurd (false≢true (sym (not-true ids t) ∙ h)); all = λ h. (r, f) }
+
+  pub aims-named : not ids ≡ false → Names e first owners → Aims e ids first owners mine
+  aims-named t n = record { named = λ h. n; all = λ h. absurd (false≢true (sym h ∙ not-false ids t)) }
+
 -- the same of the state g, by the rules
 pub aims-on : {links : ℕ} {up member mode iid owner : List ℕ} (g : Gateway) (p : ℕ) (ps : List Par) {e : Named} {ids : Bool} → TrafficColumns links up member mode iid owner g
     → Aims e ids (refusedPars (isRefused iid owner member links p) ps) (ownersPars (isOwnedBy iid owner links) ps) (columnOf member p)

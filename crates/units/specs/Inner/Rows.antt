@@ -1,6 +1,6 @@
 -- The loops that clear a column: place by place in a row of 8, and AS by AS.
 -- Assumes nothing.
-use Prim.Native.Nat.{ℕ, _+_, _*_, _/_, _<_, _≤_}
+use Prim.Native.Nat.{ℕ, _+_, _-_, _*_, _/_, _<_, _≤_}
 use mathlib.Core.Path.{_≡_, refl, ap, _∙_, sym}
 use mathlib.Core.Bool.{Bool, true, false, _||_, _&&_, cond, not, false≢true}
 use mathlib.Core.List.{List}
@@ -37,6 +37,13 @@ rowTo a k i = leb (a * 8) i && ltb i (a * 8 + k)
 -- they are cleared
 pub record Row (a k : ℕ) (c₀ c : List ℕ) : Type 0 where
   pub is : c ≡ cleared (rowTo a k) c₀
+
+-- what the loop over a row keeps, from c₀ on, and how much of it is left
+abbrev pub rowKept : List ℕ → ℕ → Bool → ℕ → List ℕ → ℕ → Type 0
+rowKept c₀ a go k₀ c k = Row a k c₀ c × (k ≤ 8)
+
+abbrev pub rowLeft : List ℕ → ℕ → Bool → ℕ → List ℕ → ℕ → ℕ
+rowLeft c₀ a go k₀ c k = 8 - k
 
 pub row-none : {a : ℕ} {c : List ℕ} → Row a 0 c c
 row-none {a} {c} = record { is = sym (cleared-none (rowTo a 0) c (λ i b. go i (decLt i (a * 8)))) }
