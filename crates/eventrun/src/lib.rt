@@ -1,7 +1,8 @@
-// The event that a script's line says: run, what it reaches, and its actions as bytes, each by the entry that takes the number of its kind.
+// The event that a script's line says: run by the entry of its kind, what it reaches, and its actions as bytes.
 use encode::Written;
 use eventline::EventKind;
 use gateway::Gateway;
+use node::Node;
 use rules::Outcome;
 ghost use mathlib.Core.Path.{_≡_};
 ghost use Rattle.ask.specs.Happened.{event, eventOf};
@@ -10,20 +11,6 @@ ghost use Rattle.reach.specs.Reached.{reached};
 ghost use Rattle.rules.specs.Entry.{MeetsRules};
 ghost use Rattle.eventrun.specs.Line.{said};
 ghost use Rattle.eventrun.specs.Inner.Numbers.{numberOf};
-
-// The number that a call says a kind by.
-fn number(kind: EventKind) -> u32
-    ensures { λ r. ⌜ r ≡ numberOf kind ⌝ }
-{
-    match kind {
-        EventKind::Message => ask::MESSAGE,
-        EventKind::Lost => ask::LOST,
-        EventKind::Recovery => ask::RECOVERY,
-        EventKind::LinkUp => ask::LINK_UP,
-        EventKind::LinkDown => ask::LINK_DOWN,
-        EventKind::LinkMessage => ask::LINK_MESSAGE,
-    }
-}
 
 // One of the six events, with the index and the message of its line.
 pub fn happen(
@@ -36,8 +23,16 @@ pub fn happen(
 ) -> Outcome
     ensures { λ r. ⌜ MeetsRules g (event (said kind index (now (msg .entry))) (now (words .entry)) (now (hold .entry))) (now (words .entry)) (now (words .exit)) (now (hold .entry)) (now (hold .exit)) r ⌝ }
 {
-    let size = hold.len();
-    events::m2ua_run(g, number(kind), index as usize, msg, hold, size, words)
+    let i = index as usize;
+    let node = Node { gateway: g };
+    match kind {
+        EventKind::Message => node.message(i, msg, hold, words),
+        EventKind::Lost => node.lost(i, hold, words),
+        EventKind::Recovery => node.recovery(i, hold, words),
+        EventKind::LinkUp => node.link_up(i, hold, words),
+        EventKind::LinkDown => node.link_down(i, hold, words),
+        EventKind::LinkMessage => node.link_message(msg, hold, words),
+    }
 }
 
 // The ASes that it reaches, where its list has `room` words and its hold `hold` bytes.
@@ -51,7 +46,29 @@ pub fn reached_by(
 ) -> [bool; 16]
     ensures { λ r. ⌜ r ≡ reached g (eventOf (said kind index (now (msg .entry))) room hold) ⌝ }
 {
-    reach::of_event(g, number(kind), index as usize, msg, room, hold)
+    let i = index as usize;
+    match kind {
+        EventKind::Message => reach::of_message(g, i, msg, room, hold),
+        EventKind::Lost => reach::of_lost(g, i, room, hold),
+        EventKind::Recovery => reach::of_recovery(g, i, room, hold),
+        EventKind::LinkUp => reach::of_link_up(g, i, room, hold),
+        EventKind::LinkDown => reach::of_link_down(g, i, room, hold),
+        EventKind::LinkMessage => reach::of_link_message(g, msg, room, hold),
+    }
+}
+
+// The number that a call says a kind by.
+fn number(kind: EventKind) -> u32
+    ensures { λ r. ⌜ r ≡ numberOf kind ⌝ }
+{
+    match kind {
+        EventKind::Message => ask::MESSAGE,
+        EventKind::Lost => ask::LOST,
+        EventKind::Recovery => ask::RECOVERY,
+        EventKind::LinkUp => ask::LINK_UP,
+        EventKind::LinkDown => ask::LINK_DOWN,
+        EventKind::LinkMessage => ask::LINK_MESSAGE,
+    }
 }
 
 // One of its actions as bytes.

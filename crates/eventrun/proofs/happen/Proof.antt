@@ -1,15 +1,42 @@
--- `eventrun::happen`: the promise of `m2ua_run`, where the hold is lent whole. Assumes nothing.
-use mathlib.Core.Path.{refl, sym}
+-- `eventrun::happen`: by the kind, the promise of its entry. Assumes nothing.
 use borrow.Author.Needs.{needs}
-use Rattle.events.specs.Inner.Perform.{runs-meets}
-use Rattle.eventrun.specs.Inner.Numbers.{says}
 use Rattle.eventrun.proofs.happen.Statement.{statement}
 use Rattle.eventrun.proofs.happen.Tie as tie
 
-returns : tie.Need-returns
-returns c =
-    let a = c .before .before .before .before .before .before .before .before .before .before .before .args in
-    rw (sym (says (a .kind) (a .index) (a .msg .now))) (rw (sym (c .before .before .before .before .before .before .before .number .ensures)) (runs-meets (c .before .before .before .before .m2ua-run .ensures) refl))
+enum-told : tie.Need-enum-told
+enum-told c = search needs
 
 pub happen-spec : {M : Type 1} → statement M
-happen-spec = tie.close (tie.spec (λ c κs. search needs) (λ c κs. search needs) (λ c. search needs) (λ c. search needs) returns)
+happen-spec =
+    tie.close
+    (tie.spec
+    enum-told
+    (λ c κs. search needs)
+    (λ c. search needs)
+    (λ c κs. search needs)
+    (λ c. search needs)
+    (λ c κs. search needs)
+    (λ c. search needs)
+    (λ c κs. search needs)
+    (λ c. search needs)
+    (λ c κs. search needs)
+    (λ c. search needs)
+    (λ c κs. search needs)
+    (λ c. search needs)
+    (λ c. search needs)
+    (λ c. rw (c .before .before .before .before .before .before .before .enum-told .given .1) (c .before .before .before .before .message .ensures))
+    (λ c. search needs)
+    (λ c. search needs)
+    (λ c. rw (c .before .before .before .before .before .before .before .enum-told2 .given .1) (c .before .before .before .before .lost .ensures))
+    (λ c. search needs)
+    (λ c. search needs)
+    (λ c. rw (c .before .before .before .before .before .before .before .enum-told3 .given .1) (c .before .before .before .before .recovery .ensures))
+    (λ c. search needs)
+    (λ c. search needs)
+    (λ c. rw (c .before .before .before .before .before .before .before .enum-told4 .given .1) (c .before .before .before .before .link-up .ensures))
+    (λ c. search needs)
+    (λ c. search needs)
+    (λ c. rw (c .before .before .before .before .before .before .before .enum-told5 .given .1) (c .before .before .before .before .link-down .ensures))
+    (λ c. search needs)
+    (λ c. search needs)
+    (λ c. rw (c .before .before .before .before .before .before .before .enum-told6 .given .1) (c .before .before .before .before .link-message .ensures)))

@@ -1,14 +1,30 @@
--- `eventrun::reached_by`: the promise of `of_event`. Assumes nothing.
-use mathlib.Core.Path.{sym}
+-- `eventrun::reached_by`: by the kind, the promise of its function. Assumes nothing.
 use borrow.Author.Needs.{needs}
-use Rattle.eventrun.specs.Inner.Numbers.{says}
 use Rattle.eventrun.proofs.reached_by.Statement.{statement}
 use Rattle.eventrun.proofs.reached_by.Tie as tie
 
-returns : tie.Need-returns
-returns c =
-    let a = c .before .before .before .args in
-    rw (sym (says (a .kind) (a .index) (a .msg .now))) (rw (sym (c .before .number .ensures)) (c .of-event .ensures))
+enum-told : tie.Need-enum-told
+enum-told c = search needs
 
 pub reached-by-spec : {M : Type 1} → statement M
-reached-by-spec = tie.close (tie.spec (λ c κs. search needs) (λ c κs. search needs) returns)
+reached-by-spec =
+    tie.close
+    (tie.spec
+    enum-told
+    (λ c κs. search needs)
+    (λ c. search needs)
+    (λ c κs. search needs)
+    (λ c. search needs)
+    (λ c κs. search needs)
+    (λ c. search needs)
+    (λ c κs. search needs)
+    (λ c. search needs)
+    (λ c κs. search needs)
+    (λ c. search needs)
+    (λ c κs. search needs)
+    (λ c. rw (c .before .enum-told .given .1) (c .of-message .ensures))
+    (λ c. rw (c .before .enum-told2 .given .1) (c .of-lost .ensures))
+    (λ c. rw (c .before .enum-told3 .given .1) (c .of-recovery .ensures))
+    (λ c. rw (c .before .enum-told4 .given .1) (c .of-link-up .ensures))
+    (λ c. rw (c .before .enum-told5 .given .1) (c .of-link-down .ensures))
+    (λ c. rw (c .before .enum-told6 .given .1) (c .of-link-message .ensures)))
