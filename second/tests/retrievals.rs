@@ -2,6 +2,7 @@
 //! of its link and the answer; and kinds of links in plans. The counts are shown
 //! by `cargo test --release --test retrievals -- --nocapture`.
 
+use second::generate::retrievals::BORDERS;
 use second::generate::{generate, Kind};
 use second::script::Session;
 use second::{is_sound, load, read, Gateway, Params};
@@ -9,24 +10,6 @@ use std::collections::{BTreeMap, BTreeSet};
 
 /// Lines of each kind.
 const LINES: u64 = 100_000;
-
-/// The borders; the first ten read.
-const BORDERS: [u32; 14] = [
-    0,
-    1,
-    126,
-    127,
-    128,
-    129,
-    255,
-    256,
-    4094,
-    4095,
-    4096,
-    65_535,
-    1 << 31,
-    u32::MAX,
-];
 
 /// What was met, how often, and with which of the borders.
 #[derive(Default)]
@@ -221,6 +204,14 @@ fn tally(kind: Kind) -> Tally {
 const BOTH: &[u32] = BORDERS.split_at(4).0;
 const HIGH: &[u32] = BORDERS.split_at(4).1.split_at(6).0;
 const BEYOND: &[u32] = BORDERS.split_at(10).1;
+
+/// The list that the generator picks from has both sides of each limit.
+#[test]
+fn borders() {
+    for number in [0, 127, 128, 4095, 4096, u32::MAX] {
+        assert!(BORDERS.contains(&number), "{number}");
+    }
+}
 
 #[test]
 fn in_messages() {

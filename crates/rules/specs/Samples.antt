@@ -59,7 +59,7 @@ unit = 1 ∷ 0 ∷ 6 ∷ 1 ∷ 0 ∷ 0 ∷ 0 ∷ 24 ∷ 0 ∷ 1 ∷ 0 ∷ 8 ∷ 
 unfoldable pub g₆ : Gateway
 g₆ = next g₅ (event (linkMessage unit))
 
--- Retrieval Request for the messages from number n on, and Retrieval Confirm with n as the number of the last one received: of the link with identifier 100, a plain one
+-- Retrieval Request for the messages behind number n, and Retrieval Confirm with n as the number of the last one received: of the link with identifier 100, a plain one
 unfoldable pub retrieval : ℕ → List ℕ
 retrieval n =
     1 ∷ 0 ∷ 6 ∷ 10 ∷ 0 ∷ 0 ∷ 0 ∷ 32 ∷ 0 ∷ 1 ∷ 0 ∷ 8 ∷ 0 ∷ 0 ∷ 0 ∷ 100 ∷ 3 ∷ 6 ∷ 0 ∷ 8 ∷ 0 ∷ 0 ∷ 0 ∷ 2 ∷ 3 ∷ 7 ∷ 0 ∷ 8 ∷ 0 ∷ 0 ∷ 0 ∷ n ∷ []

@@ -8,7 +8,7 @@ mod message;
 mod orders;
 mod plans;
 mod reading;
-mod retrievals;
+pub mod retrievals;
 mod rng;
 mod scenes;
 mod writing;

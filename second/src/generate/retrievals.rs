@@ -8,7 +8,7 @@ use crate::gateway::{Each, Gateway, HIGH_SPEED, PLAIN};
 use crate::wire::*;
 
 /// Sequence numbers on both sides of each limit; the first ten read.
-const BORDERS: [u32; 14] = [
+pub const BORDERS: [u32; 14] = [
     0,
     1,
     126,
