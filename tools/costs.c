@@ -125,6 +125,8 @@ int main(void) {
     memcpy(msg, (const uint8_t[]){1, 0, 4, 1, 0, 0, 8, 0}, 8);
     for (; n + 8 <= sizeof msg; n += 8) put32(msg + n, 0x00010008), put32(msg + n + 4, mixed(n));
     cost("Active of 255 parameters of one identifier each, mixed", g, M2UA_MESSAGE, msg, n);
+    for (n = 8; n + 12 <= sizeof msg; n += 12) put32(msg + n, 0x0008000c), put32(msg + n + 4, 0), put32(msg + n + 8, 127);
+    cost("Active of 170 parameters of one range over all 128 links", g, M2UA_MESSAGE, msg, n);
     g = pending(on);
     cost("Beat, 128 units held", g, M2UA_MESSAGE, (const uint8_t[]){1, 0, 3, 3, 0, 0, 0, 8}, 8);
     cost("Active without identifiers that sends 128 units", g, M2UA_MESSAGE, bare, 8);

@@ -108,12 +108,20 @@ pub fn line(text: &str, hold: usize) -> Option<Line> {
     }))
 }
 
-/// The plans and events of a generated script.
-pub fn generated(seed: u64, lines: u64) -> Vec<Line> {
-    generated_of(Kind::Event, seed, lines)
+/// The kinds of histories that a program is asked for: one by its name, or the usual ones. With it, what a line about them begins with.
+pub fn asked(program: &str, word: Option<&str>, usual: &[Kind]) -> (String, Vec<Kind>) {
+    let Some(word) = word else {
+        return (program.to_string(), usual.to_vec());
+    };
+    match Kind::named(word) {
+        Some(kind @ (Kind::Event | Kind::Bytes | Kind::Ranges)) => {
+            (format!("{program} of {word}"), vec![kind])
+        }
+        _ => panic!("no kind of histories: {word}"),
+    }
 }
 
-/// The same of a script of another kind.
+/// The plans and events of a generated script.
 pub fn generated_of(kind: Kind, seed: u64, lines: u64) -> Vec<Line> {
     let mut found = vec![];
     let mut hold = HOLD_BYTES;

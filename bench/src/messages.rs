@@ -50,3 +50,10 @@ pub fn active_of(ids: impl Iterator<Item = u32>) -> Vec<u8> {
     let value: Vec<u8> = ids.flat_map(u32::to_be_bytes).collect();
     message(4, 1, &[bytes(0x1, &value)])
 }
+
+/// An Active that names ranges, of which each stop is meant too.
+pub fn active_of_ranges(ranges: impl Iterator<Item = (u32, u32)>) -> Vec<u8> {
+    let ends = ranges.flat_map(|(start, stop)| [start, stop]);
+    let value: Vec<u8> = ends.flat_map(u32::to_be_bytes).collect();
+    message(4, 1, &[bytes(0x8, &value)])
+}

@@ -43,10 +43,15 @@ pub fn plan_s_with(kind: u32) -> Vec<u8> {
     plan(&[(7, 1), (8, 1), (9, 2)], &[1, 2], &links)
 }
 
-/// 16 ASPs, each in all of 16 ASes, and 128 links.
+/// 16 ASPs, each in all of 16 ASes, and 128 links with gaps between their identifiers.
 pub fn full_plan() -> Vec<u8> {
+    full_plan_of(128, 3)
+}
+
+/// The same with so many links, from identifier 0 on, each so far above the one before it.
+pub fn full_plan_of(links: u32, step: u32) -> Vec<u8> {
     let asps: Vec<(u32, u16)> = (0..16).map(|p| (1000 + p, 0xffff)).collect();
     let ases: Vec<u32> = (0..16).map(|a| a % 3 + 1).collect();
-    let links: Vec<(u32, u32)> = (0..128).map(|l| (l * 3, l % 16)).collect();
+    let links: Vec<(u32, u32)> = (0..links).map(|l| (l * step, l % 16)).collect();
     plan(&asps, &ases, &links)
 }

@@ -483,62 +483,6 @@ impl Gateway {
         ases
     }
 
-    /// The owners of the identifiers that a message names, as bits; or the
-    /// first one that is refused, because no link has it or p has no part in
-    /// its AS (Rule 7.8).
-    fn named_ases(&self, p: usize, message: &[u8]) -> Result<u16, u32> {
-        let ids = self.link_ids();
-        let allowed = self.ases_of(p);
-        let mut named = 0;
-        // Identifiers often come in order: look at the next place first.
-        let mut place = 0;
-        for param in Params::new(message) {
-            match param.tag {
-                INTERFACE_ID => {
-                    for id in param.value.as_chunks::<4>().0 {
-                        let id = u32::from_be_bytes(*id);
-                        if ids.get(place) != Some(&id) {
-                            place = self.find_link(id).ok_or(id)?;
-                        }
-                        named |= self.owner_bit(place);
-                        if named & !allowed != 0 {
-                            return Err(id);
-                        }
-                        place += 1;
-                    }
-                }
-                INTERFACE_RANGE => {
-                    for pair in param.value.as_chunks::<8>().0 {
-                        let pair = u64::from_be_bytes(*pair);
-                        let (start, stop) = ((pair >> 32) as u32, pair as u32);
-                        if ids.get(place) != Some(&start) {
-                            place = self.first_link_from(start);
-                        }
-                        // Ends at the latest after as many steps as there
-                        // are links.
-                        let mut id = start;
-                        loop {
-                            if ids.get(place) != Some(&id) {
-                                return Err(id);
-                            }
-                            named |= self.owner_bit(place);
-                            if named & !allowed != 0 {
-                                return Err(id);
-                            }
-                            place += 1;
-                            if id == stop {
-                                break;
-                            }
-                            id += 1;
-                        }
-                    }
-                }
-                _ => {}
-            }
-        }
-        Ok(named)
-    }
-
     /// Messages of class 6 that an ASP sends.
     fn on_link_request(&mut self, p: usize, reading: &Reading, orders: &mut Orders) {
         let id = reading.id;

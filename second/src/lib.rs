@@ -6,6 +6,7 @@ pub mod bytes;
 pub mod events;
 pub mod gateway;
 pub mod generate;
+mod naming;
 pub mod plan;
 pub mod reach;
 pub mod read;

@@ -49,34 +49,4 @@ impl Gateway {
             _ => 0,
         }
     }
-
-    /// The owners of those identifiers of a message that are in the plan.
-    fn owners_of_known(&self, message: &[u8]) -> u16 {
-        let mut owners = 0;
-        let mut range = |start: u32, stop: u32| {
-            let mut place = self.first_link_from(start);
-            while self.link_ids().get(place).is_some_and(|id| *id <= stop) {
-                owners |= self.owner_bit(place);
-                place += 1;
-            }
-        };
-        for param in Params::new(message) {
-            match param.tag {
-                INTERFACE_ID => {
-                    for id in param.value.as_chunks::<4>().0 {
-                        let id = u32::from_be_bytes(*id);
-                        range(id, id);
-                    }
-                }
-                INTERFACE_RANGE => {
-                    for pair in param.value.as_chunks::<8>().0 {
-                        let pair = u64::from_be_bytes(*pair);
-                        range((pair >> 32) as u32, pair as u32);
-                    }
-                }
-                _ => {}
-            }
-        }
-        owners
-    }
 }

@@ -1292,6 +1292,7 @@ fn generated_histories() {
         (2, Kind::Event),
         (3, Kind::Bytes),
         (4, Kind::Bytes),
+        (5, Kind::Ranges),
     ];
     for (seed, kind) in scripts {
         let mut session = Session::new();
@@ -1314,7 +1315,8 @@ fn generated_histories() {
             if first == "plan" {
                 tally.end(&before);
             }
-            if !["plan", "hold", "paint"].contains(&first) {
+            // Of `ranges` no link is brought into service.
+            if !["plan", "hold", "paint"].contains(&first) && kind != Kind::Ranges {
                 tally.line(&before);
             }
             let skip = match first {

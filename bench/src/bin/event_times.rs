@@ -1,8 +1,10 @@
 //! Times events of the proved library against the hand-written second program, both in this one run. A time is of one call: the state goes in by value
 //! and comes out by value. Each call is first checked to give the same on both sides: refusal, count, state, the whole list of words and the whole hold.
 use bench::holds::{full_hold, held_on_plan_s};
-use bench::messages::{active_of, bytes, data, message, number, retrieval, sample_m};
-use bench::plans::{full_plan, plan_s, plan_s_with, HIGH_SPEED};
+use bench::messages::{
+    active_of, active_of_ranges, bytes, data, message, number, retrieval, sample_m,
+};
+use bench::plans::{full_plan, full_plan_of, plan_s, plan_s_with, HIGH_SPEED};
 use bench::{proved, timing};
 use second::events::LIST_WORDS as ROOM;
 use second::{load, Gateway, Next, HOLD_BYTES};
@@ -147,6 +149,31 @@ fn with_units() {
     messages("Active in 16 ASes, 128 units", &[(full, 0, &all)], 385);
 }
 
+/// On the full plan with identifiers 0 to 127: every Active names all 16 ASes, with 254 ranges or 509 identifiers, the most that a message has.
+fn with_ranges() {
+    let up = message(3, 1, &[]);
+    let ups: Vec<(u32, &[u8])> = (0..16).map(|p| (p, &up[..])).collect();
+    let idle = after(load(&full_plan_of(128, 1)).gateway, &ups);
+    let ranges = |name: &str, count: u32, range: fn(u32) -> (u32, u32)| {
+        let msg = active_of_ranges((0..count).map(range));
+        messages(name, &[(idle, 0, &msg)], 257);
+    };
+    ranges("1 range of all 128 links", 1, |_| (0, 127));
+    ranges("254 ranges of all 128 links", 254, |_| (0, 127));
+    ranges("254 ranges of one link, mixed", 254, |i| {
+        (i * 37 % 128, i * 37 % 128)
+    });
+    ranges("254 ranges j to 127, j descending", 254, |i| {
+        (127 - i % 128, 127)
+    });
+    ranges("128 of one link, then 126 nested", 254, |i| match i {
+        0..128 => (i, i),
+        _ => ((i - 128) / 2, 127 - (i - 128) / 2),
+    });
+    let mixed = active_of((0..509).map(|i| i * 37 % 128));
+    messages("509 ids in no order", &[(idle, 0, &mixed)], 257);
+}
+
 /// The highest sequence number: for a high-speed link it goes to the link side, for a plain one it is Error 17.
 fn with_sequence_numbers() {
     let (up, m) = (message(3, 1, &[]), sample_m());
@@ -173,5 +200,6 @@ fn main() {
     on_plan_s();
     on_full_plan();
     with_units();
+    with_ranges();
     with_sequence_numbers();
 }

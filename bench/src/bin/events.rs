@@ -1,7 +1,7 @@
 //! Generated histories of events, call by call through the proved library and through the second program: refusal, count, next state, the whole list
 //! of words and the whole hold must be the same, and a hold of another length must stay. So must all that is read of each event's message, and the
-//! state that each plan file gives, of the histories and of other generated plans. `events SEED LINES`.
-use bench::lines::{generated, generated_of, Call, Hold, Line};
+//! state that each plan file gives, of the histories and of other generated plans. `events SEED LINES [KIND]`; KIND: event (where none is given), bytes, ranges.
+use bench::lines::{asked, generated_of, Call, Hold, Line};
 use bench::proved::{self, Outcome};
 use second::generate::Kind;
 use second::read::read;
@@ -62,10 +62,11 @@ fn main() {
     let mut args = std::env::args().skip(1);
     let seed = args.next().and_then(|w| w.parse().ok()).unwrap_or(1);
     let lines = args.next().and_then(|w| w.parse().ok()).unwrap_or(50_000);
+    let (name, kinds) = asked("events", args.next().as_deref(), &[Kind::Event]);
     let mut tried = Tried::default();
     let mut state = Gateway::ZERO;
     let (mut v, mut w) = (Hold::default(), Hold::default());
-    for line in generated(seed, lines) {
+    for line in generated_of(kinds[0], seed, lines) {
         match line {
             Line::Plan(file) => state = tried.plan(&file),
             Line::Paint(byte) => {
@@ -88,6 +89,6 @@ fn main() {
         orders,
         failures,
     } = tried;
-    println!("events, seed {seed}: {calls} calls {kinds:?} (message, lost, recovery, link up, link down, link side), {refused} refused, {orders} orders, {plans} plans, {failures} differences");
+    println!("{name}, seed {seed}: {calls} calls {kinds:?} (message, lost, recovery, link up, link down, link side), {refused} refused, {orders} orders, {plans} plans, {failures} differences");
     std::process::exit((failures > 0) as i32);
 }

@@ -1,7 +1,8 @@
 //! Actions as bytes, call by call through the proved library and through the second program. Of each event of generated histories every place is
 //! tried, with buffers of the message's length, one short, longer and of no byte, and so is the batch form from random places, with random lists and buffers,
-//! also against the single form. Results and all bytes and lengths, with guards around what is lent, must be the same. `orders SEED LINES`.
-use bench::lines::{generated_of, Call, Hold, Line};
+//! also against the single form. Results and all bytes and lengths, with guards around what is lent, must be the same. `orders SEED LINES [KIND]`; KIND: event, bytes (where none is given, half of the
+//! lines are of each), ranges.
+use bench::lines::{asked, generated_of, Call, Hold, Line};
 use bench::proved::{self, Batch, Written};
 use second::events::LIST_WORDS;
 use second::generate::{Kind, Rng};
@@ -233,13 +234,16 @@ fn main() {
     let mut args = std::env::args().skip(1);
     let seed = args.next().and_then(|w| w.parse().ok()).unwrap_or(1);
     let lines = args.next().and_then(|w| w.parse().ok()).unwrap_or(10_000);
+    let usual = [Kind::Event, Kind::Bytes];
+    let (name, kinds) = asked("orders", args.next().as_deref(), &usual);
+    let share = lines / kinds.len() as u64;
     let mut rng = Rng::new(seed);
     let mut tried = Tried::default();
     let mut events = 0;
-    for kind in [Kind::Event, Kind::Bytes] {
+    for kind in kinds {
         let mut state = Gateway::ZERO;
         let mut hold = Hold::default();
-        for line in generated_of(kind, seed, lines / 2) {
+        for line in generated_of(kind, seed, share) {
             let mut call = match line {
                 Line::Plan(file) => {
                     state = load(&file).gateway;
@@ -272,7 +276,7 @@ fn main() {
         most,
         ..
     } = tried;
-    println!("orders, seed {seed}: {events} events, {singles} single calls (results {:?}), {batches} batches (results {:?}, at most {most} actions in one), {failures} differences", tried.codes, tried.batch_codes);
+    println!("{name}, seed {seed}: {events} events, {singles} single calls (results {:?}), {batches} batches (results {:?}, at most {most} actions in one), {failures} differences", tried.codes, tried.batch_codes);
     println!("  messages by class and type: {:?}", tried.types);
     std::process::exit((failures > 0) as i32);
 }

@@ -1,10 +1,11 @@
 //! Demand 3 as a run beside its proof: histories of the proved library with random allowed trades. Every event must hand back the same refusal, count and
 //! orders as before the trades, the last state must be the same in every field and the last hold in every byte, and what lies outside an event's reach must be as
-//! it was. Reach is the second program's. `trades SEED LINES [second]`; with the last word, histories of the second program.
+//! it was. Reach is the second program's. `trades SEED LINES [KIND] [second]`; KIND: event (where none is given), bytes, ranges;
+//! with the last word, histories of the second program.
 //!
 //! Trades that are not allowed are made too, on copies, and counted where they change something: so the comparison is seen to fail where it should.
-use bench::lines::{generated, Call, Line};
-use second::generate::Rng;
+use bench::lines::{asked, generated_of, Call, Line};
+use second::generate::{Kind, Rng};
 use second::{load, Gateway, HOLD_BYTES};
 
 /// What an event hands back: refusal, count and orders.
@@ -215,17 +216,21 @@ fn main() {
     let mut args = std::env::args().skip(1);
     let seed = args.next().and_then(|w| w.parse().ok()).unwrap_or(1);
     let lines = args.next().and_then(|w| w.parse().ok()).unwrap_or(20_000);
-    let side: Side = match args.next().as_deref() {
+    let mut words: Vec<String> = args.collect();
+    let side: Side = match words.last().map(String::as_str) {
         Some("second") => by_second,
         _ => by_proved,
     };
+    words.retain(|word| word != "second");
+    let word = words.first().map(String::as_str);
+    let (name, kinds) = asked("trades", word, &[Kind::Event]);
     let mut rng = Rng::new(seed);
     let mut tally = Tally::default();
     let mut first = World::new(Gateway::ZERO, 0);
     let mut calls = vec![];
     // a history's hold starts as the script painted it last
     let mut byte = 0;
-    for line in generated(seed, lines) {
+    for line in generated_of(kinds[0], seed, lines) {
         match line {
             Line::Call(call) => calls.push(call),
             Line::Paint(with) => byte = with,
@@ -246,7 +251,7 @@ fn main() {
         units,
         failures,
     } = tally;
-    println!("trades, seed {seed}: {histories} histories of {events} events that send out {units} held units, {trades} allowed trades, {failures} failures; {forbidden_felt} of {forbidden} trades that are not allowed change something");
+    println!("{name}, seed {seed}: {histories} histories of {events} events that send out {units} held units, {trades} allowed trades, {failures} failures; {forbidden_felt} of {forbidden} trades that are not allowed change something");
     // a run in which nothing was traded, no unit went out, or no forbidden trade shows, says nothing
     let empty = trades == 0 || units == 0 || forbidden_felt == 0;
     std::process::exit((failures > 0 || empty) as i32);

@@ -29,6 +29,11 @@ unfoldable pub firstBelow : (ℕ → Bool) → ℕ → ℕ
 firstBelow f zero = 0
 firstBelow f (suc n) = cond (ltb (firstBelow f n) n) (firstBelow f n) (cond (f n) n (suc n))
 
+-- the greatest one, and n if there is none
+unfoldable pub lastBelow : (ℕ → Bool) → ℕ → ℕ
+lastBelow f zero = 0
+lastBelow f (suc n) = cond (f n) n (cond (ltb (lastBelow f n) n) (lastBelow f n) (suc n))
+
 -- how many numbers below n have f
 abbrev pub one : Bool → ℕ
 one t = cond t 1 0

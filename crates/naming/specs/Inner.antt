@@ -1,3 +1,1 @@
-pub mod Laws
-pub mod Bits
-pub mod Names
+pub mod Entries

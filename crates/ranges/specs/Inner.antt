@@ -1,2 +1,7 @@
 pub mod Laws
-pub mod Marks
+pub mod Ranks
+pub mod Refused
+pub mod Owners
+pub mod Places
+pub mod Range
+pub mod Names

@@ -1,10 +1,18 @@
-// The identifiers that a message names (Rule 2.11), in a number of steps that the links bound and not the ranges.
+// The links inside a range of identifiers (Rule 2.11): from the first to the last of them, by the ascending order, so that a range costs a search and not a walk.
 ghost use mathlib.Core.Path.{_≡_};
-ghost use mathlib.Core.Bool.{_||_};
-ghost use Prim.Native.Nat.{_<_};
-ghost use Rattle.laws.specs.Columns.{flagAt, tabulate};
-ghost use Rattle.ranges.specs.Named.{isOwnedBy, someIn, startAt, stopAt, entries, someOf};
+ghost use mathlib.Core.Bool.{true, cond, _&&_, _||_};
+ghost use Prim.Native.Nat.{_+_, _<_, _≤_};
+ghost use lib.Dec.{eqb, ltb};
+ghost use Rattle.laws.specs.Below.{anyBelow};
+ghost use Rattle.laws.specs.Columns.{flagAt, numberAt, tabulate};
+ghost use Rattle.gateway.specs.Sound.{ascends, allUnder};
+ghost use Rattle.lookup.specs.Inner.Links.{rank};
+ghost use Rattle.sets.specs.Inner.Bits.{flagsOf};
+ghost use Rattle.ranges.specs.Named.{isOwnedBy, nothing, firstIn, someIn};
 ghost use Rattle.ranges.specs.Inner.Laws.{Table};
+ghost use Rattle.ranges.specs.Inner.Refused.{refusedBy};
+ghost use Rattle.ranges.specs.Inner.Owners.{ownsFrom, Looked};
+ghost use Rattle.ranges.specs.Inner.Names.{Names};
 
 // The first refused identifier, if one is found; else 0.
 pub struct Refused {
@@ -12,81 +20,199 @@ pub struct Refused {
     pub id: u32,
 }
 
-// The flags set, with those of the ASes that own a known identifier from start to stop.
-pub fn add_owners<'a>(
-    set: [bool; 16],
-    iid: &'a [u32; 128],
-    owner: &'a [u8; 128],
-    links: usize,
-    start: u32,
-    stop: u32,
-) -> [bool; 16]
-    requires { ⌜ Table (now iid) (now owner) links ⌝ }
-    ensures { λ r. ⌜ r ≡ tabulate 16 (λ a. flagAt set a || someIn (isOwnedBy (now (iid .entry)) (now (owner .entry)) links a) start stop) ⌝ }
+// What identifiers name: the ASes are of use where nothing is refused, AS a as bit a.
+pub struct Named {
+    pub refused: Refused,
+    pub set: u32,
+}
+
+// ---- what is handed back
+
+pub fn answer(refused: Refused, set: u32) -> Named
+    ensures { λ r. ⌜ (r .refused ≡ refused) × (r .set ≡ set) ⌝ }
 {
+    Named {
+        refused: refused,
+        set: set,
+    }
+}
+
+pub fn passes(set: u32) -> Named
+    ensures { λ r. ⌜ (r .refused ≡ nothing) × (r .set ≡ set) ⌝ }
+{
+    answer(
+        Refused {
+            found: false,
+            id: 0,
+        },
+        set,
+    )
+}
+
+// ---- the places inside a range
+
+// Whether x stands at place l.
+fn holds(iid: &[u32; 128], links: usize, l: usize, x: u32) -> bool
+    requires { ⌜ links ≤ 128 ⌝ }
+    ensures { λ r. ⌜ r ≡ (ltb l links && eqb (numberAt (now (iid .entry)) l) x) ⌝ }
+{
+    if l < links {
+        return iid[l] == x;
+    }
+    false
+}
+
+// Past the last place inside a range: as many links as have identifiers up to stop. All of the range is known where stop stands as many places after
+// the first as it is above start, so that place is tried before the search.
+fn past_of(iid: &[u32; 128], links: usize, first: usize, start: u32, stop: u32) -> usize
+    requires { ⌜ (links ≤ 128) × (ascends (now iid) links ≡ true) × (first ≤ links) × (start ≤ stop) ⌝ }
+    ensures { λ r. ⌜ (r ≡ rank (now (iid .entry)) links (stop + 1)) × (r ≤ links) ⌝ }
+{
+    let last = first + (stop - start) as usize;
+    if holds(iid, links, last, stop) {
+        return last + 1;
+    }
+    let l = lookup::rank_of(iid, links, stop);
+    if holds(iid, links, l, stop) {
+        return l + 1;
+    }
+    l
+}
+
+fn later(x: u8, y: u8) -> u8
+    ensures { λ r. ⌜ r ≡ cond (ltb x y) y x ⌝ }
+{
+    if x < y { y } else { x }
+}
+
+// The set, with the owners of the places from first on, before past. The owners of the places from l up to far[l] are in the set already: so a message has
+// each place looked at once, however many of its ranges hold it.
+fn owners_between(
+    set: u32,
+    far: &mut [u8; 128],
+    owner: &[u8; 128],
+    first: usize,
+    past: usize,
+) -> u32
+    requires { ⌜ (past ≤ 128) × (allUnder (now owner) 16 past ≡ true) × Looked (now owner) (now far) (flagsOf set) ⌝ }
+    ensures { λ r. ⌜ (flagsOf r ≡ tabulate 16 (λ a. flagAt (flagsOf set) a || anyBelow (ownsFrom (now (owner .entry)) first a) past)) × Looked (now (owner .entry)) (now (far .exit)) (flagsOf r) ⌝ }
+{
+    let end = past as u8;
     let mut r = set;
-    let mut l = lookup::rank_of(iid, links, start);
-    while l < links {
-        if stop < iid[l] {
-            return r;
+    let mut l = first;
+    while l < past {
+        let next = gateway::wide(far[l]);
+        far[l] = later(far[l], end);
+        if l < next {
+            l = next;
+            continue;
         }
-        let a = gateway::wide(owner[l]);
-        r[a] = true;
+        r = sets::with_as(r, gateway::wide(owner[l]));
         l += 1;
     }
     r
 }
 
-// ---- the value of an ids parameter; pairs says that its tag is 0x8
+// ---- one that is refused
 
-fn entries_of(value: &[u8], pairs: bool) -> usize
-    ensures { λ r. ⌜ r ≡ entries pairs (now (value .entry)) ⌝ }
-{
-    if pairs {
-        return value.len() / 8;
-    }
-    value.len() / 4
-}
-
-fn start_at(value: &[u8], pairs: bool, i: usize) -> u32
-    requires { ⌜ i < entries pairs (now value) ⌝ }
-    ensures { λ r. ⌜ r ≡ startAt pairs (now (value .entry)) i ⌝ }
-{
-    if pairs {
-        return wire::get32(value, 8 * i);
-    }
-    wire::get32(value, 4 * i)
-}
-
-fn stop_at(value: &[u8], pairs: bool, i: usize) -> u32
-    requires { ⌜ i < entries pairs (now value) ⌝ }
-    ensures { λ r. ⌜ r ≡ stopAt pairs (now (value .entry)) i ⌝ }
-{
-    if pairs {
-        return wire::get32(value, 8 * i + 4);
-    }
-    start_at(value, pairs, i)
-}
-
-// The flags set, with those of the ASes that own a known identifier of the value.
-pub fn owners_of<'a>(
-    set: [bool; 16],
-    value: &[u8],
-    pairs: bool,
+// Whether x, that stands at l or nowhere, is unknown or its AS not in the set mine.
+pub fn is_refused<'a>(
     iid: &'a [u32; 128],
     owner: &'a [u8; 128],
     links: usize,
-) -> [bool; 16]
-    requires { ⌜ Table (now iid) (now owner) links ⌝ }
-    ensures { λ r. ⌜ r ≡ tabulate 16 (λ a. flagAt set a || someOf (isOwnedBy (now (iid .entry)) (now (owner .entry)) links a) pairs (now (value .entry))) ⌝ }
+    mine: u32,
+    l: usize,
+    x: u32,
+) -> bool
+    requires { ⌜ Table (now iid) (now owner) links × (l ≡ rank (now iid) links x) ⌝ }
+    ensures { λ r. ⌜ r ≡ refusedBy (now (iid .entry)) (now (owner .entry)) links (flagsOf mine) x ⌝ }
 {
-    let n = entries_of(value, pairs);
-    let mut r = set;
-    for i in 0..n {
-        let start = start_at(value, pairs, i);
-        let stop = stop_at(value, pairs, i);
-        let next = add_owners(r, iid, owner, links, start, stop);
-        r = next;
+    if links <= l {
+        return true;
     }
-    r
+    (iid[l] != x) | !sets::has(mine, gateway::wide(owner[l]))
+}
+
+// The first of a range that is refused; `first` is the place of start. A message has this walk once at most, for what it finds ends it.
+fn first_refused<'a>(
+    iid: &'a [u32; 128],
+    owner: &'a [u8; 128],
+    links: usize,
+    mine: u32,
+    first: usize,
+    start: u32,
+    stop: u32,
+) -> Refused
+    requires { ⌜ Table (now iid) (now owner) links × (first ≡ rank (now iid) links start) × (start ≤ stop) ⌝ }
+    ensures { λ r. ⌜ r ≡ firstIn (refusedBy (now (iid .entry)) (now (owner .entry)) links (flagsOf mine)) start stop ⌝ }
+{
+    let mut l = first;
+    let mut x = start;
+    loop {
+        if is_refused(iid, owner, links, mine, l, x) {
+            return Refused { found: true, id: x };
+        }
+        if x == stop {
+            return Refused {
+                found: false,
+                id: 0,
+            };
+        }
+        l += 1;
+        x += 1;
+    }
+}
+
+// ---- a range, both ends meant
+
+// What the identifiers from start to stop name, beside the set: the first place inside, the last, as many as the range has identifiers, and the owners between.
+pub fn of_range<'a>(
+    set: u32,
+    far: &mut [u8; 128],
+    iid: &'a [u32; 128],
+    owner: &'a [u8; 128],
+    links: usize,
+    mine: u32,
+    start: u32,
+    stop: u32,
+) -> Named
+    requires { ⌜ Table (now iid) (now owner) links × Looked (now owner) (now far) (flagsOf set) ⌝ }
+    ensures { λ r. ⌜ Names r (firstIn (refusedBy (now (iid .entry)) (now (owner .entry)) links (flagsOf mine)) start stop) (tabulate 16 (λ a. flagAt (flagsOf set) a || someIn (isOwnedBy (now (iid .entry)) (now (owner .entry)) links a) start stop)) × Looked (now (owner .entry)) (now (far .exit)) (flagsOf (r .set)) ⌝ }
+{
+    if stop < start {
+        return passes(set);
+    }
+    let first = lookup::rank_of(iid, links, start);
+    let past = past_of(iid, links, first, start, stop);
+    let all = owners_between(set, far, owner, first, past);
+    if past - first == (stop - start) as usize + 1 {
+        if sets::is_within(all, mine) {
+            return passes(all);
+        }
+    }
+    answer(
+        first_refused(iid, owner, links, mine, first, start, stop),
+        all,
+    )
+}
+
+// The set, with the owners of the known identifiers from start to stop.
+pub fn owners_in<'a>(
+    set: u32,
+    far: &mut [u8; 128],
+    iid: &'a [u32; 128],
+    owner: &'a [u8; 128],
+    links: usize,
+    start: u32,
+    stop: u32,
+) -> u32
+    requires { ⌜ Table (now iid) (now owner) links × Looked (now owner) (now far) (flagsOf set) ⌝ }
+    ensures { λ r. ⌜ (flagsOf r ≡ tabulate 16 (λ a. flagAt (flagsOf set) a || someIn (isOwnedBy (now (iid .entry)) (now (owner .entry)) links a) start stop)) × Looked (now (owner .entry)) (now (far .exit)) (flagsOf r) ⌝ }
+{
+    if stop < start {
+        return set;
+    }
+    let first = lookup::rank_of(iid, links, start);
+    let past = past_of(iid, links, first, start, stop);
+    owners_between(set, far, owner, first, past)
 }

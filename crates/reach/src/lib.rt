@@ -11,6 +11,8 @@ ghost use Rattle.laws.specs.Columns.{flagAt, numberAt, tabulate};
 ghost use Rattle.wire.specs.Walk.{walk};
 ghost use Rattle.ranges.specs.Inner.Laws.{Table};
 ghost use Rattle.ranges.specs.Named.{isOwnedBy};
+ghost use Rattle.ranges.specs.Inner.Owners.{Looked};
+ghost use Rattle.sets.specs.Inner.Bits.{flagsOf};
 ghost use Rattle.traffic.specs.Inner.Named.{withPar, ownersPars};
 ghost use Rattle.rules.specs.Event.{message, lost, recovery, linkUp, linkDown, linkMessage};
 ghost use Rattle.ask.specs.Happened.{happened, eventOf};
@@ -20,23 +22,24 @@ ghost use Rattle.reach.specs.Inner.Rows.{ownerRow, namedRow, otherRow, a
 
 // ---- owners
 
-// The flags set, with those of the ASes that own a known identifier of a parameter.
+// The set, with the ASes that own a known identifier of a parameter.
 fn owners_par<'a>(
-    set: [bool; 16],
+    set: u32,
+    far: &mut [u8; 128],
     t: u16,
     v: &[u8],
     links: usize,
     iid: &'a [u32; 128],
     owner: &'a [u8; 128],
-) -> [bool; 16]
-    requires { ⌜ Table (now iid) (now owner) links ⌝ }
-    ensures { λ r. ⌜ r ≡ withPar set (isOwnedBy (now (iid .entry)) (now (owner .entry)) links) t (now (v .entry)) ⌝ }
+) -> u32
+    requires { ⌜ Table (now iid) (now owner) links × Looked (now owner) (now far) (flagsOf set) ⌝ }
+    ensures { λ r. ⌜ (flagsOf r ≡ withPar (flagsOf set) (isOwnedBy (now (iid .entry)) (now (owner .entry)) links) t (now (v .entry))) × Looked (now (owner .entry)) (now (far .exit)) (flagsOf r) ⌝ }
 {
     if t == 1 {
-        return ranges::owners_of(set, v, false, iid, owner, links);
+        return naming::owners_of(set, far, v, false, iid, owner, links);
     }
     if t == 8 {
-        return ranges::owners_of(set, v, true, iid, owner, links);
+        return naming::owners_of(set, far, v, true, iid, owner, links);
     }
     set
 }
@@ -46,16 +49,17 @@ fn owners_named<'a>(s: &[u8], links: usize, iid: &'a [u32; 128], owner: &'a [u8;
     requires { ⌜ Table (now iid) (now owner) links ⌝ }
     ensures { λ r. ⌜ r ≡ ownersPars (isOwnedBy (now (iid .entry)) (now (owner .entry)) links) (walk (now (s .entry)) 8 .pars) ⌝ }
 {
-    let mut set = [false; 16];
+    let mut far = [0u8; 128];
+    let mut set: u32 = 0;
     let mut at: usize = 8;
     loop {
         let w = wire::step_at(s, at);
         let Step::Param { tag, len, next } = w else {
-            return set;
+            return sets::flags_of(set);
         };
         let start = at + 4;
         let stop = at + len as usize;
-        let new = owners_par(set, tag, &s[start..stop], links, iid, owner);
+        let new = owners_par(set, &mut far, tag, &s[start..stop], links, iid, owner);
         set = new;
         at = next;
     }

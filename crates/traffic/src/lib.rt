@@ -1,11 +1,11 @@
 // What Active and Inactive do.
 use message::Reading;
-use naming::Named;
+use ranges::Named;
 use rules::Decision;
 use server::Change;
 use wire::Step;
 ghost use mathlib.Core.Path.{_≡_};
-ghost use mathlib.Core.Bool.{cond, not, _&&_};
+ghost use mathlib.Core.Bool.{false, cond, not, _&&_};
 ghost use mathlib.Core.List.{[], _∷_};
 ghost use Prim.Native.Nat.{_<_};
 ghost use lib.Dec.{eqb};
@@ -15,8 +15,10 @@ ghost use Rattle.wire.specs.Walk.{walk};
 ghost use Rattle.action.specs.Words.{action};
 ghost use Rattle.ranges.specs.Inner.Laws.{Table};
 ghost use Rattle.ranges.specs.Named.{isRefused, isOwnedBy};
-ghost use Rattle.naming.specs.Inner.Bits.{flagsOf};
-ghost use Rattle.naming.specs.Inner.Names.{Names};
+ghost use Rattle.ranges.specs.Inner.Names.{Names};
+ghost use Rattle.ranges.specs.Inner.Owners.{Looked};
+ghost use Rattle.ranges.specs.Inner.Refused.{refusedBy};
+ghost use Rattle.sets.specs.Inner.Bits.{flagsOf};
 ghost use Rattle.server.specs.Record.{some};
 ghost use Rattle.servers.specs.Changed.{columnOf};
 ghost use Rattle.server.specs.declared.Change.the-variants.{Activate};
@@ -29,27 +31,27 @@ ghost use Rattle.action.specs.Types.{aspActiveAck};
 
 // ---- the identifiers of a message
 
-// Those of a parameter, beside those of the set.
+// Those of a parameter, beside those of the set; mine are the ASes of the sender.
 fn named_par<'a>(
     set: u32,
+    far: &mut [u8; 128],
     t: u16,
     v: &[u8],
     links: usize,
-    member: &'a [u8; 256],
     iid: &'a [u32; 128],
     owner: &'a [u8; 128],
-    p: usize,
+    mine: u32,
 ) -> Named
-    requires { ⌜ Table (now iid) (now owner) links × (p < 16) ⌝ }
-    ensures { λ r. ⌜ Names r (refusedPar (isRefused (now (iid .entry)) (now (owner .entry)) (now (member .entry)) links p) t (now (v .entry))) (withPar (flagsOf set) (isOwnedBy (now (iid .entry)) (now (owner .entry)) links) t (now (v .entry))) ⌝ }
+    requires { ⌜ Table (now iid) (now owner) links × Looked (now owner) (now far) (flagsOf set) ⌝ }
+    ensures { λ r. ⌜ Names r (refusedPar (refusedBy (now (iid .entry)) (now (owner .entry)) links (flagsOf mine)) t (now (v .entry))) (withPar (flagsOf set) (isOwnedBy (now (iid .entry)) (now (owner .entry)) links) t (now (v .entry))) × (r .refused .found ≡ false → Looked (now (owner .entry)) (now (far .exit)) (flagsOf (r .set))) ⌝ }
 {
     if t == 1 {
-        return naming::of_ids(set, v, iid, owner, member, links, p);
+        return naming::of_ids(set, v, iid, owner, links, mine);
     }
     if t == 8 {
-        return naming::of_ranges(set, v, iid, owner, member, links, p);
+        return naming::of_ranges(set, far, v, iid, owner, links, mine);
     }
-    naming::passes(set)
+    ranges::passes(set)
 }
 
 // ---- Active and Inactive
@@ -60,8 +62,7 @@ fn some_other(mode: &[u8; 16], m: usize, named: u32) -> bool
 {
     let mut found = false;
     for a in 0..16usize {
-        let is = (named >> (a as u32)) % 2 == 1;
-        found = found | (is & (gateway::wide(mode[a]) != m));
+        found = found | (sets::has(named, a) & (gateway::wide(mode[a]) != m));
     }
     found
 }
@@ -92,7 +93,7 @@ fn active_work(mode: &[u8; 16], p: usize, m: u32, named: u32) -> Decision
     requires { ⌜ p < 16 ⌝ }
     ensures { λ w. ⌜ DecidesOn (λ g. g .mode ≡ now (mode .entry)) (λ g. activeEffect g p m (flagsOf named)) w ⌝ }
 {
-    active_at(p, other_mode(mode, m, named), naming::flags_of(named))
+    active_at(p, other_mode(mode, m, named), sets::flags_of(named))
 }
 
 fn inactive_work(p: usize, named: [bool; 16]) -> Decision
@@ -114,7 +115,7 @@ fn act_in(on: bool, mode: &[u8; 16], p: usize, m: u32, named: u32) -> Decision
     if on {
         return active_work(mode, p, m, named);
     }
-    inactive_work(p, naming::flags_of(named))
+    inactive_work(p, sets::flags_of(named))
 }
 
 // The ASes of ASP p.
@@ -124,7 +125,7 @@ fn ases_of(member: &[u8; 256], p: usize) -> u32
 {
     let mut r: u32 = 0;
     for a in 0..16usize {
-        r = naming::with_if(r, a, member[a * 16 + p] == 1);
+        r = sets::with_if(r, a, member[a * 16 + p] == 1);
     }
     r
 }
@@ -150,19 +151,21 @@ fn aim<'a>(
     requires { ⌜ Table (now iid) (now owner) links × (p < 16) ⌝ }
     ensures { λ r. ⌜ Aims r ids (refusedPars (isRefused (now (iid .entry)) (now (owner .entry)) (now (member .entry)) links p) (walk (now (s .entry)) 8 .pars)) (ownersPars (isOwnedBy (now (iid .entry)) (now (owner .entry)) links) (walk (now (s .entry)) 8 .pars)) (columnOf (now (member .entry)) p) ⌝ }
 {
+    let mine = ases_of(member, p);
     if !ids {
-        return naming::passes(ases_of(member, p));
+        return ranges::passes(mine);
     }
+    let mut far = [0u8; 128];
     let mut set: u32 = 0;
     let mut at: usize = 8;
     loop {
         let w = wire::step_at(s, at);
         let Step::Param { tag, len, next } = w else {
-            return naming::passes(set);
+            return ranges::passes(set);
         };
         let start = at + 4;
         let stop = at + len as usize;
-        let e = named_par(set, tag, &s[start..stop], links, member, iid, owner, p);
+        let e = named_par(set, &mut far, tag, &s[start..stop], links, iid, owner, mine);
         let f = e.refused;
         if f.found {
             return e;

@@ -1,11 +1,11 @@
-//! Lines of the kinds `event` and `bytes`: long histories, each over one
-//! plan.
+//! Lines of the kinds `event`, `bytes` and `ranges`: long histories, each over
+//! one plan.
 
 use super::hex::put_bytes;
 use super::message::{self, Message, Piece, MESSAGES};
 use super::plans::{self, Plan};
 use super::rng::Rng;
-use super::{malformed, orders, reading, retrievals, scenes};
+use super::{malformed, orders, range_plans, ranges, reading, retrievals, scenes, Kind};
 use crate::events::{bits, Event};
 use crate::gateway::{Each, Gateway, HOLD_BYTES, IDLE, IN_SERVICE, STARTING, STOPPING};
 use crate::script::{put_number, Session};
@@ -91,11 +91,14 @@ pub struct History {
     opening: bool,
     /// Whether `bytes` lines are made.
     bytes: bool,
+    /// Whether most events name ranges.
+    ranges: bool,
     results: Vec<u8>,
 }
 
 impl History {
-    pub fn new(bytes: bool) -> Self {
+    pub fn new(kind: Kind) -> Self {
+        let bytes = kind == Kind::Bytes;
         History {
             session: Session::new(),
             queue: VecDeque::new(),
@@ -104,6 +107,7 @@ impl History {
             first: true,
             opening: false,
             bytes,
+            ranges: kind == Kind::Ranges,
             results: Vec::new(),
         }
     }
@@ -137,7 +141,9 @@ impl History {
             return plans::put(&plans::any(rng), line);
         }
         // The first plan has the most orders there can be.
-        let plan = if self.first || rng.one_in(8) {
+        let plan = if self.ranges {
+            self.range_plan(rng)
+        } else if self.first || rng.one_in(8) {
             self.storm(rng)
         } else {
             let plan = any_plan(rng);
@@ -146,20 +152,35 @@ impl History {
             plan
         };
         self.first = false;
-        self.opening = true;
+        self.opening = !self.ranges;
         self.left = self.length(rng, plan.links.is_empty());
         plans::put(&plan.encode(), line);
     }
 
-    /// How long a plan stays. Of `bytes` an event has several lines, and plans
-    /// should vary; but now and then one stays for long.
+    /// How long a plan stays. Of `bytes` an event has several lines, of `ranges`
+    /// one plan says little, and plans should vary; but now and then one stays
+    /// for long.
     fn length(&self, rng: &mut Rng, no_links: bool) -> u64 {
-        let most = if self.bytes { 250 } else { 400 };
+        let most = match self.bytes {
+            _ if self.ranges => 100,
+            true => 250,
+            false => 400,
+        };
         match rng.below(8) {
             _ if no_links => rng.range(most / 10, most / 4),
             0 => rng.range(2 * most, 6 * most),
             _ => rng.range(most / 5, most),
         }
+    }
+
+    /// A plan made for ranges; most ASPs come up, and some of them active.
+    fn range_plan(&mut self, rng: &mut Rng) -> Plan {
+        let plan = range_plans::plan(rng);
+        let mut lines = scenes::opening(rng, plan.asps.len(), false);
+        let active = rng.below(plan.asps.len() as u64 + 1) as usize;
+        lines.truncate(plan.asps.len() + active);
+        self.queue.extend(lines);
+        plan
     }
 
     /// All up, one active everywhere, and then its Up again, or all that can be
@@ -216,10 +237,10 @@ impl History {
         if let Some(first) = self.queue.pop_front() {
             return line.extend_from_slice(&first);
         }
-        let event = if self.bytes {
-            Made::for_bytes(rng, &gateway)
-        } else {
-            Made::any(rng, &gateway)
+        let event = match self.bytes {
+            _ if self.ranges => Made::for_ranges(rng, &gateway),
+            true => Made::for_bytes(rng, &gateway),
+            false => Made::any(rng, &gateway),
         };
         let list = match rng.below(60) {
             0 => 1543,
@@ -229,6 +250,7 @@ impl History {
         };
         match rng.below(10) {
             0 => line.extend_from_slice(b"reach "),
+            1 if self.ranges => line.extend_from_slice(b"reach "),
             1..=6 if self.bytes => return self.all_bytes(rng, &gateway, &event, list, line),
             _ => {}
         }
@@ -241,8 +263,9 @@ impl History {
     /// Now and then several lines that belong together.
     fn scene(&mut self, rng: &mut Rng, gateway: &Gateway) {
         match rng.below(100) {
+            1..=3 if self.ranges => {}
             0..=3 => self.queue.extend(scenes::pending(rng, gateway)),
-            4..=30 if scenes::many_idle(gateway) => {
+            4..=30 if !self.ranges && scenes::many_idle(gateway) => {
                 self.queue.extend(scenes::service(rng, gateway))
             }
             _ => {}
@@ -362,6 +385,15 @@ impl Made {
             }
         }
         made
+    }
+
+    /// Mostly an Active or Inactive of ranges.
+    fn for_ranges(rng: &mut Rng, gateway: &Gateway) -> Made {
+        let made = match rng.one_in(6) {
+            true => None,
+            false => ranges::event(rng, gateway),
+        };
+        made.unwrap_or_else(|| Made::any(rng, gateway))
     }
 
     fn event(&self) -> Event<'_> {
@@ -495,7 +527,7 @@ fn identifier(rng: &mut Rng, gateway: &Gateway, tests: &[&dyn Fn(usize) -> bool]
 }
 
 /// Whether ASP p is in the AS that owns a link.
-fn serves(gateway: &Gateway, p: u32, link: usize) -> bool {
+pub fn serves(gateway: &Gateway, p: u32, link: usize) -> bool {
     p < 16 && gateway.is_member(gateway.owner[link] as usize, p as usize)
 }
 

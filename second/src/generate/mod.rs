@@ -7,6 +7,8 @@ mod malformed;
 mod message;
 mod orders;
 mod plans;
+mod range_plans;
+mod ranges;
 mod reading;
 pub mod retrievals;
 mod rng;
@@ -29,12 +31,16 @@ pub enum Kind {
     Event,
     /// The same with many lines of `bytes`.
     Bytes,
+    /// Histories heavy in Active and Inactive with ranges, on plans made for
+    /// them.
+    Ranges,
     /// Malformed lines of every sort, also with bytes that are no text.
     Bad,
 }
 
 impl Kind {
-    pub const NAMES: [&'static str; 6] = ["read", "write", "plan", "event", "bytes", "bad"];
+    pub const NAMES: [&'static str; 7] =
+        ["read", "write", "plan", "event", "bytes", "ranges", "bad"];
 
     pub fn named(name: &str) -> Option<Kind> {
         match name {
@@ -43,6 +49,7 @@ impl Kind {
             "plan" => Some(Kind::Plan),
             "event" => Some(Kind::Event),
             "bytes" => Some(Kind::Bytes),
+            "ranges" => Some(Kind::Ranges),
             "bad" => Some(Kind::Bad),
             _ => None,
         }
@@ -57,7 +64,7 @@ pub fn generate(
     take: &mut dyn FnMut(&[u8]) -> io::Result<()>,
 ) -> io::Result<()> {
     let mut rng = Rng::new(seed);
-    let mut history = History::new(kind == Kind::Bytes);
+    let mut history = History::new(kind);
     let mut line = Vec::new();
     for _ in 0..lines {
         line.clear();
@@ -65,7 +72,7 @@ pub fn generate(
             Kind::Read => reading::line(&mut rng, &mut line),
             Kind::Write => writing::line(&mut rng, &mut line),
             Kind::Plan => plans::line(&mut rng, &mut line),
-            Kind::Event | Kind::Bytes => history.line(&mut rng, &mut line),
+            Kind::Event | Kind::Bytes | Kind::Ranges => history.line(&mut rng, &mut line),
             Kind::Bad => malformed::any_line(&mut rng, &mut line),
         }
         take(&line)?;

@@ -1,15 +1,16 @@
--- Counting below a number: a test that holds up to a point, the one of a given rank, a search that finds nothing.
+-- Counting below a number: a test that holds up to a point, the one of a given rank, a count in parts; what a search finds, or that it finds nothing.
 -- Assumes nothing.
-use Prim.Native.Nat.{ℕ, zero, suc, _+_, _<_}
+use Prim.Native.Nat.{ℕ, zero, suc, _+_, _-_, _<_, _≤_}
 use mathlib.Core.Path.{_≡_, refl, ap, _∙_, sym}
 use mathlib.Core.Bool.{Bool, true, false, _&&_, cond}
 use native.Mathlib.Omega.{arith}
-use native.Mathlib.Nat.{not-suc-le-zero}
+use native.Mathlib.Nat.{not-suc-le-zero, add-zero, add-suc}
 use native.Mathlib.Decide.{decLt, ℕ-discrete}
 use lib.Dec.{ltb, eqb}
-use borrow.Author.Tests.{lt-ltb, le-ltb, eq-eqb, ne-eqb}
-use Rattle.laws.specs.Below.{firstBelow, countBelow, one}
-use Rattle.laws.specs.Inner.Below.{count-small}
+use borrow.Author.Tests.{lt-ltb, le-ltb, eq-eqb, ne-eqb, eqb-true}
+use Rattle.laws.specs.Below.{allBelow, firstBelow, lastBelow, countBelow, one}
+use Rattle.laws.specs.Inner.Below.{count-small, all-at, all-of}
+use Rattle.laws.specs.Inner.Every.{count-not, same-truth}
 
 -- a test that holds of all below n is counted n times
 pub count-all : (f : ℕ → Bool) (n : ℕ) → ((i : ℕ) → i < n → f i ≡ true) → countBelow f n ≡ n
@@ -72,3 +73,46 @@ first-hit f (suc n) h = go (decLt (firstBelow f n) n) (f n) refl (first-hit f n)
         let q : suc n < suc n = rw (le-ltb (firstBelow f n) n (omega arith), e) at k in
         let w : ⊥ = omega arith in
         absurd w
+
+-- a search for the last finds the one after which none has f
+pub last-at : (f : ℕ → Bool) (n k : ℕ) → k < n → f k ≡ true → ((i : ℕ) → k < i → i < n → f i ≡ false) → lastBelow f n ≡ k
+unfolding lastBelow
+last-at f zero k b e h = absurd (not-suc-le-zero b)
+last-at f (suc n) k b e h = go (decLt k n) (λ l. last-at f n k l e (λ i p q. h i p (omega arith)))
+  where
+    go : Dec (k < n) → (k < n → lastBelow f n ≡ k) → cond (f n) n (cond (ltb (lastBelow f n) n) (lastBelow f n) (suc n)) ≡ k
+    go (yes l) g = rw (h n l (omega arith), g l, lt-ltb k n l)
+    go (no l) g = let z : n ≡ k = omega arith in let w : f n ≡ true = rw z e in rw w z
+
+-- a count in two parts
+pub count-split : (f : ℕ → Bool) (m n : ℕ) → countBelow f (m + n) ≡ countBelow f m + countBelow (λ j. f (m + j)) n
+unfolding countBelow
+count-split f m zero = rw (add-zero m, add-zero (countBelow f m))
+count-split f m (suc n) = rw (add-suc m n, count-split f m n) (omega arith)
+
+-- numbers without f add nothing
+pub count-rest : (f : ℕ → Bool) (m n : ℕ) → m ≤ n → ((j : ℕ) → m ≤ j → j < n → f j ≡ false) → countBelow f n ≡ countBelow f m
+count-rest f m n b h =
+    let z : m + (n - m) ≡ n = omega arith in
+    let e : countBelow (λ j. f (m + j)) (n - m) ≡ 0 = count-not (λ j. f (m + j)) (n - m) (λ j q. h (m + j) (omega arith) (omega arith)) in
+    rw z at (count-split f m (n - m)) ∙ (rw e (omega arith))
+
+-- all have f just where as many as there are have it
+count-full : (f : ℕ → Bool) (n : ℕ) → countBelow f n ≡ n → (i : ℕ) → i < n → f i ≡ true
+unfolding countBelow
+count-full f zero e i b = absurd (not-suc-le-zero b)
+count-full f (suc n) e i b = go (f n) refl (decLt i n) (λ c l. count-full f n c i l)
+  where
+    go : (u : Bool) → f n ≡ u → Dec (i < n) → (countBelow f n ≡ n → i < n → f i ≡ true) → f i ≡ true
+    go true z (yes l) g = let w : countBelow f n + 1 ≡ suc n = rw z at e in g (omega arith) l
+    go true z (no l) g = let w : i ≡ n = omega arith in rw w z
+    go false z d g =
+        let w : countBelow f n + 0 ≡ suc n = rw z at e in
+        let v : ⊥ = omega (arith, count-small f n) in
+        absurd v
+
+pub all-by-count : (f : ℕ → Bool) (n : ℕ) → allBelow f n ≡ eqb (countBelow f n) n
+all-by-count f n =
+    same-truth (allBelow f n) (eqb (countBelow f n) n)
+    (λ e. eq-eqb (countBelow f n) n (count-all f n (all-at f n e)))
+    (λ e. all-of f n (count-full f n (eqb-true (countBelow f n) n e)))

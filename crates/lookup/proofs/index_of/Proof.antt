@@ -16,4 +16,4 @@ returns-3 : tie.Need-returns-3
 returns-3 c = let at = c .before in index-none _ _ (at .before .pre .1) _ _ (at .rank-of .ensures .0) (λ b z. omega arith)
 
 pub index-of-spec : {M : Type 1} → statement M
-index-of-spec = tie.close (tie.spec (search needs) (search needs) (search needs) returns returns-2 returns-3)
+index-of-spec = tie.close (tie.spec (λ c κs. search needs) (search needs) (search needs) returns returns-2 returns-3)

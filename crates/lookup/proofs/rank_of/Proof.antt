@@ -1,34 +1,41 @@
--- `lookup::rank_of`: as many as are below x among those passed. Assumes nothing.
-use Prim.Native.Nat.{_≤_, _-_}
-use mathlib.Core.Path.{_≡_, sym}
+-- `lookup::rank_of`: the eighth in which x would stand, and the place in it. Assumes nothing.
+use Prim.Native.Nat.{_-_, _*_}
+use mathlib.Core.Path.{refl}
 use native.Mathlib.Omega.{arith}
 use borrow.Author.Needs.{needs}
-use lib.Dec.{ltb}
-use Rattle.lookup.specs.Inner.Links.{rank}
-use Rattle.laws.specs.Below.{countBelow}
-use Rattle.laws.specs.Inner.Below.{at-end, count-none, count-more}
-use Rattle.laws.specs.Columns.{numberAt}
+use Rattle.lookup.specs.Inner.Links.{rank-most, least-most, eighths-most, eighths-none, eighths-some}
 use Rattle.lookup.proofs.rank_of.Statement.{statement}
 use Rattle.lookup.proofs.rank_of.Tie as tie
 
-abbrev Inv-loop : tie.InvT-loop
-Inv-loop iid links x n₀ l₀ n l = (n ≡ countBelow (λ i. ltb (numberAt iid i) x) l) × (n ≤ l) × (l ≤ links) × (links ≤ 128)
+returns : tie.Need-returns
+returns c = let at = c .before in (eighths-none _ _ (at .before .pre .1) _ _ (at .eighths-below .ensures) (c .if1 .taken), search needs)
 
-abbrev μ-loop : tie.MeasureT-loop
-μ-loop iid links x n₀ l₀ n l = links - l
+mul-first : tie.Need-mul-first
+mul-first c = let at = c .before in omega (arith, at .before .pre .0, eighths-most _ _ (at .before .pre .1) _ _ (at .eighths-below .ensures))
 
-loop-holds : tie.Need-loop-holds Inv-loop μ-loop
-loop-holds c = (sym (count-none _), search needs, search needs, search needs)
+sub-least : tie.Need-sub-least
+sub-least c = let at = c .before in omega (arith, at .before .pre .0, eighths-most _ _ (at .before .pre .1) _ _ (at .eighths-below .ensures))
 
-loop-again : tie.Need-loop-again Inv-loop μ-loop
-loop-again c = (rw (count-more, c .before .before .before .loop .inv .0, c .unit-32 .ensures .0), omega (arith, c .unit-32 .ensures .1), search needs, search needs)
+below-from-requires : tie.Need-below-from-requires
+below-from-requires c κs =
+    let at = c .before .before in
+    omega (arith, at .before .pre .0, eighths-most _ _ (at .before .pre .1) _ _ (at .eighths-below .ensures), least-most 8 (at .before .args .links - (8 * at .eighths-below .result - 8)) (c .least .result) (c .least .ensures))
 
-returns : tie.Need-returns Inv-loop μ-loop
-unfolding rank
-returns c = (at-end (countBelow _) (c .before .loop .inv .0) (c .loop-test .left) (c .before .loop .inv .2), search needs)
+add-result : tie.Need-add-result
+add-result c =
+    let at = c .before .before .before in
+    let h = at .before .pre .1 in
+    omega (arith, at .before .pre .0, eighths-some _ _ h _ _ (at .eighths-below .ensures) _ _ _ (c .before .before .if1 .left) refl (c .before .least .ensures) (c .below-from .ensures), rank-most _ _ h (at .before .args .x))
+
+returns-2 : tie.Need-returns-2
+returns-2 c =
+    let at = c .before .before .before in
+    let h = at .before .pre .1 in
+    let e = eighths-some _ _ h _ _ (at .eighths-below .ensures) _ _ _ (c .before .before .if1 .left) refl (c .before .least .ensures) (c .below-from .ensures) in
+    (e, omega (arith, e, rank-most _ _ h (at .before .args .x)))
 
 pub rank-of-spec : {M : Type 1} → statement M
 rank-of-spec =
     tie.close
-    (tie.spec Inv-loop μ-loop loop-holds (search needs) (search needs) (search needs) (search needs) (search needs)
-    (search needs) loop-again (search needs) returns)
+    (tie.spec (search needs) returns mul-first (search needs) sub-least (search needs) below-from-requires add-result
+    returns-2)

@@ -1,6 +1,8 @@
 use Rattle.traffic.specs.Inner.Named.{Owners, owners-none, owners-more, owners-end}
 use Rattle.ranges.specs.Named.{isOwnedBy}
 use Rattle.ranges.specs.Inner.Laws.{Table}
+use Rattle.ranges.specs.Inner.Owners.{Looked, looked-none}
+use Rattle.sets.specs.Inner.Bits.{flagsOf, flags-zero}
 use Rattle.wire.proofs.Steps.{step-next, pars-next, pars-stop}
 use Rattle.wire.specs.declared.Step.the-variants.{Param}
 use Rattle.wire.specs.Walk.{stepAt, walk}
@@ -13,10 +15,10 @@ use Rattle.reach.proofs.owners_named.Statement.{statement}
 use Rattle.reach.proofs.owners_named.Tie as tie
 
 abbrev Inv-loop : tie.InvT-loop
-Inv-loop s links iid owner set₀ at₀ set at = Owners (isOwnedBy iid owner links) (walk s at .pars) (walk s 8 .pars) set × Table iid owner links
+Inv-loop s links iid owner far₀ set₀ at₀ far set at = Owners (isOwnedBy iid owner links) (walk s at .pars) (walk s 8 .pars) (flagsOf set) × Table iid owner links × Looked owner far (flagsOf set)
 
 abbrev μ-loop : tie.MeasureT-loop
-μ-loop s links iid owner set₀ at₀ set at = length s - at
+μ-loop s links iid owner far₀ set₀ at₀ far set at = length s - at
 
 -- the reading is the walk's, and the parameter lies within the message
 reads-at : (c : tie.After-known-told Inv-loop μ-loop)
@@ -25,7 +27,11 @@ reads-at : (c : tie.After-known-told Inv-loop μ-loop)
 reads-at c = sym (c .before .before .before .step-at .ensures) ∙ c .before .w .given .1
 
 loop-again : tie.Need-loop-again Inv-loop μ-loop
-loop-again c = let k = c .before .before in let i = k .before .before .before .before .loop .inv in (owners-more _ _ _ _ _ _ (rw (pars-next _ _ _ _ _ (reads-at k)) at (i .0)) (c .owners-par .ensures), i .1)
+loop-again c =
+    let k = c .before .before .before in
+    let i = k .before .before .before .before .loop .inv in
+    let e = c .owners-par .ensures in
+    (owners-more _ _ _ _ _ _ (rw (pars-next _ _ _ _ _ (reads-at k)) at (i .0)) (e .0), i .1, e .1)
 
 pub owners-named-spec : {M : Type 1} → statement M
 owners-named-spec =
@@ -33,16 +39,17 @@ owners-named-spec =
     (tie.spec
     Inv-loop
     μ-loop
-    (λ c. (owners-none _ _, c .before .pre))
+    (λ c. (rw flags-zero (owners-none _ _), c .before .pre, looked-none _ _))
     (λ c κs. search needs)
     (λ c. search needs)
-    (λ c. owners-end _ _ _ (rw (pars-stop _ _ _ (sym (c .before .step-at .ensures)) (c .match .keys2)) at (c .before .before .loop .inv .0)))
+    (λ c κs. search needs)
+    (λ c. c .flags-of .ensures ∙ owners-end _ _ _ (rw (pars-stop _ _ _ (sym (c .before .before .step-at .ensures)) (c .before .match .keys2)) at (c .before .before .before .loop .inv .0)))
     (λ c. let k = step-next _ _ _ _ _ (reads-at c) in omega arith)
     (λ c. let k = step-next _ _ _ _ _ (reads-at c) in omega arith)
     (λ c. let k = step-next _ _ _ _ _ (reads-at c) in omega arith)
-    (λ c. let k = step-next _ _ _ _ _ (reads-at c) in omega arith)
-    (λ c. let k = step-next _ _ _ _ _ (reads-at c) in omega arith)
-    (λ c. let k = step-next _ _ _ _ _ (reads-at c) in omega arith)
-    (λ c κs. c .before .before .before .before .before .loop .inv .1)
-    (λ c. let k = step-next _ _ _ _ _ (reads-at (c .before .before)) in omega arith)
+    (λ c. let k = step-next _ _ _ _ _ (reads-at (c .before)) in omega arith)
+    (λ c. let k = step-next _ _ _ _ _ (reads-at (c .before)) in omega arith)
+    (λ c. let k = step-next _ _ _ _ _ (reads-at (c .before)) in omega arith)
+    (λ c κs. let i = c .before .before .before .before .before .before .loop .inv in (i .1, i .2))
+    (λ c. let k = step-next _ _ _ _ _ (reads-at (c .before .before .before)) in omega arith)
     loop-again)

@@ -6,7 +6,7 @@ use borrow.Author.Needs.{needs}
 use Rattle.laws.specs.Columns.{flagAt, isSet}
 use Rattle.laws.specs.Inner.Columns.{Half, half-end}
 use Rattle.servers.specs.Changed.{columnOf}
-use Rattle.naming.specs.Inner.Bits.{flagsOf, half-zero, half-if}
+use Rattle.sets.specs.Inner.Bits.{flagsOf, half-zero, half-if}
 use Rattle.traffic.proofs.ases_of.Statement.{statement}
 use Rattle.traffic.proofs.ases_of.Tie as tie
 

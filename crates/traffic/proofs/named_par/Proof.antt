@@ -1,22 +1,24 @@
 use mathlib.Core.Path.{refl}
 use borrow.Author.Needs.{needs}
 use borrow.Author.Tests.{eq-eqb, ne-eqb}
-use Rattle.naming.specs.Inner.Laws.{names-none}
+use Rattle.ranges.specs.Inner.Names.{names-both}
+use Rattle.ranges.specs.Inner.Owners.{looked-or}
+use Rattle.sets.specs.Inner.Bits.{flags-long}
 use Rattle.traffic.specs.Inner.Named.{refusedPar, withPar}
 use Rattle.traffic.proofs.named_par.Statement.{statement}
 use Rattle.traffic.proofs.named_par.Tie as tie
 
 returns : tie.Need-returns
 unfolding refusedPar withPar
-returns c = rw (eq-eqb _ 1 (c .before .if1 .taken)) (c .of-ids .ensures)
+returns c = let e = c .of-ids .ensures in rw (eq-eqb _ 1 (c .before .if1 .taken)) (e, λ f. looked-or _ (c .before .before .before .pre .1) (flags-long _) (e .set f))
 
 returns-2 : tie.Need-returns-2
 unfolding refusedPar withPar
-returns-2 c = rw (ne-eqb _ 1 (c .before .before .if1 .left), eq-eqb _ 8 (c .before .if2 .taken)) (c .of-ranges .ensures)
+returns-2 c = let e = c .of-ranges .ensures in rw (ne-eqb _ 1 (c .before .before .before .if1 .left), eq-eqb _ 8 (c .before .before .if2 .taken)) (e .0, λ f. e .1)
 
 returns-3 : tie.Need-returns-3
 unfolding refusedPar withPar
-returns-3 c = rw (ne-eqb _ 1 (c .before .before .if1 .left), ne-eqb _ 8 (c .before .if2 .left)) (names-none (c .passes .ensures .0) refl (c .passes .ensures .1) refl)
+returns-3 c = rw (ne-eqb _ 1 (c .before .before .if1 .left), ne-eqb _ 8 (c .before .if2 .left)) (names-both (c .passes .ensures .0) refl (c .passes .ensures .1) refl, λ f. rw (c .passes .ensures .1) (c .before .before .before .before .pre .1))
 
 pub named-par-spec : {M : Type 1} → statement M
 named-par-spec =

@@ -4,7 +4,7 @@ use mathlib.Core.Bool.{Bool, true, false, not, _&&_}
 use Prim.Native.Nat.{ℕ, _%_}
 use lib.Dec.{eqb}
 use Rattle.server.specs.Record.{some}
-use Rattle.naming.specs.Inner.Bits.{flagsOf, some-bits}
+use Rattle.sets.specs.Inner.Bits.{flagsOf, some-bits}
 use Rattle.traffic.proofs.names_none.Statement.{statement}
 use Rattle.traffic.proofs.names_none.Tie as tie
 

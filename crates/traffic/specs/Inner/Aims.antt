@@ -7,7 +7,6 @@ use borrow.Author.Tests.{not-true, not-false}
 use mathlib.Core.List.{List}
 use Prim.Native.Nat.{ℕ}
 use Rattle.laws.specs.Below.{anyBelow}
-use Rattle.laws.specs.Inner.Below.{any-ext}
 use Rattle.laws.specs.Columns.{flagAt, numberAt}
 use Rattle.wire.specs.Walk.{Par}
 use Rattle.message.specs.declared.Reading.{Reading}
@@ -16,10 +15,10 @@ use Rattle.server.specs.Record.{some}
 use Rattle.servers.specs.Changed.{columnOf}
 use Rattle.ranges.specs.declared.Refused.{Refused}
 use Rattle.ranges.specs.Named.{isRefused, isOwnedBy, nothing}
-use Rattle.naming.specs.declared.Named.{Named}
-use Rattle.naming.specs.Inner.Bits.{bitAt, flagsOf, flag-is}
-use Rattle.naming.specs.Inner.Names.{Names}
-use Rattle.work.specs.Inner.Decides.{Decides, DecidesOn, act}
+use Rattle.ranges.specs.declared.Named.{Named}
+use Rattle.sets.specs.Inner.Bits.{flagsOf}
+use Rattle.ranges.specs.Inner.Names.{Names}
+use Rattle.work.specs.Inner.Decides.{Decides, act}
 use Rattle.rules.specs.declared.Decision.{Decision}
 use Rattle.rules.specs.Effect.{Effect, send, error, error2}
 use Rattle.rules.specs.Identifiers.{firstRefused, ownersNamed}
@@ -38,13 +37,6 @@ pub record TrafficColumns (links : ℕ) (up member mode iid owner : List ℕ) (g
 -- a mode given that is not that of some AS named (Rule 7.9); 0 stands for none given
 unfoldable pub otherModeIn : List ℕ → ℕ → List Bool → Bool
 otherModeIn mode m named = not (eqb m 0) && anyBelow (λ a. flagAt named a && not (eqb (numberAt mode a) m)) 16
-
--- the same, asked of the set's bits
-pub other-bits : (mode : List ℕ) (m n : ℕ)
-    → anyBelow (λ a. bitAt n a && not (eqb (numberAt mode a) m)) 16 ≡ anyBelow (λ a. flagAt (flagsOf n) a && not (eqb (numberAt mode a) m)) 16
-other-bits mode m n =
-    any-ext (λ a. bitAt n a && not (eqb (numberAt mode a) m)) (λ a. flagAt (flagsOf n) a && not (eqb (numberAt mode a) m)) 16
-    (λ a b. ap (λ (u : Bool). u && not (eqb (numberAt mode a) m)) (sym (flag-is n a b)))
 
 pub mode-is-other : (g : Gateway) (m : ℕ) (named : List Bool) {mode : List ℕ} → g .mode ≡ mode → otherMode g m named ≡ otherModeIn mode m named
 unfolding otherMode otherModeIn

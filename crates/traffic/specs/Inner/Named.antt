@@ -8,10 +8,15 @@ use Prim.Native.Nat.{ℕ, _<_}
 use lib.Dec.{eqb}
 use borrow.Author.Tests.{eqb-true}
 use lib.ListN.{length, replicate, getD-replicate}
-use Rattle.laws.specs.Columns.{flagAt, tabulate}
+use Rattle.laws.specs.Columns.{flagAt, isSet, tabulate}
 use Rattle.laws.specs.Inner.Columns.{tabulate-ext, getD-tabulate, is-tabulate, length-tabulate}
 use Rattle.wire.specs.Walk.{Par}
+use Rattle.gateway.specs.Sound.{pair}
 use Rattle.gateway.specs.declared.Gateway.{Gateway}
+use Rattle.sets.specs.Inner.Bits.{flagsOf}
+use Rattle.servers.specs.Changed.{columnOf}
+use Rattle.ranges.specs.Inner.Laws.{Table}
+use Rattle.ranges.specs.Inner.Refused.{refusedBy, refused-by}
 use Rattle.ranges.specs.Named.{isRefused, isOwnedBy, nothing, refusedIn, someOf}
 use Rattle.ranges.specs.declared.Refused.{Refused}
 use Rattle.rules.specs.Identifiers.{isIds, firstRefused, ownsNamed, ownersNamed}
@@ -87,6 +92,12 @@ module _ (g : Gateway) where
   pub owners-is : (ps : List Par) → ownersNamed g ps ≡ ownersPars (isOwnedBy (g .iid) (g .owner) (g .links)) ps
   unfolding ownersNamed ownersPars
   owners-is ps = tabulate-ext false 16 (ownsNamed g ps) (λ a. ownsPars (isOwnedBy (g .iid) (g .owner) (g .links) a) ps) (λ a b. owns-is a ps)
+
+-- one is refused by the flags of p's ASes where the rule refuses it
+pub refused-mine : (iid owner member : List ℕ) (links p mine : ℕ) → Table iid owner links → flagsOf mine ≡ columnOf member p → refusedBy iid owner links (flagsOf mine) ≡ isRefused iid owner member links p
+unfolding columnOf
+refused-mine iid owner member links p mine t e =
+    refused-by iid owner member links p (flagsOf mine) t (λ a b. ap (λ (l : List Bool). flagAt l a) e ∙ getD-tabulate 16 (λ a. isSet member (pair a p)) a false b)
 
 -- ---- the walk: parameters in received order
 

@@ -1,0 +1,15 @@
+-- `naming::entries_of`: by the tag. Assumes nothing.
+use Rattle.ranges.specs.Named.{entries}
+use Rattle.naming.proofs.entries_of.Statement.{statement}
+use Rattle.naming.proofs.entries_of.Tie as tie
+
+returns : tie.Need-returns
+unfolding entries
+returns c = rw (c .if1 .taken)
+
+returns-2 : tie.Need-returns-2
+unfolding entries
+returns-2 c = rw (c .if1 .left)
+
+pub entries-of-spec : {M : Type 1} → statement M
+entries-of-spec = tie.close (tie.spec returns returns-2)
