@@ -24,8 +24,8 @@
 #include <stdint.h>
 
 /* Raised by each change of a struct, a limit or an entry that hosts must be compiled anew for; the number of the shared library's name (CHANGELOG.md). */
-#define M2UA_ABI 3
-#define M2UA_VERSION "0.3.1"
+#define M2UA_ABI 4
+#define M2UA_VERSION "0.4.0"
 
 #ifdef __cplusplus
 #define M2UA_STATIC_ASSERT(holds, what) static_assert(holds, what)
@@ -84,7 +84,7 @@ enum {
 /* Error codes (RFC 3331, 3.3.3.1): the reader's verdicts (Rule 2.9), and the value of an Error order (Rule 8.4). The gateway gives those with a star. */
 enum {
     M2UA_ERROR_INVALID_VERSION = 1,           /* * */
-    M2UA_ERROR_INVALID_INTERFACE_ID = 2,      /* * in orders alone: unknown, or of an AS without this ASP */
+    M2UA_ERROR_INVALID_INTERFACE_ID = 2,      /* * in orders alone: unknown, or of an AS without this ASP. Alone, or behind the Ack of a list that succeeds in part */
     M2UA_ERROR_UNSUPPORTED_CLASS = 3,         /* * */
     M2UA_ERROR_UNSUPPORTED_TYPE = 4,          /* * */
     M2UA_ERROR_UNSUPPORTED_MODE = 5,          /* * */
@@ -306,6 +306,7 @@ typedef struct {
     uint8_t owner[M2UA_MAX_LINKS];          /* the AS that owns the link */
     uint8_t state[M2UA_MAX_LINKS];          /* M2UA_LINK_.. */
     uint8_t highspeed[M2UA_MAX_LINKS];      /* 1: a high-speed link (ITU-T Q.703, Annex A), with sequence numbers of 12 bits; 0: a plain one, with 7 */
+    uint8_t wholelists[M2UA_MAX_ASPS];      /* 1: identifiers that the ASP lists are taken all or none; 0: part of a list may succeed (Rule 7.8) */
     m2ua_units held;                        /* units held */
 } m2ua_gateway;
 
@@ -317,7 +318,7 @@ typedef struct {
 
 /* Loads a plan file of `len` bytes, which may be any bytes (section 4 of the rules; m2ua-plan(1) makes such files from text). Its numbers are big-endian. It begins
  * with three pairs of 32 bits, for ASPs, ASes and links: the byte where their rows start, and how many there are. Then the rows, one behind the other:
- *   ASP   32 bits: its identifier; 16: its ASes, bit a for AS a; 16: 0
+ *   ASP   32 bits: its identifier; 16: its ASes, bit a for AS a; 16: 1 where its lists of identifiers are taken all or none, else 0
  *   AS    32 bits: its traffic mode, M2UA_MODE_..
  *   link  32 bits: its interface identifier, above that of the row before; 16: its kind, 0 plain or 1 high-speed; 16: the AS that owns it
  * Answers: 0 and the fresh state: all ASPs down, nobody active, no AS waiting, all links idle, no unit held; or M2UA_REFUSED_LAYOUT or M2UA_REFUSED_ROW and zeros. */
@@ -384,7 +385,10 @@ m2ua_outcome m2ua_run(m2ua_gateway g, uint32_t kind, size_t index, const uint8_t
  * an unknown identifier, or a Retrieval Confirm has a sequence number above M2UA_MAX_SEQUENCE_PLAIN and its link is a plain one), M2UA_REFUSED_HOLD (`hold_bytes` is
  * not M2UA_HOLD_BYTES), M2UA_REFUSED_LIST (`count` below M2UA_LIST_WORDS). Refused: count 0, the state given, no word and no byte of the hold changed.
  * A message of an ASP that does not read is no refusal: it is answered by an Error order (Rule 6.8). So is a Retrieval Request that asks a plain link for a sequence number
- * above M2UA_MAX_SEQUENCE_PLAIN: where the ASP is active for the link, by Error 17, and the link side is told nothing (Rule 7.14). */
+ * above M2UA_MAX_SEQUENCE_PLAIN: where the ASP is active for the link, by Error 17, and the link side is told nothing (Rule 7.14).
+ * An Active or Inactive may name identifiers that the ASP cannot have beside those that it can. Then it acts on the latter: the orders are the Ack, an Error of code 2 with
+ * the first of the former, and what follows in the ASes; as bytes the Ack lists what was acted on (Rule 8.11). Where the ASP can have none of them, and wherever the state
+ * has 1 for it in `wholelists`, the Error is all, and nothing changes. A traffic mode that is not that of each AS acted on is Error 5 for the whole message (Rule 7.9). */
 static inline m2ua_outcome m2ua_event(m2ua_gateway g, uint32_t kind, size_t index, const uint8_t *msg, size_t len, uint8_t *hold, size_t hold_bytes, uint32_t *words,
                                       size_t count) {
     return m2ua_run(g, kind, index, msg, len, hold, hold_bytes, hold_bytes, words, count);
@@ -533,7 +537,7 @@ M2UA_STATIC_ASSERT(offsetof(m2ua_batch, length) == 16, "m2ua_batch.length");
 M2UA_STATIC_ASSERT(sizeof(m2ua_data_at) == 16, "m2ua_data_at");
 M2UA_STATIC_ASSERT(offsetof(m2ua_data_at, start) == 0, "m2ua_data_at.start");
 M2UA_STATIC_ASSERT(offsetof(m2ua_data_at, length) == 8, "m2ua_data_at.length");
-M2UA_STATIC_ASSERT(sizeof(m2ua_gateway) == 3332, "m2ua_gateway");
+M2UA_STATIC_ASSERT(sizeof(m2ua_gateway) == 3348, "m2ua_gateway");
 M2UA_STATIC_ASSERT(offsetof(m2ua_gateway, asps) == 0, "m2ua_gateway.asps");
 M2UA_STATIC_ASSERT(offsetof(m2ua_gateway, ases) == 1, "m2ua_gateway.ases");
 M2UA_STATIC_ASSERT(offsetof(m2ua_gateway, links) == 2, "m2ua_gateway.links");
@@ -548,11 +552,12 @@ M2UA_STATIC_ASSERT(offsetof(m2ua_gateway, iid) == 628, "m2ua_gateway.iid");
 M2UA_STATIC_ASSERT(offsetof(m2ua_gateway, owner) == 1140, "m2ua_gateway.owner");
 M2UA_STATIC_ASSERT(offsetof(m2ua_gateway, state) == 1268, "m2ua_gateway.state");
 M2UA_STATIC_ASSERT(offsetof(m2ua_gateway, highspeed) == 1396, "m2ua_gateway.highspeed");
-M2UA_STATIC_ASSERT(offsetof(m2ua_gateway, held) == 1524, "m2ua_gateway.held");
-M2UA_STATIC_ASSERT(sizeof(m2ua_loaded) == 3336, "m2ua_loaded");
+M2UA_STATIC_ASSERT(offsetof(m2ua_gateway, wholelists) == 1524, "m2ua_gateway.wholelists");
+M2UA_STATIC_ASSERT(offsetof(m2ua_gateway, held) == 1540, "m2ua_gateway.held");
+M2UA_STATIC_ASSERT(sizeof(m2ua_loaded) == 3352, "m2ua_loaded");
 M2UA_STATIC_ASSERT(offsetof(m2ua_loaded, code) == 0, "m2ua_loaded.code");
 M2UA_STATIC_ASSERT(offsetof(m2ua_loaded, gateway) == 4, "m2ua_loaded.gateway");
-M2UA_STATIC_ASSERT(sizeof(m2ua_outcome) == 3352, "m2ua_outcome");
+M2UA_STATIC_ASSERT(sizeof(m2ua_outcome) == 3368, "m2ua_outcome");
 M2UA_STATIC_ASSERT(offsetof(m2ua_outcome, refusal) == 0, "m2ua_outcome.refusal");
 M2UA_STATIC_ASSERT(offsetof(m2ua_outcome, count) == 8, "m2ua_outcome.count");
 M2UA_STATIC_ASSERT(offsetof(m2ua_outcome, gateway) == 16, "m2ua_outcome.gateway");

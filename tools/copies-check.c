@@ -63,6 +63,8 @@ HOST int main(int argc, char **argv) {
         {"an unreadable message", M2UA_MESSAGE, {2, 0, 3, 1, 0, 0, 0, 8}, 8},
         {"Active", M2UA_MESSAGE, {1, 0, 4, 1, 0, 0, 0, 8}, 8},
         {"Active with an identifier", M2UA_MESSAGE, {1, 0, 4, 1, 0, 0, 0, 16, 0, 1, 0, 8, 0, 0, 0, 100}, 16},
+        {"Active with an identifier and a bad one", M2UA_MESSAGE, {1, 0, 4, 1, 0, 0, 0, 20, 0, 1, 0, 12, 0, 0, 0, 100, 0, 0, 0, 101}, 20},
+        {"Active with a bad one", M2UA_MESSAGE, {1, 0, 4, 1, 0, 0, 0, 16, 0, 1, 0, 8, 0, 0, 0, 101}, 16},
         {"Establish", M2UA_MESSAGE, {1, 0, 6, 2, 0, 0, 0, 16, 0, 1, 0, 8, 0, 0, 0, 100}, 16},
         {"link up", M2UA_LINK_UP, {0}, 0},
         {"Data", M2UA_MESSAGE, {1, 0, 6, 1, 0, 0, 0, 28, 0, 1, 0, 8, 0, 0, 0, 100, 3, 0, 0, 9, 1, 2, 3, 4, 5, 0, 0, 0}, 28},

@@ -89,6 +89,9 @@ static uint32_t mixed(size_t i) { return (uint32_t)(i * 37 % 128); }
 static uint32_t whole(size_t i) { return i % 2 ? 127 : 0; }
 static uint32_t wide(size_t i) { return i % 2 ? 0xffffffff : 0; }
 static uint32_t ones(size_t i) { return (uint32_t)(i / 2 * 37 % 128); }
+static uint32_t tenth_bad(size_t i) { return i % 10 ? mixed(i) : 1000; }
+static uint32_t last_bad(size_t i) { return i < 508 ? mixed(i) : 1000; }
+static uint32_t gaps(size_t i) { return i % 2 ? 1000 : (uint32_t)(i / 2 * 37 % 128); }
 static uint32_t halves(size_t i) { return i % 2 ? 127 : (uint32_t)(i / 2 % 64); }
 
 /* ASP 0 was active in all ASes and is inactive; each AS gets 8 units of 273 bytes with a correlation id. */
@@ -118,7 +121,9 @@ int main(void) {
     cost("Active of 254 ranges of one identifier, mixed", g, M2UA_MESSAGE, msg, active(msg, 8, 508, ones));
     cost("Active of 254 ranges over all 128 links", g, M2UA_MESSAGE, msg, active(msg, 8, 508, whole));
     cost("Active of 254 ranges over half of the links and more", g, M2UA_MESSAGE, msg, active(msg, 8, 508, halves));
-    cost("Active of 254 ranges over all numbers (refused identifier)", g, M2UA_MESSAGE, msg, active(msg, 8, 508, wide));
+    cost("Active of 509 identifiers, mixed, each tenth bad", g, M2UA_MESSAGE, msg, active(msg, 1, 509, tenth_bad));
+    cost("Active of 254 ranges from a link to beyond the last one", g, M2UA_MESSAGE, msg, active(msg, 8, 508, gaps));
+    cost("Active of 254 ranges over all numbers", g, M2UA_MESSAGE, msg, active(msg, 8, 508, wide));
     cost("the same on an AS that is active: identifiers mixed", on, M2UA_MESSAGE, msg, active(msg, 1, 509, mixed));
     /* 510 empty info strings would be 19; the longest walk of an accepted message has many short ids parameters */
     size_t n = 8;
@@ -131,6 +136,7 @@ int main(void) {
     cost("Beat, 128 units held", g, M2UA_MESSAGE, (const uint8_t[]){1, 0, 3, 3, 0, 0, 0, 8}, 8);
     cost("Active without identifiers that sends 128 units", g, M2UA_MESSAGE, bare, 8);
     cost("the same with 509 identifiers, mixed", g, M2UA_MESSAGE, msg, active(msg, 1, 509, mixed));
+    cost("the same with 509 identifiers, mixed, the last one bad", g, M2UA_MESSAGE, msg, active(msg, 1, 509, last_bad));
     cost("the same with 254 ranges over all 128 links", g, M2UA_MESSAGE, msg, active(msg, 8, 508, whole));
     return 0;
 }

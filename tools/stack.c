@@ -10,7 +10,7 @@ static unsigned char stack[BYTES];
 static ucontext_t outside, inside;
 static m2ua_gateway state;
 static const uint8_t *msg;
-static size_t len, place;
+static size_t len, place, at;
 static uint32_t kind, words[M2UA_LIST_WORDS];
 static uint8_t out[65536], hold[M2UA_HOLD_BYTES];
 static m2ua_reading reading;
@@ -28,7 +28,7 @@ static void do_read(void) { reading = m2ua_read(msg, len); }
 static void do_load(void) { loaded = m2ua_load(msg, len); }
 static void do_sound(void) { sound = m2ua_is_sound(state); }
 static void do_event(void) { outcome = m2ua_event(state, kind, place, msg, len, hold, sizeof hold, words, M2UA_LIST_WORDS); }
-static void do_order(void) { written = m2ua_order(state, kind, place, msg, len, hold, sizeof hold, 1, out, sizeof out); }
+static void do_order(void) { written = m2ua_order(state, kind, place, msg, len, hold, sizeof hold, at, out, sizeof out); }
 static void do_orders(void) { batch = m2ua_orders(state, kind, place, msg, len, hold, sizeof hold, 0, lens, M2UA_MAX_ORDERS, out, sizeof out); }
 static void do_waits(void) { timers = m2ua_waits(state, loaded.gateway); }
 static void do_place(void) { answer = m2ua_link_place(state, 127); }
@@ -61,7 +61,7 @@ static void measure(const char *what, void (*f)(void)) {
     if (d > M2UA_STACK) worst = 1;
 }
 
-/* 16 ASPs, members of 16 ASes in broadcast, with 8 links each: an Active where every AS holds 8 units has the most orders. */
+/* 16 ASPs, members of 16 ASes in broadcast, with 8 links each: an Active where every AS holds 8 units, and which names all links and one that there is not, has the most orders. */
 static size_t full_plan(uint8_t *file) {
     const uint8_t head[24] = {0, 0, 0, 24, 0, 0, 0, 16, 0, 0, 0, 152, 0, 0, 0, 16, 0, 0, 0, 216, 0, 0, 0, 128};
     memset(file, 0, M2UA_MAX_PLAN);
@@ -98,6 +98,7 @@ static void pend(void) {
 int main(void) {
     static uint8_t file[M2UA_MAX_PLAN], longest[M2UA_MAX_MESSAGE];
     static const uint8_t up[8] = {1, 0, 3, 1, 0, 0, 0, 8}, active[8] = {1, 0, 4, 1, 0, 0, 0, 8};
+    static const uint8_t list[20] = {1, 0, 4, 1, 0, 0, 0, 20, 0, 8, 0, 12, 0, 0, 0, 0, 0, 0, 0, 128};
     static const uint8_t ind[24] = {1, 0, 6, 9, 0, 0, 0, 24, 0, 1, 0, 8, 0, 0, 0, 100, 3, 3, 0, 8, 0, 0, 0, 1};
     msg = file, len = full_plan(file);
     measure("m2ua_load, full plan", do_load);
@@ -119,9 +120,14 @@ int main(void) {
     place = 0, msg = active, len = sizeof active;
     measure("m2ua_event, 128 units out", do_event);
     if (outcome.count != 385) return printf("an Active with 128 units has %zu orders\n", outcome.count), 1;
-    measure("m2ua_order, one of them", do_order);
+    msg = list, len = sizeof list;
+    measure("m2ua_event, the same in part", do_event);
+    if (outcome.count != M2UA_MAX_ORDERS) return printf("an Active that succeeds in part has %zu orders\n", outcome.count), 1;
+    measure("m2ua_order, its Ack", do_order);
+    at = 2;
+    measure("m2ua_order, one of its units", do_order);
     measure("m2ua_orders, all of them", do_orders);
-    if (batch.code || batch.count != 385) return printf("a batch has %zu orders\n", batch.count), 1;
+    if (batch.code || batch.count != M2UA_MAX_ORDERS) return printf("a batch has %zu orders\n", batch.count), 1;
     printf("%-28s %5zu bytes to send\n", "(all its messages)", batch.length);
     measure("m2ua_waits", do_waits);
     measure("m2ua_link_place", do_place);

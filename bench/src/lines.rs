@@ -114,7 +114,7 @@ pub fn asked(program: &str, word: Option<&str>, usual: &[Kind]) -> (String, Vec<
         return (program.to_string(), usual.to_vec());
     };
     match Kind::named(word) {
-        Some(kind @ (Kind::Event | Kind::Bytes | Kind::Ranges)) => {
+        Some(kind @ (Kind::Event | Kind::Bytes | Kind::Ranges | Kind::Partly)) => {
             (format!("{program} of {word}"), vec![kind])
         }
         _ => panic!("no kind of histories: {word}"),

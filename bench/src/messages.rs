@@ -51,9 +51,25 @@ pub fn active_of(ids: impl Iterator<Item = u32>) -> Vec<u8> {
     message(4, 1, &[bytes(0x1, &value)])
 }
 
+/// 500 identifiers of links 0 to 127, in order again and again or in no order; each tenth has no link.
+pub fn tenth_missing(mixed: bool) -> Vec<u8> {
+    let step = if mixed { 37 } else { 1 };
+    active_of((0..500).map(|i| if i % 10 == 9 { 1000 } else { i * step % 128 }))
+}
+
 /// An Active that names ranges, of which each stop is meant too.
 pub fn active_of_ranges(ranges: impl Iterator<Item = (u32, u32)>) -> Vec<u8> {
     let ends = ranges.flat_map(|(start, stop)| [start, stop]);
     let value: Vec<u8> = ends.flat_map(u32::to_be_bytes).collect();
     message(4, 1, &[bytes(0x8, &value)])
+}
+
+/// 500 identifiers in no order of links that are numbered in steps of three; each tenth has no link.
+pub fn missing_in_gaps() -> impl Iterator<Item = u32> {
+    (0..500).map(|i| i * 37 % 128 * 3 + (i % 10 == 9) as u32)
+}
+
+/// 250 ranges over eight such links each, with the gaps between them.
+pub fn over_gaps() -> impl Iterator<Item = (u32, u32)> {
+    (0..250).map(|i| (i * 37 % 120 * 3, i * 37 % 120 * 3 + 21))
 }

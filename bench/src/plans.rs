@@ -1,6 +1,6 @@
 //! Plan files.
 
-/// A plan file: ASPs (identifier, mask), ASes (mode), links (identifier, and a word with kind and owner).
+/// A plan file: ASPs (identifier, mask), ASes (mode), links (identifier, and a word with kind and owner). Part of every list may succeed.
 pub fn plan(asps: &[(u32, u16)], ases: &[u32], links: &[(u32, u32)]) -> Vec<u8> {
     let at = [
         24,
@@ -25,6 +25,13 @@ pub fn plan(asps: &[(u32, u16)], ases: &[u32], links: &[(u32, u32)]) -> Vec<u8> 
         f.extend(word.to_be_bytes());
     }
     f
+}
+
+/// The same with ASP 0 in these ASes, and its lists taken whole or not.
+pub fn with_asp_0(mut file: Vec<u8>, mask: u16, whole: bool) -> Vec<u8> {
+    file[28..30].copy_from_slice(&mask.to_be_bytes());
+    file[31] = whole as u8;
+    file
 }
 
 /// What makes an owner's word that of a high-speed link.

@@ -1,6 +1,6 @@
 /* Every entry of the library called once or more: messages read and written, plan S loaded, a short history of its events
- * (docs/RULES.md, 11.1 to 11.4, with a link established, in service and lost), what the ASPs are sent, units that wait with a pending AS, and sequence numbers
- * of plain and high-speed links. */
+ * (docs/RULES.md, 11.1 to 11.4, with a link established, in service and lost), what the ASPs are sent, units that wait with a pending AS, sequence numbers
+ * of plain and high-speed links, and lists of links that succeed in part or are taken whole. */
 #include <stdio.h>
 #include <string.h>
 #include "m2ua.h"
@@ -44,8 +44,9 @@ static void messages(void) {
     expect("the byte behind it", out[28], 0xaa);
 }
 
-/* Plan S: ASPs 7 and 8 in AS 0, override, with links 100 to 115; ASP 9 in AS 1, load-share, with link 200, whose kind is 0 (plain) in plan S itself. */
-static m2ua_loaded plan_with(uint16_t kind, size_t len) {
+/* Plan S: ASPs 7 and 8 in AS 0, override, with links 100 to 115; ASP 9 in AS 1, load-share, with link 200. In plan S itself the kind of link 200 is 0 (plain), and the spare of
+ * ASP 8 is 0 (part of a list may succeed). */
+static m2ua_loaded plan_of(uint16_t kind, uint16_t spare, size_t len) {
     uint8_t file[192] = {0, 0, 0, 24, 0, 0, 0, 3, 0, 0, 0, 48, 0, 0, 0, 2, 0, 0, 0, 56, 0, 0, 0, 17,
                          0, 0, 0, 7, 0, 1, 0, 0, 0, 0, 0, 8, 0, 1, 0, 0, 0, 0, 0, 9, 0, 2, 0, 0, 0, 0, 0, 1, 0, 0, 0, 2};
     for (int i = 0; i < 16; i++) file[59 + 8 * i] = (uint8_t)(100 + i);
@@ -53,10 +54,13 @@ static m2ua_loaded plan_with(uint16_t kind, size_t len) {
     file[188] = (uint8_t)(kind >> 8);
     file[189] = (uint8_t)kind;
     file[191] = 1;
+    file[38] = (uint8_t)(spare >> 8);
+    file[39] = (uint8_t)spare;
     return m2ua_load(file, len);
 }
 
-static m2ua_loaded plan_s(size_t len) { return plan_with(0, len); }
+static m2ua_loaded plan_with(uint16_t kind, size_t len) { return plan_of(kind, 0, len); }
+static m2ua_loaded plan_s(size_t len) { return plan_of(0, 0, len); }
 
 static uint32_t words[M2UA_LIST_WORDS];
 static uint8_t hold[M2UA_HOLD_BYTES];
@@ -284,6 +288,35 @@ static void sequences(m2ua_gateway g) {
     expect("a kind beyond the links", m2ua_is_sound(g), 0);
 }
 
+/* M up to link 116, which there is not, of ASP 0 and of ASP 1, whose lists are taken whole. */
+static void lists(m2ua_gateway g) {
+    const uint8_t up[8] = {1, 0, 3, 1, 0, 0, 0, 8};
+    const uint8_t error2[24] = {1, 0, 0, 0, 0, 0, 0, 24, 0, 0xc, 0, 8, 0, 0, 0, 2, 0, 1, 0, 8, 0, 0, 0, 116};
+    uint8_t list[28], ack[84] = {1, 0, 4, 3, 0, 0, 0, 84, 0, 0xb, 0, 8, 0, 0, 0, 1, 0, 1, 0, 68};
+    memcpy(list, m, sizeof m);
+    list[27] = 116;
+    for (uint8_t i = 0; i < 16; i++) ack[23 + 4 * i] = (uint8_t)(100 + i);
+    for (size_t p = 0; p < M2UA_MAX_ASPS; p++) expect("whether lists are taken whole", g.wholelists[p], p == 1);
+    for (size_t p = 0; p < 2; p++) g = m2ua_message(g, p, up, 8, hold, sizeof hold, words, M2UA_LIST_WORDS).gateway;
+    sent("Ack of a part", m2ua_message_order(g, 0, list, 28, hold, sizeof hold, 0, out, 1024),
+         m2ua_message_orders(g, 0, list, 28, hold, sizeof hold, 0, lens, 1, out + 1024, 1024), 84, ack);
+    sent("Error 2 behind it", m2ua_message_order(g, 0, list, 28, hold, sizeof hold, 1, out, 1024),
+         m2ua_message_orders(g, 0, list, 28, hold, sizeof hold, 1, lens, 1, out + 1024, 1024), 24, error2);
+    g = orders("a list that succeeds in part", m2ua_message(g, 0, list, 28, hold, sizeof hold, words, M2UA_LIST_WORDS), 4,
+               (uint32_t[]){0, 1027, 0, 0, 0, 0, 116, 2, 0, 1, 0, 65539, 1, 1, 0, 65539});
+    expect("ASP 0 is active", g.active[0], 1);
+    g = orders("a list taken whole", m2ua_message(g, 1, list, 28, hold, sizeof hold, words, M2UA_LIST_WORDS), 1, (uint32_t[]){1, 0, 116, 2});
+    expect("ASP 1 is not", g.active[1], 0);
+    list[15] = 2;
+    g = orders("another mode, of a part", m2ua_message(g, 0, list, 28, hold, sizeof hold, words, M2UA_LIST_WORDS), 1, (uint32_t[]){0, 0, 0, 5});
+    g.wholelists[1] = 2;
+    expect("a mark of 2 in a state", m2ua_is_sound(g), 0);
+    g.wholelists[1] = 0;
+    expect("lists of ASP 1 in part", m2ua_is_sound(g), 1);
+    g.wholelists[3] = 1;
+    expect("a mark beyond the ASPs", m2ua_is_sound(g), 0);
+}
+
 int main(void) {
     messages();
     sequence_read();
@@ -299,6 +332,10 @@ int main(void) {
     expect("code of one with a kind of 256", plan_with(256, 192).code, 202);
     expect("code of one with a high-speed link", plan_with(1, 192).code, 0);
     sequences(plan_with(1, 192).gateway);
+    expect("code of a plan with a spare of 2", plan_of(0, 2, 192).code, 202);
+    expect("code of one with a spare of 256", plan_of(0, 256, 192).code, 202);
+    expect("code of one with whole lists", plan_of(0, 1, 192).code, 0);
+    lists(plan_of(0, 1, 192).gateway);
     plan.gateway.up[0] = 2;
     expect("a flag of 2 is not", m2ua_is_sound(plan.gateway), 0);
     printf("C example: %s\n", failures ? "FAILED" : "ok");

@@ -1,5 +1,5 @@
-/* A small host: it loads a plan, lets two ASPs take turns, a link come up, units go both ways, an ASP fetch what a high-speed link has not sent, an association break,
- * units wait until the other ASP takes over, and the recovery time run out. What a host sends, which units wait, and which timers it starts, is printed.
+/* A small host: it loads a plan, lets two ASPs take turns, a link come up, units go both ways, an ASP fetch what a high-speed link has not sent, a list of links succeed in part, an association
+ * break, units wait until the other ASP takes over, and the recovery time run out. What a host sends, which units wait, and which timers it starts, is printed.
  * (rust/m2ua/examples/scenario.rs is the same in Rust; tools/hosts compares what both print.)
  * Usage: scenario PLAN, with examples/plans/high-speed.txt compiled; or scenario words. */
 #include <stdlib.h>
@@ -182,6 +182,17 @@ static void retrieval(message up, message active) {
     link_sends("link 100 has BSN 128, which a plain link cannot have", has_bsn(100, 128));
 }
 
+/* Links 114 to 116, of which the plan has two. Part of what left lists may succeed; what right lists is taken all or none. */
+static void lists(message active) {
+    const uint16_t range = M2UA_TAG_INTERFACE_ID_RANGE;
+    const uint32_t length = 8;
+    const uint8_t three[8] = {0, 0, 0, 114, 0, 0, 0, 116};
+    printf("lists taken whole: of left %u, of right %u\n", gateway.wholelists[0], gateway.wholelists[1]);
+    asp_sends("left takes links 114 to 116 back, of which there are two", 0, written(M2UA_CLASS_ASPTM, M2UA_TYPE_ACTIVE, 1, &range, &length, three));
+    asp_sends("right takes over again", 1, active);
+    asp_sends("right gives up links 114 to 116, or none", 1, written(M2UA_CLASS_ASPTM, M2UA_TYPE_INACTIVE, 1, &range, &length, three));
+}
+
 static void scenario(void) {
     const uint8_t seven[4] = {0, 0, 0, 7}, link100[4] = {0, 0, 0, 100}, link200[4] = {0, 0, 0, 200};
     const uint8_t take[12] = {0, 0, 0, 1, 0, 0, 0, 100, 0, 0, 0, 115};
@@ -211,6 +222,7 @@ static void scenario(void) {
     asp_sends("left asks for a link of another AS", 0,
               written(M2UA_CLASS_ASPTM, M2UA_TYPE_ACTIVE, 1, (const uint16_t[]){M2UA_TAG_INTERFACE_ID}, (const uint32_t[]){4}, link200));
     happens("left sends three bytes", M2UA_MESSAGE, 0, up.bytes, 3);
+    lists(active);
     other("the association of right is lost", M2UA_LOST, 1);
     link_sends("a unit comes in on link 100 and waits", received);
     link_sends("a unit comes in on link 101 and waits", later);

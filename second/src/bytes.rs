@@ -2,6 +2,7 @@
 
 use crate::events::*;
 use crate::gateway::{place_in_hold, Gateway};
+use crate::naming::{Links, Marks};
 use crate::wire::*;
 use crate::write::{put_header, put_param, Written, SHORT_BUFFER};
 
@@ -12,9 +13,8 @@ pub const NO_SUCH_ORDER: u32 = 104;
 /// their bytes, then to write them.
 trait Sink {
     fn param(&mut self, tag: u16, value: &[u8]);
-    /// One parameter of the identifiers of an AS, ascending; none if the AS
-    /// has no links.
-    fn identifiers(&mut self, gateway: &Gateway, server: u32);
+    /// One parameter of identifiers; none if there are none.
+    fn identifiers(&mut self, ids: impl Iterator<Item = u32>);
 }
 
 struct Count(usize);
@@ -24,8 +24,8 @@ impl Sink for Count {
         self.0 += 4 + padded(value.len());
     }
 
-    fn identifiers(&mut self, gateway: &Gateway, server: u32) {
-        match links_of(gateway, server).count() {
+    fn identifiers(&mut self, ids: impl Iterator<Item = u32>) {
+        match ids.count() {
             0 => {}
             count => self.0 += 4 + 4 * count,
         }
@@ -42,10 +42,10 @@ impl Sink for Fill<'_> {
         self.at += put_param(&mut self.out[self.at..], tag, value);
     }
 
-    fn identifiers(&mut self, gateway: &Gateway, server: u32) {
+    fn identifiers(&mut self, ids: impl Iterator<Item = u32>) {
         let start = self.at;
         let mut at = start + 4;
-        for id in links_of(gateway, server) {
+        for id in ids {
             self.out[at..at + 4].copy_from_slice(&id.to_be_bytes());
             at += 4;
         }
@@ -54,6 +54,31 @@ impl Sink for Fill<'_> {
             self.out[start..start + 4].copy_from_slice(&head.to_be_bytes());
             self.at = at;
         }
+    }
+}
+
+/// The identifiers of some links, ascending.
+struct Identifiers<'a> {
+    gateway: &'a Gateway,
+    links: Links,
+}
+
+impl Iterator for Identifiers<'_> {
+    type Item = u32;
+
+    #[inline(always)]
+    fn next(&mut self) -> Option<u32> {
+        if self.links == 0 {
+            return None;
+        }
+        let id = self.gateway.link_id[self.links.trailing_zeros() as usize];
+        self.links &= self.links - 1;
+        Some(id)
+    }
+
+    #[inline(always)]
+    fn count(self) -> usize {
+        self.links.count_ones() as usize
     }
 }
 
@@ -92,11 +117,12 @@ impl Batch {
     }
 }
 
-/// An event, the hold that it is lent, and its orders.
+/// An event, the hold that it is lent, its orders, and the links that it names.
 struct Ordered<'a> {
     event: Event<'a>,
     hold: &'a [u8],
     orders: &'a [[u32; 4]],
+    marks: &'a Marks,
 }
 
 impl Ordered<'_> {
@@ -106,6 +132,17 @@ impl Ordered<'_> {
     fn is_unit(&self, order: &[u32; 4]) -> bool {
         order[1] == DATA && order[0] != LINK_SIDE && matches!(self.event, Event::Message { .. })
     }
+
+    /// Whose message an Ack of class 4 answers in part: an Error comes right
+    /// behind it.
+    #[inline(always)]
+    fn answered_in_part(&self, order: &[u32; 4]) -> Option<usize> {
+        let traffic = matches!(order[1], ACTIVE_ACK | INACTIVE_ACK);
+        match self.orders.get(1) {
+            Some([p, ERROR, ..]) if traffic => Some(*p as usize),
+            _ => None,
+        }
+    }
 }
 
 impl Gateway {
@@ -113,7 +150,8 @@ impl Gateway {
     /// this hold.
     pub fn order_bytes(&self, event: Event, hold: &[u8], place: u32, out: &mut [u8]) -> Written {
         let mut list = [0; LIST_WORDS];
-        let (code, count) = self.orders(event, hold.len(), &mut list);
+        let mut marks = Marks::new();
+        let (code, count) = self.orders(event, hold.len(), &mut list, &mut marks);
         if code != 0 {
             return Written::refused(code);
         }
@@ -121,6 +159,7 @@ impl Gateway {
             event,
             hold,
             orders: &list.as_chunks::<4>().0[..count as usize],
+            marks: &marks,
         };
         let place = place as usize;
         match ordered.orders.get(place) {
@@ -148,7 +187,8 @@ impl Gateway {
         out: &mut [u8],
     ) -> Batch {
         let mut list = [0; LIST_WORDS];
-        let (code, count) = self.orders(event, hold.len(), &mut list);
+        let mut marks = Marks::new();
+        let (code, count) = self.orders(event, hold.len(), &mut list, &mut marks);
         if code != 0 {
             return Batch::refused(code);
         }
@@ -159,6 +199,7 @@ impl Gateway {
             event,
             hold,
             orders: &list.as_chunks::<4>().0[..count as usize],
+            marks: &marks,
         };
         self.put_messages(&ordered, place as usize, lens, out)
     }
@@ -206,21 +247,23 @@ impl Gateway {
     /// Writes the message of an order at the start of the buffer; gives its
     /// length, or nothing if the buffer is short.
     fn put_message(&self, ordered: &Ordered, place: usize, out: &mut [u8]) -> Option<usize> {
-        let [_, code, subject, value] = ordered.orders[place];
-        if ordered.is_unit(&ordered.orders[place]) {
+        let order = &ordered.orders[place];
+        if ordered.is_unit(order) {
             return self.put_unit(ordered, place, out);
         }
         let event = ordered.event;
+        let good = ordered.answered_in_part(order);
+        let good = good.map(|p| self.good_links(p, ordered.marks));
         let mut count = Count(HEADER_LEN);
-        self.put_order(event, code, subject, value, &mut count);
+        self.put_order(event, order, good, &mut count);
         let total = count.0;
         let out = out.get_mut(..total)?;
-        put_header(out, code >> 8, code & 0xff, total);
+        put_header(out, order[1] >> 8, order[1] & 0xff, total);
         let mut fill = Fill {
             out,
             at: HEADER_LEN,
         };
-        self.put_order(event, code, subject, value, &mut fill);
+        self.put_order(event, order, good, &mut fill);
         Some(total)
     }
 
@@ -247,17 +290,16 @@ impl Gateway {
         Some(total)
     }
 
-    /// The parameters of an order.
-    fn put_order(&self, event: Event, code: u32, subject: u32, value: u32, sink: &mut impl Sink) {
-        // What the link side sent goes on as it came.
-        if let Event::LinkMessage { message } = event {
-            for param in Params::new(message) {
-                sink.param(param.tag, param.value);
-            }
-            return;
-        }
+    /// The parameters of an order; of an Ack to a part of a message, with the
+    /// links that it names.
+    fn put_order(&self, event: Event, order: &[u32; 4], good: Option<Links>, sink: &mut impl Sink) {
+        let [_, code, subject, value] = *order;
         let received = match event {
             Event::Message { message, .. } => Params::new(message),
+            // What the link side sent goes on as it came.
+            Event::LinkMessage { message } => {
+                return Params::new(message).for_each(|param| sink.param(param.tag, param.value))
+            }
             _ => Params::new(&[]),
         };
         match code {
@@ -269,22 +311,14 @@ impl Gateway {
             }
             NOTIFY => {
                 sink.param(STATUS, &value.to_be_bytes());
-                sink.identifiers(self, subject);
+                sink.identifiers(links_of(self, subject));
             }
             BEAT_ACK => {
                 for param in received.filter(|param| param.tag == HEARTBEAT_DATA) {
                     sink.param(param.tag, param.value);
                 }
             }
-            ACTIVE_ACK | INACTIVE_ACK => {
-                for param in received.filter(|param| param.tag == TRAFFIC_MODE) {
-                    sink.param(param.tag, param.value);
-                }
-                let is_ids = |tag: u16| tag == INTERFACE_ID || tag == INTERFACE_RANGE;
-                for param in received.filter(|param| is_ids(param.tag)) {
-                    sink.param(param.tag, param.value);
-                }
-            }
+            ACTIVE_ACK | INACTIVE_ACK => self.put_ack(received, good, sink),
             ESTABLISH_CONFIRM | RELEASE_CONFIRM | RELEASE_INDICATION => {
                 sink.param(INTERFACE_ID, &subject.to_be_bytes());
             }
@@ -294,6 +328,22 @@ impl Gateway {
             }
             // Up Ack and Down Ack have no parameters.
             _ => {}
+        }
+    }
+
+    /// The parameters of an Ack of class 4: the mode, then what was named, or
+    /// the good ones of it (Rule 8.11).
+    fn put_ack(&self, received: Params, good: Option<Links>, sink: &mut impl Sink) {
+        for param in received.filter(|param| param.tag == TRAFFIC_MODE) {
+            sink.param(param.tag, param.value);
+        }
+        if let Some(links) = good {
+            let gateway = self;
+            return sink.identifiers(Identifiers { gateway, links });
+        }
+        let is_ids = |tag: u16| tag == INTERFACE_ID || tag == INTERFACE_RANGE;
+        for param in received.filter(|param| is_ids(param.tag)) {
+            sink.param(param.tag, param.value);
         }
     }
 }

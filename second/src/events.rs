@@ -3,6 +3,7 @@
 //! a message of the link side writes.
 
 use crate::gateway::*;
+use crate::naming::{Marks, Named, Record};
 use crate::read::{data_of, read, Reading};
 use crate::wire::*;
 
@@ -129,7 +130,7 @@ impl Orders<'_> {
 impl Gateway {
     /// Message of ASP `asp`.
     pub fn message(self, asp: u32, message: &[u8], hold: &mut [u8], list: &mut [u32]) -> Next {
-        self.run_message(asp, message, hold.len(), list)
+        self.run_message(asp, message, hold.len(), list, &mut ())
     }
 
     /// The association of ASP `asp` is lost.
@@ -180,11 +181,17 @@ impl Gateway {
     }
 
     /// The orders of an event that is lent a hold of so many bytes, in the
-    /// list: 0 and their number, or the refusal and 0. Nothing is put in the
-    /// hold: data that stays there gives no order.
-    pub(crate) fn orders(self, event: Event, hold: usize, list: &mut [u32]) -> (u32, u32) {
+    /// list: 0 and their number, or the refusal and 0; and the links that it
+    /// names. Nothing is put in the hold: data that stays there gives no order.
+    pub(crate) fn orders(
+        self,
+        event: Event,
+        hold: usize,
+        list: &mut [u32],
+        marks: &mut Marks,
+    ) -> (u32, u32) {
         let next = match event {
-            Event::Message { asp, message } => self.run_message(asp, message, hold, list),
+            Event::Message { asp, message } => self.run_message(asp, message, hold, list, marks),
             Event::Lost { asp } => self.run_lost(asp, hold, list),
             Event::Recovery { server } => self.run_recovery(server, hold, list),
             Event::LinkUp { link } => self.run_link_up(link, hold, list),
@@ -202,10 +209,17 @@ impl Gateway {
     // Five events ask of the hold only how long it is.
 
     #[inline(always)]
-    fn run_message(mut self, asp: u32, message: &[u8], hold: usize, list: &mut [u32]) -> Next {
+    fn run_message(
+        mut self,
+        asp: u32,
+        message: &[u8],
+        hold: usize,
+        list: &mut [u32],
+        record: &mut impl Record,
+    ) -> Next {
         let code = self.refusal(asp, self.asps);
         let (code, count) = perform(code, hold, list, |orders| {
-            self.on_message(asp as usize, message, orders)
+            self.on_message(asp as usize, message, orders, record)
         });
         self.next(code, count)
     }
@@ -321,7 +335,13 @@ impl Gateway {
         self.add_unit(a, unit);
     }
 
-    fn on_message(&mut self, p: usize, message: &[u8], orders: &mut Orders) {
+    fn on_message(
+        &mut self,
+        p: usize,
+        message: &[u8],
+        orders: &mut Orders,
+        record: &mut impl Record,
+    ) {
         if is_error(message) {
             return;
         }
@@ -337,7 +357,15 @@ impl Gateway {
             }
             BEAT => orders.push(p as u32, BEAT_ACK, 0, 0),
             BEAT_ACK => {}
-            ACTIVE | INACTIVE => self.on_traffic(p, message, &reading, orders),
+            ACTIVE | INACTIVE => {
+                // What is asked for is not asked of one that is down.
+                let named = match self.up[p] {
+                    0 => Named::default(),
+                    _ if reading.ids != 0 => self.named(p, message, record),
+                    _ => self.all_ases(p),
+                };
+                self.on_traffic(p, named, &reading, orders)
+            }
             DATA | ESTABLISH_REQUEST | RELEASE_REQUEST | STATE_REQUEST | RETRIEVAL_REQUEST
             | DATA_ACK => self.on_link_request(p, &reading, orders),
             _ => orders.error(p, UNEXPECTED_MESSAGE),
@@ -392,37 +420,31 @@ impl Gateway {
         orders.push_each(to, NOTIFY, a as u32, STATE_CHANGE | state as u32);
     }
 
-    /// Active and Inactive.
-    fn on_traffic(&mut self, p: usize, message: &[u8], reading: &Reading, orders: &mut Orders) {
-        if self.up[p] == 0 {
-            return orders.error(p, UNEXPECTED_MESSAGE);
+    /// Active and Inactive; one that asks for nothing is not expected.
+    fn on_traffic(&mut self, p: usize, named: Named, reading: &Reading, orders: &mut Orders) {
+        let Named { ases, bad } = named;
+        let refuse = |orders: &mut Orders, id| orders.push(p as u32, ERROR, id, INVALID_ID);
+        match bad {
+            Some(id) if ases == 0 || self.wholelists[p] != 0 => return refuse(orders, id),
+            None if ases == 0 => return orders.error(p, UNEXPECTED_MESSAGE),
+            _ => {}
         }
-        let named = if reading.ids != 0 {
-            match self.named_ases(p, message) {
-                Ok(named) => named,
-                Err(id) => return orders.push(p as u32, ERROR, id, INVALID_ID),
-            }
-        } else {
-            match self.ases_of(p) {
-                0 => return orders.error(p, UNEXPECTED_MESSAGE),
-                all => all,
-            }
-        };
         let active = reading.kind == ACTIVE & 0xff;
         if active && reading.mode != 0 {
             let differs = |a: usize| self.mode[a] as u32 != reading.mode;
-            if bits(named).any(differs) {
+            if bits(ases).any(differs) {
                 return orders.error(p, BAD_MODE);
             }
         }
-        if active {
-            orders.push(p as u32, ACTIVE_ACK, 0, 0);
-            for a in bits(named) {
+        let ack = if active { ACTIVE_ACK } else { INACTIVE_ACK };
+        orders.push(p as u32, ack, 0, 0);
+        if let Some(id) = bad {
+            refuse(orders, id);
+        }
+        for a in bits(ases) {
+            if active {
                 self.activate(a, p, orders);
-            }
-        } else {
-            orders.push(p as u32, INACTIVE_ACK, 0, 0);
-            for a in bits(named) {
+            } else {
                 self.deactivate(a, p, orders);
             }
         }

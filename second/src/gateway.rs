@@ -59,6 +59,8 @@ pub struct Gateway {
     pub state: [u8; 128],
     /// 1 for a link of 12-bit sequence numbers.
     pub highspeed: [u8; 128],
+    /// 1 for an ASP whose lists of identifiers are taken whole or not at all.
+    pub wholelists: [u8; 16],
     /// How many units each AS holds.
     pub held: [u8; 16],
     /// Tag and length field of each unit's data parameter.
@@ -151,6 +153,7 @@ impl Gateway {
         owner: [0; 128],
         state: [0; 128],
         highspeed: [PLAIN; 128],
+        wholelists: [0; 16],
         held: [0; 16],
         held_tag: [0; 128],
         held_len: [0; 128],
@@ -328,7 +331,8 @@ impl Gateway {
     fn ases_sound(&self, asps: usize, ases: usize) -> bool {
         let planned = ALL & (Asps::MAX >> (8 * (MAX_ASPS - asps)));
         let up = self.up_set();
-        let mut wrong = up & !planned != 0;
+        let lists = Asps::from_le_bytes(self.wholelists);
+        let mut wrong = (up | lists) & !planned != 0;
         for a in 0..ases {
             let member = self.members(a);
             let active = self.actives(a);

@@ -79,7 +79,8 @@ fn fill(file: &[u8], gateway: &mut Gateway) -> Result<(), u32> {
         gateway.asp_id[p] = id;
         masks[p] = (row >> 16) as u16;
         all_masks |= masks[p];
-        wrong |= row as u16 != 0;
+        wrong |= row as u16 > 1;
+        gateway.wholelists[p] = row as u8;
     }
     wrong |= all_masks as u32 >> ases != 0;
     for (a, members) in gateway.member.as_chunks_mut::<16>().0[..ases]

@@ -41,7 +41,7 @@ impl Gateway {
         match reading.class << 8 | reading.kind {
             UP | DOWN => self.ases_of(p),
             ACTIVE | INACTIVE if reading.ids == 0 => self.ases_of(p),
-            ACTIVE | INACTIVE => self.owners_of_known(message),
+            ACTIVE | INACTIVE => self.named_ases(p, message).ases,
             _ if reading.class == MAUP => match self.find_link(reading.id) {
                 Some(link) => self.owner_bit(link),
                 None => 0,

@@ -90,8 +90,11 @@ fn samples() {
         &[
             (&msg(0, UP), "N 2 (0,772,0,0) (0,1,0,65538)"),
             (&format!("msg 0 1543 {M}"), "R 101"),
-            (&format!("msg 0 1544 {stop116}"), "N 1 (0,0,116,2)"),
-            (&msg(0, M), "N 2 (0,1027,0,0) (0,1,0,65539)"),
+            (
+                &msg(0, stop116),
+                "N 3 (0,1027,0,0) (0,0,116,2) (0,1,0,65539)",
+            ),
+            (&msg(0, M), "N 1 (0,1027,0,0)"),
             (&msg(1, UP), "N 1 (1,772,0,0)"),
             (&msg(1, ACTIVE), "N 2 (1,1027,0,0) (0,1,0,131074)"),
             (&msg(1, DOWN), "N 2 (1,773,0,0) (0,1,0,65540)"),
@@ -246,9 +249,18 @@ fn active_and_inactive() {
                 &msg(0, UP),
                 "N 4 (0,772,0,0) (0,1,0,65538) (0,1,1,65538) (0,1,2,65538)",
             ),
-            (&msg(0, &mixed), "N 1 (0,0,13,2)"),
-            (&msg(0, &every), "N 1 (0,0,0,2)"),
-            (&msg(0, &last), "N 1 (0,0,21,2)"),
+            (
+                &msg(0, &mixed),
+                "N 4 (0,1027,0,0) (0,0,13,2) (0,1,0,65539) (0,1,2,65539)",
+            ),
+            (&msg(0, &every), "N 2 (0,1027,0,0) (0,0,0,2)"),
+            (&msg(0, &last), "N 2 (0,1027,0,0) (0,0,21,2)"),
+            (
+                &msg(0, UP),
+                "N 4 (0,772,0,0) (0,0,0,6) (0,1,0,65540) (0,1,2,65540)",
+            ),
+            ("recovery 0 1544", "N 1 (0,1,0,65538)"),
+            ("recovery 2 1544", "N 1 (0,1,2,65538)"),
             (&msg(0, &load), "N 1 (0,0,0,5)"),
             (&msg(0, &wrong), "N 1 (0,0,0,5)"),
             (&msg(1, UP), "N 1 (1,772,0,0)"),
@@ -274,7 +286,8 @@ fn active_and_inactive() {
             ),
             ("state", "up=1101 active= waiting=101 links=0000 held="),
             ("reach msg 0 1544 0100040100000008", "0,1,2"),
-            (&format!("reach {}", msg(3, &every)), "0,2"),
+            (&format!("reach {}", msg(0, &every)), "0,2"),
+            (&format!("reach {}", msg(3, &every)), "-"),
             (&format!("reach {}", msg(1, &last)), "2"),
         ],
     );
@@ -391,7 +404,7 @@ fn orders_as_bytes() {
             ),
             (&msg(0, UP), "N 2 (0,772,0,0) (0,1,0,65538)"),
             (
-                &bytes(0, 24, &msg(0, &stop116)),
+                &bytes(1, 24, &msg(0, &stop116)),
                 "0 0100000000000018000c0008000000020001000800000074",
             ),
             (&bytes(1, 99, &msg(0, M)), &format!("0 {notify}")),
@@ -822,6 +835,23 @@ mod plain {
         all
     }
 
+    /// What p names: the links of the good ones, and the first bad one.
+    fn named(g: &Gateway, p: usize, m: &[u8]) -> (Vec<usize>, Option<u64>) {
+        let ranges = ranges(m);
+        let served = |link: &usize| g.member[16 * g.owner[*link] as usize + p] == 1;
+        let is_named = |link: &usize| {
+            let id = g.link_id[*link] as u64;
+            ranges
+                .iter()
+                .any(|(start, stop)| *start <= id && id <= *stop)
+        };
+        let good = (0..g.links as usize).filter(served).filter(is_named);
+        // No walk is long: a range has a bad one, or it has few.
+        let mut all = ranges.iter().flat_map(|(start, stop)| *start..=*stop);
+        let bad = all.find(|id| !find(g, *id).is_some_and(|link| served(&link)));
+        (good.collect(), bad)
+    }
+
     /// State changes of all ASes, with what else is told there.
     fn notify(before: &Gateway, g: &mut Gateway, taken: &[(usize, usize)], orders: &mut Orders) {
         for a in 0..g.ases as usize {
@@ -1010,17 +1040,16 @@ mod plain {
                 if g.up[p] == 0 {
                     return orders.push([to, 0, 0, 6]);
                 }
-                let ranges = ranges(m);
-                let mut named = BTreeSet::new();
-                for (start, stop) in &ranges {
-                    for id in *start..=*stop {
-                        match find(g, id).map(|link| g.owner[link] as usize) {
-                            Some(a) if g.member[16 * a + p] == 1 => named.insert(a),
-                            _ => return orders.push([to, 0, id as u32, 2]),
-                        };
+                let (good, bad) = named(g, p, m);
+                let owners = good.iter().map(|link| g.owner[*link] as usize);
+                let mut named: BTreeSet<usize> = owners.collect();
+                let refused = bad.map(|id| [to, 0, id as u32, 2]);
+                if let Some(error) = refused {
+                    if named.is_empty() || g.wholelists[p] == 1 {
+                        return orders.push(error);
                     }
                 }
-                if ranges.is_empty() {
+                if ranges(m).is_empty() {
                     named.extend(&mine);
                     if named.is_empty() {
                         return orders.push([to, 0, 0, 6]);
@@ -1030,6 +1059,7 @@ mod plain {
                     return orders.push([to, 0, 0, 5]);
                 }
                 orders.push([to, 0x402 + r.kind, 0, 0]);
+                orders.extend(refused);
                 let mut taken = Vec::new();
                 for a in named {
                     if r.kind == 2 {
@@ -1106,20 +1136,12 @@ mod plain {
                 if r.code != 0 {
                     return all;
                 }
-                let named = ranges(message);
                 match (r.class, r.kind) {
                     (3, 1 | 2) => all.extend(mine(asp)),
-                    (4, 1 | 2) if named.is_empty() => all.extend(mine(asp)),
+                    (4, 1 | 2) if ranges(message).is_empty() => all.extend(mine(asp)),
                     (4, 1 | 2) => {
-                        for link in 0..g.links as usize {
-                            let id = g.link_id[link] as u64;
-                            if named
-                                .iter()
-                                .any(|(start, stop)| (*start..=*stop).contains(&id))
-                            {
-                                all.insert(owner(link));
-                            }
-                        }
+                        let (good, _) = named(g, asp as usize, message);
+                        all.extend(good.into_iter().map(owner));
                     }
                     (6, _) => all.extend(find(g, r.id as u64).map(owner)),
                     _ => {}
@@ -1189,7 +1211,13 @@ mod plain {
                 units(g, &after, lent).swap_remove(number)
             }
             (_, 0x306) => only(&[9]),
-            (_, 0x403 | 0x404) => [only(&[0xb]), only(&[1, 8])].concat(),
+            (Event::Message { asp, message }, 0x403 | 0x404) => {
+                let (good, bad) = named(g, asp as usize, message);
+                let ids = good.iter().flat_map(|link| word(g.link_id[*link]));
+                let good = vec![(1, ids.collect())];
+                let named = bad.map_or(only(&[1, 8]), |_| good);
+                [only(&[0xb]), named].concat()
+            }
             (_, 0x603 | 0x605 | 0x606) => vec![(1, word(subject))],
             (_, 0x60f) => vec![(1, word(subject)), (0x13, word(value))],
             _ => Vec::new(),
@@ -1293,6 +1321,8 @@ fn generated_histories() {
         (3, Kind::Bytes),
         (4, Kind::Bytes),
         (5, Kind::Ranges),
+        (6, Kind::Partly),
+        (7, Kind::Partly),
     ];
     for (seed, kind) in scripts {
         let mut session = Session::new();
@@ -1315,8 +1345,9 @@ fn generated_histories() {
             if first == "plan" {
                 tally.end(&before);
             }
-            // Of `ranges` no link is brought into service.
-            if !["plan", "hold", "paint"].contains(&first) && kind != Kind::Ranges {
+            // Of `ranges` and `partly` no link is brought into service.
+            let serves = !matches!(kind, Kind::Ranges | Kind::Partly);
+            if !["plan", "hold", "paint"].contains(&first) && serves {
                 tally.line(&before);
             }
             let skip = match first {
@@ -1429,7 +1460,7 @@ fn generated_histories() {
         seen,
         ["0", "102", "103", "104", "105", "106", "R 101", "R 102", "R 105", "R 106"]
     );
-    assert_eq!((states.len(), modes.len(), most), (4, 3, 385));
+    assert_eq!((states.len(), modes.len(), most), (4, 3, 386));
     check_tally(&tally);
 }
 

@@ -204,15 +204,31 @@ fn errors() {
             "01000401 00000018 000b0008 00000002 00010008 00000064",
             "01000000 00000010 000c0008 00000005",
         ),
-        // Code 2 says the first identifier that is refused.
+        // Code 2 says the first identifier that is bad; before it the Ack says
+        // the good ones.
         (
-            "bytes 0 msg 1 0",
+            "bytes 1 msg 1 0",
             "01000401 00000018 00010008 00000064 00010008 0000c0de",
             "01000000 00000018 000c0008 00000002 00010008 0000c0de",
         ),
         (
             "bytes 0 msg 1 0",
+            "01000401 00000018 00010008 00000064 00010008 0000c0de",
+            "01000403 00000010 00010008 00000064",
+        ),
+        (
+            "bytes 1 msg 1 0",
             "01000401 00000014 0008000c 00000064 00000066",
+            "01000000 00000018 000c0008 00000002 00010008 00000066",
+        ),
+        (
+            "bytes 0 msg 1 0",
+            "01000401 00000014 0008000c 00000064 00000066",
+            "01000403 00000014 0001000c 00000064 00000065",
+        ),
+        (
+            "bytes 0 msg 1 0",
+            "01000401 00000014 0008000c 00000066 00000067",
             "01000000 00000018 000c0008 00000002 00010008 00000066",
         ),
         // An Error is not answered.
@@ -624,7 +640,7 @@ fn generated_batches() {
     let mut rng = Rng::new(7);
     let mut codes = BTreeMap::new();
     let mut most = 0;
-    for (seed, kind) in [(5, Kind::Event), (6, Kind::Bytes)] {
+    for (seed, kind) in [(5, Kind::Event), (6, Kind::Bytes), (7, Kind::Partly)] {
         let mut session = Session::new();
         generate(seed, 10_000, kind, &mut |line| {
             let (gateway, hold) = (*session.gateway(), session.hold().to_vec());
@@ -715,7 +731,7 @@ fn tally_of_bytes_lines() {
     let mut tally: BTreeMap<String, u32> = BTreeMap::new();
     let mut add = |what: String| *tally.entry(what).or_insert(0) += 1;
     let mut session = Session::new();
-    generate(1, 8000, Kind::Bytes, &mut |line| {
+    generate(3, 8000, Kind::Bytes, &mut |line| {
         let (gateway, hold) = (*session.gateway(), session.hold().to_vec());
         let mut result = Vec::new();
         session.line(line, &mut result);

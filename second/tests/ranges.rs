@@ -1,35 +1,19 @@
 //! Ranges of identifiers in Active and Inactive, and in reach: case by case, and
 //! against a plain walk over identifiers.
 
+#[path = "common/ids.rs"]
+mod ids;
+
+use ids::Param::{self, Ids, Ranges};
 use second::events::{bits, Event};
 use second::generate::Rng;
 use second::{load, Gateway, HOLD_BYTES};
 
 const MAX: u32 = u32::MAX;
 
-/// Single identifiers (0x1), or ranges (0x8) of which both ends are meant.
-#[derive(Clone, Debug)]
-enum Param {
-    Ids(Vec<u32>),
-    Ranges(Vec<(u32, u32)>),
-}
-use Param::{Ids, Ranges};
-
 /// Active (1) or Inactive (2).
 fn message(kind: u8, params: &[Param]) -> Vec<u8> {
-    let mut out = vec![1, 0, 4, kind, 0, 0, 0, 0];
-    for param in params {
-        let (tag, words): (u16, Vec<u32>) = match param {
-            Ids(ids) => (1, ids.clone()),
-            Ranges(ranges) => (8, ranges.iter().flat_map(|(a, b)| [*a, *b]).collect()),
-        };
-        out.extend(tag.to_be_bytes());
-        out.extend((4 + 4 * words.len() as u16).to_be_bytes());
-        out.extend(words.iter().flat_map(|word| word.to_be_bytes()));
-    }
-    let len = out.len() as u32;
-    out[4..8].copy_from_slice(&len.to_be_bytes());
-    out
+    ids::message(kind, 0, params)
 }
 
 /// The state of a plan whose only ASP is in the ASes of the mask and up. All
@@ -54,33 +38,52 @@ fn one_each(ids: impl Iterator<Item = u32>) -> Gateway {
     state(MAX as u16, 16, &links)
 }
 
-/// Sends a message; the words of its first order, and the next state.
-fn send(g: &Gateway, m: &[u8]) -> ([u32; 4], Gateway) {
+/// Sends a message; the orders, and the next state.
+fn send(g: &Gateway, m: &[u8]) -> (Vec<[u32; 4]>, Gateway) {
     let mut list = [0; 1544];
     let next = g.message(0, m, &mut [0; HOLD_BYTES], &mut list);
     assert_eq!(next.code, 0);
-    (*list.first_chunk().unwrap(), next.gateway)
+    let orders = &list.as_chunks::<4>().0[..next.count as usize];
+    (orders.to_vec(), next.gateway)
 }
 
 /// The ASes named, as bits, or the identifier of Error 2: of an Active at a
 /// state where the ASP is active nowhere, and of an Inactive at one where it is
-/// active in all of its ASes, which must agree.
+/// active in all of its ASes, which must agree. Lists are taken whole; where part
+/// of one may succeed, the Error is the same one and the ASes are those reached.
 fn answer(g: &Gateway, params: &[Param]) -> Result<u16, u32> {
     let active = |g: &Gateway| (0..16).fold(0, |all, a| all | (g.is_active(a, 0) as u16) << a);
+    let whole = |g: &Gateway, mark: u8| {
+        let mut g = *g;
+        g.wholelists[0] = mark;
+        g
+    };
     let (_, full) = send(g, &message(1, &[]));
     let mut answers = Vec::new();
     for (kind, before) in [(1, *g), (2, full)] {
-        let (order, after) = send(&before, &message(kind, params));
-        answers.push(match order {
+        let m = message(kind, params);
+        let (orders, after) = send(&whole(&before, 1), &m);
+        let ack = [0, 0x402 + kind as u32, 0, 0];
+        let changed = active(&before) ^ active(&after);
+        let all = match orders[0] {
             [0, 0, id, 2] => {
-                assert_eq!(after, before);
+                assert_eq!((orders.len(), changed), (1, 0));
                 Err(id)
             }
-            _ => {
-                assert_eq!(order, [0, 0x402 + kind as u32, 0, 0]);
-                Ok(active(&before) ^ active(&after))
+            order => {
+                assert_eq!(order, ack);
+                Ok(changed)
             }
-        });
+        };
+        let (orders, after) = send(&whole(&before, 0), &m);
+        let part = active(&before) ^ active(&after);
+        assert_eq!(part, reached(g, params), "{params:?}");
+        match all {
+            Ok(named) => assert_eq!((orders[0], part), (ack, named)),
+            Err(id) if part == 0 => assert_eq!(orders, [[0, 0, id, 2]]),
+            Err(id) => assert_eq!(orders[..2], [ack, [0, 0, id, 2]]),
+        }
+        answers.push(all);
     }
     assert_eq!(answers[0], answers[1], "{params:?}");
     answers[0]
@@ -110,8 +113,9 @@ fn by_walk(g: &Gateway, params: &[Param]) -> (Result<u16, u32>, u16) {
     let (mut named, mut refused, mut reached) = (0, None, 0);
     for (start, stop) in ranges {
         for (place, id) in links.iter().enumerate() {
-            if start <= *id && *id <= stop {
-                reached |= 1 << g.owner[place];
+            let a = g.owner[place] as usize;
+            if start <= *id && *id <= stop && g.member[16 * a] == 1 {
+                reached |= 1 << a;
             }
         }
         let mut id = start;

@@ -2,14 +2,14 @@
 //! of its link and the answer; and kinds of links in plans. The counts are shown
 //! by `cargo test --release --test retrievals -- --nocapture`.
 
+#[path = "common/lines.rs"]
+mod lines;
+
+use lines::{each_line, unhex, LINES};
 use second::generate::retrievals::BORDERS;
-use second::generate::{generate, Kind};
-use second::script::Session;
+use second::generate::Kind;
 use second::{is_sound, load, read, Gateway, Params};
 use std::collections::{BTreeMap, BTreeSet};
-
-/// Lines of each kind.
-const LINES: u64 = 100_000;
 
 /// What was met, how often, and with which of the borders.
 #[derive(Default)]
@@ -31,13 +31,6 @@ impl Tally {
         let all = borders.iter().all(|number| met.contains(number));
         assert!(all, "only with {met:?}: {what}");
     }
-}
-
-fn unhex(hex: &str) -> Option<Vec<u8>> {
-    let pairs = 0..hex.len() / 2;
-    pairs
-        .map(|i| u8::from_str_radix(&hex[2 * i..2 * i + 2], 16).ok())
-        .collect()
 }
 
 /// Where a sequence number lies.
@@ -174,24 +167,12 @@ fn add_event(line: &str, result: &str, g: &Gateway, tally: &mut Tally) {
 /// What lines of a kind hold.
 fn tally(kind: Kind) -> Tally {
     let mut tally = Tally::default();
-    let mut session = Session::new();
-    generate(11, LINES, kind, &mut |line| {
-        let before = *session.gateway();
-        let mut out = Vec::new();
-        session.line(line, &mut out);
-        let line = String::from_utf8_lossy(line);
-        let result = String::from_utf8_lossy(&out);
-        let result = result.trim_end();
-        if result.is_empty() || result == "?" {
-            return Ok(());
-        }
-        add_read(&line, &mut tally);
-        add_write(&line, result, &mut tally);
-        add_plan(&line, result, session.gateway(), &mut tally);
-        add_event(&line, result, &before, &mut tally);
-        Ok(())
-    })
-    .unwrap();
+    each_line(kind, |ran| {
+        add_read(ran.line, &mut tally);
+        add_write(ran.line, ran.result, &mut tally);
+        add_plan(ran.line, ran.result, ran.after, &mut tally);
+        add_event(ran.line, ran.result, ran.before, &mut tally);
+    });
     println!("{LINES} lines of {kind:?}");
     for (what, (count, _)) in &tally.0 {
         println!("{count:8} {what}");

@@ -73,6 +73,7 @@ fn sample_plan() {
     assert_eq!(g.active, [0; 256]);
     assert_eq!(g.waiting, [0; 16]);
     assert_eq!((g.state, g.highspeed), ([0; 128], [0; 128]));
+    assert_eq!(g.wholelists, [0; 16]);
     assert_eq!(
         (g.held, g.held_tag, g.held_len),
         ([0; 16], [0; 128], [0; 128])
@@ -133,8 +134,10 @@ fn rows() {
     assert_eq!(two(&[(7, 2, 0)], &[1], &[]), 202);
     assert_eq!(two(&[(7, 0x8000, 0)], &[1; 15], &[]), 202);
     assert_eq!(two(&[(7, 0x8000, 0)], &[1; 16], &[]), 0);
-    assert_eq!(two(&[(7, 1, 1)], &[1], &[]), 202);
+    assert_eq!(two(&[(7, 1, 1)], &[1], &[]), 0);
+    assert_eq!(two(&[(7, 1, 2)], &[1], &[]), 202);
     assert_eq!(two(&[(7, 1, 256)], &[1], &[]), 202);
+    assert_eq!(two(&[(7, 1, 257)], &[1], &[]), 202);
     assert_eq!(two(&[(7, 1, 0), (7, 1, 0)], &[1], &[]), 202);
     assert_eq!(two(&[(7, 1, 0), (8, 1, 0), (7, 1, 0)], &[1], &[]), 202);
     assert_eq!(two(&[(0, 1, 0), (8, 1, 0), (0, 1, 0)], &[1], &[]), 202);
@@ -175,8 +178,8 @@ fn plainly_held(g: &Gateway) -> bool {
     true
 }
 
-/// Soundness as the rules say it (5.5 to 5.13, 5.20, 5.21 and 5.24), place by
-/// place.
+/// Soundness as the rules say it (5.5 to 5.13, 5.20, 5.21 and 5.24; and 0 or 1
+/// for lists taken whole), place by place.
 fn plainly_sound(g: &Gateway) -> bool {
     let (n, m, l) = (g.asps as usize, g.ases as usize, g.links as usize);
     if !(1..=16).contains(&n) || !(1..=16).contains(&m) || l > 128 || g.spare != 0 {
@@ -184,6 +187,9 @@ fn plainly_sound(g: &Gateway) -> bool {
     }
     for p in 0..16 {
         if p >= n && (g.asp_id[p] != 0 || g.up[p] != 0) {
+            return false;
+        }
+        if g.wholelists[p] > (p < n) as u8 {
             return false;
         }
         if g.up[p] > 1 || (p < n && g.asp_id[..p].contains(&g.asp_id[p])) {
@@ -249,6 +255,9 @@ fn busy(file: &[u8]) -> Gateway {
         let row = &g.active[16 * a..16 * a + 16];
         g.waiting[a] = (row.iter().all(|b| *b == 0) && a % 2 == 0) as u8;
     }
+    for p in 0..g.asps as usize {
+        g.wholelists[p] = (p % 3 == 1) as u8;
+    }
     for i in 0..g.links as usize {
         g.state[i] = (i % 4) as u8;
         g.highspeed[i] = (i % 3 == 1) as u8;
@@ -309,6 +318,7 @@ fn every_byte_of_a_state() {
             check(&|g, b| g.asp_id[i] = g.asp_id[b as usize % 16]);
             check(&|g, b| g.asp_id[i] = (b as u32) << 24);
             check(&|g, b| g.up[i] = b);
+            check(&|g, b| g.wholelists[i] = b);
             check(&|g, b| g.mode[i] = b);
             check(&|g, b| g.waiting[i] = b);
             check(&|g, b| g.held[i] = b);
@@ -428,7 +438,7 @@ fn plain_verdict(file: &[u8]) -> u32 {
     let ids: Vec<u64> = (0..n).map(|p| w(24 + 8 * p as usize)).collect();
     for p in 0..n as usize {
         let rest = w(24 + 8 * p + 4);
-        if rest & 0xffff != 0 || (rest >> 16) >= 1 << m || ids[..p].contains(&ids[p]) {
+        if rest & 0xffff > 1 || (rest >> 16) >= 1 << m || ids[..p].contains(&ids[p]) {
             return 202;
         }
     }
@@ -471,6 +481,13 @@ fn generated_plans() {
         assert_eq!(code(&bytes), plain_verdict(&bytes), "{text}");
         let g = load(&bytes).gateway;
         sizes.insert((g.asps, g.ases, g.links));
+        for (p, row) in bytes[24.min(bytes.len())..]
+            .chunks_exact(8)
+            .take(g.asps as usize)
+            .enumerate()
+        {
+            assert_eq!(row[6..], [0, g.wholelists[p]]);
+        }
         let rows = bytes.len().saturating_sub(8 * g.links as usize);
         for (link, row) in bytes[rows..].chunks_exact(8).enumerate() {
             assert_eq!(row[4..], [0, g.highspeed[link], 0, g.owner[link]]);

@@ -2,9 +2,10 @@
 //! and comes out by value. Each call is first checked to give the same on both sides: refusal, count, state, the whole list of words and the whole hold.
 use bench::holds::{full_hold, held_on_plan_s};
 use bench::messages::{
-    active_of, active_of_ranges, bytes, data, message, number, retrieval, sample_m,
+    active_of, active_of_ranges, bytes, data, message, missing_in_gaps, number, over_gaps,
+    retrieval, sample_m, tenth_missing,
 };
-use bench::plans::{full_plan, full_plan_of, plan_s, plan_s_with, HIGH_SPEED};
+use bench::plans::{full_plan, full_plan_of, plan_s, plan_s_with, with_asp_0, HIGH_SPEED};
 use bench::{proved, timing};
 use second::events::LIST_WORDS as ROOM;
 use second::{load, Gateway, Next, HOLD_BYTES};
@@ -147,6 +148,12 @@ fn with_units() {
     let full = full_hold().0;
     messages("Beat, 128 units held", &[(full, 0, &beat)], 1);
     messages("Active in 16 ASes, 128 units", &[(full, 0, &all)], 385);
+    let part = active_of((0..129).map(|l| 3 * l));
+    messages(
+        "the same of all links and one more",
+        &[(full, 0, &part)],
+        386,
+    );
 }
 
 /// On the full plan with identifiers 0 to 127: every Active names all 16 ASes, with 254 ranges or 509 identifiers, the most that a message has.
@@ -172,6 +179,72 @@ fn with_ranges() {
     });
     let mixed = active_of((0..509).map(|i| i * 37 % 128));
     messages("509 ids in no order", &[(idle, 0, &mixed)], 257);
+}
+
+/// On the same plan: lists of 500 identifiers and of 250 ranges of which a part succeeds. What is bad is missing, or of AS 15, where ASP 0 is no member; or the list is taken
+/// whole, and its last identifier is the bad one.
+fn in_part() {
+    let up = message(3, 1, &[]);
+    let ups: Vec<(u32, &[u8])> = (0..16).map(|p| (p, &up[..])).collect();
+    let state = |mask, whole| {
+        let file = with_asp_0(full_plan_of(128, 1), mask, whole);
+        after(load(&file).gateway, &ups)
+    };
+    let (all, some, whole) = (
+        state(0xffff, false),
+        state(0x7fff, false),
+        state(0xffff, true),
+    );
+    messages(
+        "500 ids in order, each tenth bad",
+        &[(all, 0, &tenth_missing(false))],
+        258,
+    );
+    messages(
+        "500 ids, no order, each tenth bad",
+        &[(all, 0, &tenth_missing(true))],
+        258,
+    );
+    let ids = active_of((0..500).map(|i| i % 128));
+    messages("500 ids in order, some another's", &[(some, 0, &ids)], 242);
+    let last = active_of((0..500).map(|i| if i < 499 { i % 128 } else { 1000 }));
+    messages("500 ids, the last one bad", &[(all, 0, &last)], 258);
+    messages("the same, taken whole", &[(whole, 0, &last)], 1);
+    ranges_in_part(all, some);
+    // Where the numbers of the links have gaps.
+    let gaps = after(load(&full_plan()).gateway, &ups);
+    let ids = active_of(missing_in_gaps());
+    let ranges = active_of_ranges(over_gaps());
+    messages(
+        "500 ids, gaps, no order, tenth bad",
+        &[(gaps, 0, &ids)],
+        258,
+    );
+    messages(
+        "250 ranges over 8 links with gaps",
+        &[(gaps, 0, &ranges)],
+        258,
+    );
+}
+
+fn ranges_in_part(all: Gateway, some: Gateway) {
+    let ranges = |name: &str, state: Gateway, orders: u32, range: fn(u32) -> (u32, u32)| {
+        let msg = active_of_ranges((0..250).map(range));
+        messages(name, &[(state, 0, &msg)], orders);
+    };
+    ranges("250 ranges, each to beyond the end", all, 258, |i| {
+        (i * 37 % 128, 1000)
+    });
+    ranges("250 ranges, each tenth missing", all, 258, |i| {
+        match i % 10 {
+            9 => (1000, 2000),
+            _ => (i * 37 % 120, i * 37 % 120 + 7),
+        }
+    });
+    ranges("250 ranges over 8, some another's", some, 242, |i| {
+        (i * 37 % 120, i * 37 % 120 + 7)
+    });
+    ranges("250 ranges of all numbers", all, 258, |_| (0, u32::MAX));
 }
 
 /// The highest sequence number: for a high-speed link it goes to the link side, for a plain one it is Error 17.
@@ -201,5 +274,6 @@ fn main() {
     on_full_plan();
     with_units();
     with_ranges();
+    in_part();
     with_sequence_numbers();
 }

@@ -1,6 +1,6 @@
 //! Generated histories of events, call by call through the proved library and through the second program: refusal, count, next state, the whole list
 //! of words and the whole hold must be the same, and a hold of another length must stay. So must all that is read of each event's message, and the
-//! state that each plan file gives, of the histories and of other generated plans. `events SEED LINES [KIND]`; KIND: event (where none is given), bytes, ranges.
+//! state that each plan file gives, of the histories and of other generated plans. `events SEED LINES [KIND]`; KIND: event (where none is given), bytes, ranges, partly.
 use bench::lines::{asked, generated_of, Call, Hold, Line};
 use bench::proved::{self, Outcome};
 use second::generate::Kind;

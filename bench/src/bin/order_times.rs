@@ -2,8 +2,10 @@
 //! in by value, the event is run, and the bytes are written. Each call is first checked to give the same on both sides: result, lengths and all bytes.
 use bench::holds::{full_hold, held_on_plan_s};
 use bench::lines::{Call, What};
-use bench::messages::{active_of, data, message, number};
-use bench::plans::{full_plan, plan, plan_s};
+use bench::messages::{
+    active_of, active_of_ranges, data, message, missing_in_gaps, number, over_gaps, tenth_missing,
+};
+use bench::plans::{full_plan, full_plan_of, plan, plan_s};
 use bench::timing;
 use second::events::LIST_WORDS as ROOM;
 use second::{load, Batch, Gateway, Written, HOLD_BYTES};
@@ -123,9 +125,38 @@ fn main() {
         88,
     );
 
+    in_part(&ups);
     let one = after(idle, &[all(0)]);
     batch("all 258 actions of an Up", (&one, &EMPTY), &up(0), 258);
     from_the_hold(&all(0));
+}
+
+/// Lists that succeed in part: their Acks, which list the 128 good ones, and from the message to the bytes of all answers, beside lists that are good.
+fn in_part(ups: &[Call]) {
+    let idle = after(load(&full_plan_of(128, 1)).gateway, ups);
+    let met = (&idle, &EMPTY[..]);
+    let list = |bytes| of(What::Message, 0, bytes);
+    let good = list(active_of((0..500).map(|i| i % 128)));
+    let ids = list(tenth_missing(false));
+    let mixed = list(tenth_missing(true));
+    let whole = list(active_of_ranges(
+        (0..250).map(|i| (i * 37 % 120, i * 37 % 120 + 7)),
+    ));
+    let ranges = list(active_of_ranges((0..250).map(|i| (i * 37 % 128, 1000))));
+    single("Ack of 500 ids, each tenth bad", met, &ids, 0, 524);
+    single("Ack of 250 ranges beyond the end", met, &ranges, 0, 524);
+    batch("257 actions of 500 ids", met, &good, 257);
+    batch("258 actions, each tenth bad", met, &ids, 258);
+    batch("258 actions, the same in no order", met, &mixed, 258);
+    batch("257 actions of 250 ranges", met, &whole, 257);
+    batch("258 actions, ranges beyond the end", met, &ranges, 258);
+    // The same where the numbers of the links have gaps.
+    let gaps = after(load(&full_plan()).gateway, ups);
+    let met = (&gaps, &EMPTY[..]);
+    let ids = list(active_of(missing_in_gaps()));
+    let ranges = list(active_of_ranges(over_gaps()));
+    batch("258 actions, gaps, ids in no order", met, &ids, 258);
+    batch("258 actions, gaps, 250 ranges", met, &ranges, 258);
 }
 
 fn from_the_hold(active: &Call) {
@@ -140,4 +171,6 @@ fn from_the_hold(active: &Call) {
     let held = (&state, &hold[..]);
     single("Data of 88 bytes from the hold", held, active, 368, 88);
     batch("all 385 actions of an Active", held, active, 385);
+    let part = of(What::Message, 0, active_of((0..129).map(|l| 3 * l)));
+    batch("all 386 of one good in part", held, &part, 386);
 }

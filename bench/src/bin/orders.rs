@@ -1,7 +1,7 @@
 //! Actions as bytes, call by call through the proved library and through the second program. Of each event of generated histories every place is
 //! tried, with buffers of the message's length, one short, longer and of no byte, and so is the batch form from random places, with random lists and buffers,
 //! also against the single form. Results and all bytes and lengths, with guards around what is lent, must be the same. `orders SEED LINES [KIND]`; KIND: event, bytes (where none is given, half of the
-//! lines are of each), ranges.
+//! lines are of each), ranges, partly.
 use bench::lines::{asked, generated_of, Call, Hold, Line};
 use bench::proved::{self, Batch, Written};
 use second::events::LIST_WORDS;

@@ -52,6 +52,10 @@ const BREAKS: &[Break] = &[
     ("a kind of 255", |g| g.highspeed[0] = 255),
     ("a kind beyond the links", |g| g.highspeed[17] = 1),
     ("a kind at the last place", |g| g.highspeed[127] = 1),
+    ("a mark of whole lists of 2", |g| g.wholelists[0] = 2),
+    ("a mark of whole lists of 255", |g| g.wholelists[2] = 255),
+    ("whole lists beyond the ASPs", |g| g.wholelists[3] = 1),
+    ("whole lists at the last place", |g| g.wholelists[15] = 1),
 ];
 
 /// Each leaves the state sound.
@@ -63,6 +67,8 @@ const KEEPS: &[Break] = &[
     }),
     ("a high-speed link", |g| g.highspeed[16] = 1),
     ("all links high-speed", |g| g.highspeed[..17].fill(1)),
+    ("an ASP with whole lists", |g| g.wholelists[2] = 1),
+    ("all ASPs with whole lists", |g| g.wholelists[..3].fill(1)),
     ("an ASP up and not active", |g| g.up[2] = 1),
     ("an AS without members", |g| g.member[16 + 2] = 0),
 ];
@@ -161,6 +167,9 @@ fn main() {
     busy.up = [1; 16];
     for l in 0..128 {
         busy.highspeed[l] = (l % 3 == 0) as u8;
+    }
+    for p in 0..16 {
+        busy.wholelists[p] = (p % 3 == 0) as u8;
     }
     for a in 0..16 {
         // AS a has mode a % 3 + 1: in override one is active, else several

@@ -1,6 +1,6 @@
 //! Demand 3 as a run beside its proof: histories of the proved library with random allowed trades. Every event must hand back the same refusal, count and
 //! orders as before the trades, the last state must be the same in every field and the last hold in every byte, and what lies outside an event's reach must be as
-//! it was. Reach is the second program's. `trades SEED LINES [KIND] [second]`; KIND: event (where none is given), bytes, ranges;
+//! it was. Reach is the second program's. `trades SEED LINES [KIND] [second]`; KIND: event (where none is given), bytes, ranges, partly;
 //! with the last word, histories of the second program.
 //!
 //! Trades that are not allowed are made too, on copies, and counted where they change something: so the comparison is seen to fail where it should.
@@ -120,6 +120,7 @@ fn untouched(call: &Call, old: &World, new: &World) -> bool {
         (
             (g.asps, g.ases, g.links, g.spare, g.asp_id),
             (g.member, g.mode, g.link_id, g.owner, g.highspeed),
+            g.wholelists,
         )
     };
     let ases = (0..16).filter(|a| outside(*a));

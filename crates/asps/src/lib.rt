@@ -11,6 +11,7 @@ ghost use Prim.Native.Nat.{_<_};
 ghost use lib.Dec.{eqb};
 ghost use Rattle.laws.specs.Columns.{tabulate};
 ghost use Rattle.action.specs.Words.{action};
+ghost use Rattle.sets.specs.Inner.Bits.{flagsOf};
 ghost use Rattle.server.specs.Record.{some};
 ghost use Rattle.servers.specs.Changed.{columnOf};
 ghost use Rattle.server.specs.declared.Change.the-variants.{AspUp, Recover};
@@ -18,6 +19,18 @@ ghost use Rattle.rules.specs.Effect.{changeIn};
 ghost use Rattle.rules.specs.Asp.{upEffect, downEffect, lostEffect};
 ghost use Rattle.work.specs.Inner.Decides.{Decides, DecidesOn};
 ghost use Rattle.action.specs.Types.{aspUpAck};
+
+// The ASes of ASP p, as a set.
+pub fn ases_of(member: &[u8; 256], p: usize) -> u32
+    requires { ⌜ p < 16 ⌝ }
+    ensures { λ r. ⌜ flagsOf r ≡ columnOf (now (member .entry)) p ⌝ }
+{
+    let mut r: u32 = 0;
+    for a in 0..16usize {
+        r = sets::with_if(r, a, member[a * 16 + p] == 1);
+    }
+    r
+}
 
 // AS a alone.
 pub fn only(a: usize) -> [bool; 16]

@@ -18,7 +18,7 @@ pub record Body : Type 0 where
   pub least : ℕ
   pub most : ℕ
 
--- ASPs: identifier, mask, spare. ASes: mode. Links: identifier, kind, owner. (Rule 4.2)
+-- ASPs: identifier, mask, list rule. ASes: mode. Links: identifier, kind, owner. (Rule 4.2)
 abbrev pub aspBody : Body
 aspBody = record { row = 8; least = 1; most = 16 }
 
@@ -71,7 +71,7 @@ linkWords s at n = column 128 n (λ l. be 4 s (at + linkBody .row * l))
 unfoldable pub aspIds : List ℕ → List ℕ
 aspIds s = aspWords s (offset s 0) (count s 0)
 
--- the second word of an ASP's row: a mask of 16 bits, and 16 spare bits; that of a link's row: its kind, and its owner
+-- the second word of an ASP's row: a mask of 16 bits, and the rule for its lists; that of a link's row: its kind, and its owner
 abbrev pub high : ℕ → ℕ
 high x = x / 65536
 
@@ -81,8 +81,8 @@ low x = x % 65536
 unfoldable pub masks : List ℕ → List ℕ
 masks s = column 16 (count s 0) (λ p. high (be 4 s (offset s 0 + 4 + aspBody .row * p)))
 
-unfoldable pub spares : List ℕ → List ℕ
-spares s = column 16 (count s 0) (λ p. low (be 4 s (offset s 0 + 4 + aspBody .row * p)))
+unfoldable pub lists : List ℕ → List ℕ
+lists s = column 16 (count s 0) (λ p. low (be 4 s (offset s 0 + 4 + aspBody .row * p)))
 
 -- the field of ASes
 unfoldable pub modes : List ℕ → List ℕ
@@ -113,18 +113,18 @@ modesOk mode ases = allBelow (λ a. leb 1 (numberAt mode a) && leb (numberAt mod
 unfoldable pub masksOk : List ℕ → ℕ → ℕ → Bool
 masksOk mask asps ases = allBelow (λ p. eqb (bitsFrom (numberAt mask p) ases) 0) asps
 
--- the spares are zero
-unfoldable pub sparesOk : List ℕ → ℕ → Bool
-sparesOk spare asps = allBelow (λ p. eqb (numberAt spare p) 0) asps
-
 -- the kinds of a link: 0 plain, 1 high-speed
 abbrev pub linkKinds : ℕ
 linkKinds = 2
 
+-- the rules for an ASP's lists: 0 part may succeed, 1 whole or not at all
+abbrev pub listRules : ℕ
+listRules = 2
+
 -- else 202 (Rule 4.5): besides, no two ASPs share an identifier, those of links ascend, and owners are the plan's
 unfoldable pub rowsOk : ℕ → ℕ → ℕ → List ℕ → List ℕ → List ℕ → List ℕ → List ℕ → List ℕ → List ℕ → Bool
-rowsOk asps ases links aspid mask spare mode iid owner kind =
-    (modesOk mode ases && (masksOk mask asps ases && sparesOk spare asps))
+rowsOk asps ases links aspid mask list mode iid owner kind =
+    (modesOk mode ases && (masksOk mask asps ases && allUnder list listRules asps))
     && (allBelow (differs aspid) asps && (ascends iid links && (allUnder owner ases links && allUnder kind linkKinds links)))
 
 -- member or not, pair by pair, of the masks
@@ -132,8 +132,8 @@ unfoldable pub members : List ℕ → List ℕ
 members mask = tabulate 256 (λ i. bit (numberAt mask (i % 16)) (i / 16))
 
 -- the state with the plan's tables in which nothing has happened yet (Rule 4.6)
-unfoldable pub fresh : ℕ → ℕ → ℕ → List ℕ → List ℕ → List ℕ → List ℕ → List ℕ → List ℕ → Gateway
-fresh asps ases links aspid mask mode iid owner kind =
+unfoldable pub fresh : ℕ → ℕ → ℕ → List ℕ → List ℕ → List ℕ → List ℕ → List ℕ → List ℕ → List ℕ → Gateway
+fresh asps ases links aspid mask list mode iid owner kind =
     record {
       asps = asps;
       ases = ases;
@@ -149,6 +149,7 @@ fresh asps ases links aspid mask mode iid owner kind =
       owner = owner;
       state = replicate 128 0;
       highspeed = kind;
+      wholelists = list;
       held = noUnits;
     }
 
@@ -160,13 +161,13 @@ accepted g = record { code = 0; gateway = g }
 
 -- the answer to a file that is laid out well, from its counts and tables
 unfoldable pub built : ℕ → ℕ → ℕ → List ℕ → List ℕ → List ℕ → List ℕ → List ℕ → List ℕ → List ℕ → Loaded
-built asps ases links aspid mask spare mode iid owner kind =
-    cond (rowsOk asps ases links aspid mask spare mode iid owner kind)
-    (accepted (fresh asps ases links aspid mask mode iid owner kind))
+built asps ases links aspid mask list mode iid owner kind =
+    cond (rowsOk asps ases links aspid mask list mode iid owner kind)
+    (accepted (fresh asps ases links aspid mask list mode iid owner kind))
     (refused 202)
 
 unfoldable pub loadOf : List ℕ → Loaded
 loadOf s =
     cond (layoutOk s)
-    (built (count s 0) (count s 1) (count s 2) (aspIds s) (masks s) (spares s) (modes s) (linkIds s) (owners s) (kinds s))
+    (built (count s 0) (count s 1) (count s 2) (aspIds s) (masks s) (lists s) (modes s) (linkIds s) (owners s) (kinds s))
     (refused 201)

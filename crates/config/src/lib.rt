@@ -7,7 +7,7 @@ ghost use lib.ListN.{length};
 ghost use Rattle.laws.specs.Below.{allBelow};
 ghost use Rattle.laws.specs.Columns.{numberAt};
 ghost use Rattle.laws.specs.Inner.Columns.{HalfCol};
-ghost use Rattle.config.specs.Plan.{offset, count, layoutOk, column, bit, bitsFrom, high, low, members, linkKinds, loadOf};
+ghost use Rattle.config.specs.Plan.{offset, count, layoutOk, column, bit, bitsFrom, high, low, members, linkKinds, listRules, loadOf};
 ghost use Rattle.config.specs.Inner.Layout.{Inside, placesOf, rowsAt, stateAt, AllBytes, codeOf, takenOf, made};
 ghost use Rattle.config.specs.Inner.Tables.{wordOf, byteOf, RowsIn, AllIn, floorOf};
 use gateway::Gateway;
@@ -23,6 +23,9 @@ const LINK_ROW: usize = 8;
 
 // The kinds of a link: 0 plain, 1 high-speed.
 const LINK_KINDS: u32 = 2;
+
+// The rules for an ASP's lists: 0 part may succeed, 1 whole or not at all.
+const LIST_RULES: u32 = 2;
 
 // The answer to a file: code 0 and a fresh state, or 201 or 202 and a state of zeros.
 #[repr(C)]
@@ -102,7 +105,7 @@ fn words_128(s: &[u8], at: usize, row: usize, n: usize) -> [u32; 128]
     r
 }
 
-// The same for one byte of each row: modes, owners and kinds are below 256.
+// The same for one byte of each row: modes, rules for lists, owners and kinds are below 256.
 fn fill_bytes(s: &[u8], at: usize, row: usize, n: usize, out: &mut [u8])
     requires { ⌜ (n ≤ length (now out)) × AllIn (λ i. at + row * i) n (length (now s)) ⌝ }
     ensures { λ _. ⌜ HalfCol (byteOf (now (s .entry)) at row) (numberAt (now (out .entry))) (length (now (out .entry))) n (now (out .exit)) ⌝ }
@@ -126,15 +129,15 @@ fn modes_ok(s: &[u8], at: usize, ases: usize) -> bool
     ok
 }
 
-// The second word of an ASP's row: its mask, then the spare.
+// The second word of an ASP's row: its mask, then the rule for its lists.
 fn masks_ok(s: &[u8], at: usize, asps: usize, ases: u32) -> bool
     requires { ⌜ RowsIn (length (now s)) at 8 asps × (ases ≤ 16) ⌝ }
-    ensures { λ r. ⌜ r ≡ allBelow (λ p. eqb (bitsFrom (high (wordOf (now (s .entry)) at 8 p)) ases) 0 && eqb (low (wordOf (now (s .entry)) at 8 p)) 0) asps ⌝ }
+    ensures { λ r. ⌜ r ≡ allBelow (λ p. eqb (bitsFrom (high (wordOf (now (s .entry)) at 8 p)) ases) 0 && ltb (low (wordOf (now (s .entry)) at 8 p)) listRules) asps ⌝ }
 {
     let mut ok = true;
     for p in 0..asps {
         let x = wire::get32(s, at + ASP_ROW * p);
-        ok = ok & (((x / 65536) >> ases == 0) & (x % 65536 == 0));
+        ok = ok & (((x / 65536) >> ases == 0) & (x % 65536 < LIST_RULES));
     }
     ok
 }
@@ -279,9 +282,11 @@ fn build(s: &[u8], t: Places, code: u32) -> Loaded
 {
     let mask = masks_of(s, t.x + 4, t.asps);
     let member = members_of(&mask);
-    // the last byte of a mode's word, and of each half of a link's second word
+    // the last byte of a mode's word, of an ASP's second word, and of each half of a link's
     let mut modes = [0u8; 16];
     fill_bytes(s, t.y + 3, AS_ROW, t.ases, &mut modes);
+    let mut lists = [0u8; 16];
+    fill_bytes(s, t.x + 7, ASP_ROW, t.asps, &mut lists);
     let mut owners = [0u8; 128];
     fill_bytes(s, t.z + 7, LINK_ROW, t.links, &mut owners);
     let mut kinds = [0u8; 128];
@@ -305,6 +310,7 @@ fn build(s: &[u8], t: Places, code: u32) -> Loaded
             owner: owners,
             state: [0; 128],
             highspeed: kinds,
+            wholelists: lists,
             held: Units::none(),
         },
     }

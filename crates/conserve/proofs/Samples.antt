@@ -13,8 +13,8 @@ use Rattle.parameter.specs.Table.{table, among, hasClass, rowIn, entriesIn, use
 use Rattle.parameter.specs.Value.{limitsOf, wordCode, plainCode, idCode, bodyCode}
 use Rattle.message.specs.Meaning.{meaning, outcome, readingOf, bodyIn, tagIn, placeIn, dataOf, dataTag, dataAt}
 use Rattle.message.specs.Verdict.{has, head, number, isNone, inTurn, allThere, sequenceCode, parsCode, lastChecks, verdict}
-use Rattle.gateway.specs.Sound.{countsIn, blankFrom, differs, flagWithin, soundAsps, memberAt, activeAt, soundRow, activeIn, modeAt, waitingAt, overrideAt, soundAs, soundAses, ascends, allUnder, soundLinks, soundKinds, isLinkOf, unitAt, blankAt, unitsOk, sized, allUnits, soundUnits, soundTables, isSound}
-use Rattle.config.specs.Plan.{offset, count, follow, layoutOk, column, aspIds, masks, spares, modes, linkIds, owners, kinds, modesOk, masksOk, sparesOk, rowsOk, members, fresh, built, loadOf}
+use Rattle.gateway.specs.Sound.{countsIn, blankFrom, differs, flagWithin, soundAsps, memberAt, activeAt, soundRow, activeIn, modeAt, waitingAt, overrideAt, soundAs, soundAses, ascends, allUnder, soundLinks, soundKinds, soundLists, isLinkOf, unitAt, blankAt, unitsOk, sized, allUnits, soundUnits, soundTables, isSound}
+use Rattle.config.specs.Plan.{offset, count, follow, layoutOk, column, aspIds, masks, lists, modes, linkIds, owners, kinds, modesOk, masksOk, rowsOk, members, fresh, built, loadOf}
 use Rattle.lookup.specs.Links.{indexOf, known}
 use Rattle.action.specs.Words.{wordsOf}
 use Rattle.server.specs.Change.{without, joined, activated, overtaken, nobody, recordWith}
@@ -68,7 +68,7 @@ abbrev first : Board
 first = record { gateway = fresh-rules; hold = replicate holdBytes 0 }
 
 computed : (tally 0 0 fresh-rules (callsOf first day) ≡ record { came = 11; sent = 8; discarded = 1; turned = 1 }) × (holds (endOf first day .gateway) 0 ≡ 1)
-unfolding anyBelow allBelow concatBelow firstBelow countBelow tabulate be stepAt walkF walk partOf textCode allowedCode parCode table among hasClass rowIn entriesIn useIn usage limitsOf wordCode plainCode idCode bodyCode meaning outcome readingOf bodyIn tagIn placeIn dataOf dataTag dataAt has head number isNone inTurn allThere sequenceCode parsCode lastChecks verdict countsIn blankFrom differs flagWithin soundAsps memberAt activeAt soundRow activeIn modeAt waitingAt overrideAt soundAs ascends allUnder soundLinks soundKinds isLinkOf unitAt blankAt unitsOk sized allUnits soundUnits soundTables isSound soundAses offset count follow layoutOk column aspIds masks spares modes linkIds owners kinds modesOk masksOk sparesOk rowsOk members fresh built loadOf indexOf known wordsOf without joined activated overtaken nobody recordWith isNotified notifiesTo notifies actionsIn unitOut unitsOut letOut row membersUp recordFrom some stateIn columnOf withFlag actionsAt newActive newWaiting clearedFrom letsGo withChange allActions upEffect downEffect otherMode activeEffect inactiveEffect trafficEffect actions next isKnown linkOf canHave isPending arrival holdEffect linkMessageEffect ownsId isError fromAsp readEffect messageEffect fromLink refusalOf planS fresh-rules bare unit cameIn isDataAt sentOut since tally callsOf endOf leaves day
+unfolding anyBelow allBelow concatBelow firstBelow countBelow tabulate be stepAt walkF walk partOf textCode allowedCode parCode table among hasClass rowIn entriesIn useIn usage limitsOf wordCode plainCode idCode bodyCode meaning outcome readingOf bodyIn tagIn placeIn dataOf dataTag dataAt has head number isNone inTurn allThere sequenceCode parsCode lastChecks verdict countsIn blankFrom differs flagWithin soundAsps memberAt activeAt soundRow activeIn modeAt waitingAt overrideAt soundAs ascends allUnder soundLinks soundKinds soundLists isLinkOf unitAt blankAt unitsOk sized allUnits soundUnits soundTables isSound soundAses offset count follow layoutOk column aspIds masks lists modes linkIds owners kinds modesOk masksOk rowsOk members fresh built loadOf indexOf known wordsOf without joined activated overtaken nobody recordWith isNotified notifiesTo notifies actionsIn unitOut unitsOut letOut row membersUp recordFrom some stateIn columnOf withFlag actionsAt newActive newWaiting clearedFrom letsGo withChange allActions upEffect downEffect otherMode activeEffect inactiveEffect trafficEffect actions next isKnown linkOf canHave isPending arrival holdEffect linkMessageEffect ownsId isError fromAsp readEffect messageEffect fromLink refusalOf planS fresh-rules bare unit cameIn isDataAt sentOut since tally callsOf endOf leaves day
 computed = (refl, refl)
 
 pub sample-day : Day

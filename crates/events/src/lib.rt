@@ -40,15 +40,28 @@ fn decided<'a>(
     owner: &'a [u8; 128],
     state: &'a [u8; 128],
     highspeed: &'a [u8; 128],
+    wholelists: &'a [u8; 16],
 ) -> Decision
     requires { ⌜ Table (now iid) (now owner) links × AskFits links (now iid) (now msg) ask × AskAt links (now iid) ask at ⌝ }
-    ensures { λ w. ⌜ DecidesOn (AskColumns links (now (aspid .entry)) (now (up .entry)) (now (member .entry)) (now (active .entry)) (now (mode .entry)) (now (waiting .entry)) (now (count .entry)) (now (iid .entry)) (now (owner .entry)) (now (state .entry)) (now (highspeed .entry))) (λ g. askEffect g (now (msg .entry)) ask) w ⌝ }
+    ensures { λ w. ⌜ DecidesOn (AskColumns links (now (aspid .entry)) (now (up .entry)) (now (member .entry)) (now (active .entry)) (now (mode .entry)) (now (waiting .entry)) (now (count .entry)) (now (iid .entry)) (now (owner .entry)) (now (state .entry)) (now (highspeed .entry)) (now (wholelists .entry))) (λ g. askEffect g (now (msg .entry)) ask) w ⌝ }
 {
     match ask {
         Ask::Up(p, r) => asps::up_work(aspid, member, active, p, r),
         Ask::Down(p) => asps::down_work(member, p),
         Ask::Traffic(on, p, r) => {
-            traffic::traffic_work(on, msg, links, up, member, mode, iid, owner, p, r)
+            traffic::traffic_work(
+                on,
+                msg,
+                links,
+                up,
+                wholelists,
+                member,
+                mode,
+                iid,
+                owner,
+                p,
+                r,
+            )
         }
         Ask::Other(p, error, r) => {
             decide::other_work(
@@ -245,6 +258,7 @@ pub extern "C" fn m2ua_run(
         &g.owner,
         &g.state,
         &g.highspeed,
+        &g.wholelists,
         &g.held.count,
         &g.held.tag,
         &g.held.length,
@@ -286,6 +300,7 @@ pub extern "C" fn m2ua_run(
         &g.owner,
         &g.state,
         &g.highspeed,
+        &g.wholelists,
     );
     if 4 < w.what {
         let a = w.link;

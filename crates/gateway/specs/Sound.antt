@@ -114,6 +114,10 @@ soundLinks iid owner state ases links =
 unfoldable pub soundKinds : List ℕ → ℕ → Bool
 soundKinds highspeed links = allBelow (flagWithin highspeed links) linkPlaces
 
+-- only an ASP of the plan has its lists taken whole (Rule 5.26)
+unfoldable pub soundLists : List ℕ → ℕ → Bool
+soundLists wholelists asps = allBelow (flagWithin wholelists asps) aspPlaces
+
 -- ---- units held (Rule 5.21)
 
 -- an AS holds at most 8; unit k of AS a, the oldest first, has this index
@@ -171,7 +175,7 @@ soundTables g =
     && (soundAsps (g .aspid) (g .up) (g .asps)
     && (soundAses (g .up) (g .member) (g .active) (g .mode) (g .waiting) (g .asps) (g .ases)
     && (soundLinks (g .iid) (g .owner) (g .state) (g .ases) (g .links)
-    && soundKinds (g .highspeed) (g .links))))
+    && (soundKinds (g .highspeed) (g .links) && soundLists (g .wholelists) (g .asps)))))
 
 -- A new column has a condition of its own, which joins as one more conjunct.
 unfoldable pub isSound : Gateway → Bool
@@ -208,5 +212,6 @@ zeros =
       owner = replicate 128 0;
       state = replicate 128 0;
       highspeed = replicate 128 0;
+      wholelists = replicate 16 0;
       held = noUnits;
     }

@@ -14,7 +14,8 @@ ghost use Rattle.gateway.specs.Inner.Sound.{soundTablesOf};
 // Index of a pair: as * 16 + asp. Flags are 0 or 1. Traffic modes: 1 override, 2 load-share, 3 broadcast. States of a link:
 // 0 idle, 1 starting, 2 in service, 3 stopping. `iid` is the interface identifier, `waiting` that the recovery time runs.
 // `spare` is 0 (Rule 5.20): it stands where padding would, which goes out as whatever the stack held.
-// `highspeed` is 1 for a link by Q.703 Annex A, whose sequence numbers have 12 bits, and 0 for a plain one. `held` are the units held.
+// `highspeed` is 1 for a link by Q.703 Annex A, whose sequence numbers have 12 bits, and 0 for a plain one. `wholelists` is 1 for an ASP whose lists of
+// identifiers are taken whole or not at all (Rule 7.8). `held` are the units held.
 #[repr(C)]
 pub struct Gateway {
     pub asps: u8,
@@ -31,6 +32,7 @@ pub struct Gateway {
     pub owner: [u8; 128],
     pub state: [u8; 128],
     pub highspeed: [u8; 128],
+    pub wholelists: [u8; 16],
     pub held: Units,
 }
 
@@ -419,8 +421,9 @@ pub fn tables_ok<'a>(
     owner: &'a [u8; 128],
     state: &'a [u8; 128],
     highspeed: &'a [u8; 128],
+    wholelists: &'a [u8; 16],
 ) -> bool
-    ensures { λ r. ⌜ r ≡ soundTablesOf asps ases links spare (now (aspid .entry)) (now (up .entry)) (now (member .entry)) (now (active .entry)) (now (mode .entry)) (now (waiting .entry)) (now (iid .entry)) (now (owner .entry)) (now (state .entry)) (now (highspeed .entry)) ⌝ }
+    ensures { λ r. ⌜ r ≡ soundTablesOf asps ases links spare (now (aspid .entry)) (now (up .entry)) (now (member .entry)) (now (active .entry)) (now (mode .entry)) (now (waiting .entry)) (now (iid .entry)) (now (owner .entry)) (now (state .entry)) (now (highspeed .entry)) (now (wholelists .entry)) ⌝ }
 {
     let c = counts_ok(asps, ases, links);
     let e = spare == 0;
@@ -429,7 +432,8 @@ pub fn tables_ok<'a>(
     let y = ases_ok(&place, asps, ases, up, member, active, mode, waiting);
     let z = links_ok(ases, links, iid, owner, state);
     let k = flags_within(&place, highspeed, links, 128);
-    (c & e) & (x & (y & (z & k)))
+    let w = flags_within(&place, wholelists, asps, 16);
+    (c & e) & (x & (y & (z & (k & w))))
 }
 
 impl Units {
@@ -468,6 +472,7 @@ impl Gateway {
             owner: [0; 128],
             state: [0; 128],
             highspeed: [0; 128],
+            wholelists: [0; 16],
             held: Units::none(),
         }
     }

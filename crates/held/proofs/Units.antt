@@ -14,7 +14,7 @@ use Rattle.laws.specs.Inner.Every.{all-ext, all-two, and-left, and-right, and-b
 use Rattle.laws.specs.Columns.{numberAt, isSet}
 use Rattle.gateway.specs.declared.Gateway.{Gateway}
 use Rattle.gateway.specs.declared.Units.{Units}
-use Rattle.gateway.specs.Sound.{ascends, countsIn, soundAsps, soundAses, soundLinks, soundKinds, soundTables, isLinkOf, unitAt, blankAt, unitsOk, sized, allUnits, soundUnits, isSound}
+use Rattle.gateway.specs.Sound.{ascends, countsIn, soundAsps, soundAses, soundLinks, soundKinds, soundLists, soundTables, isLinkOf, unitAt, blankAt, unitsOk, sized, allUnits, soundUnits, isSound}
 use Rattle.gateway.specs.Inner.Sound.{soundTablesOf, unitsOf}
 use Rattle.gateway.specs.Inner.Laws.{limits, links-parts}
 use Rattle.lookup.specs.Links.{indexOf}
@@ -210,14 +210,14 @@ tables-links g h =
     let x = soundAsps (g .aspid) (g .up) (g .asps) in
     let y = soundAses (g .up) (g .member) (g .active) (g .mode) (g .waiting) (g .asps) (g .ases) in
     let z = soundLinks (g .iid) (g .owner) (g .state) (g .ases) (g .links) in
-    let k = soundKinds (g .highspeed) (g .links) in (
+    let k = soundKinds (g .highspeed) (g .links) && soundLists (g .wholelists) (g .asps) in (
       limits (g .asps) (g .ases) (g .links) (and-left c e (and-left (c && e) (x && (y && (z && k))) h)) .links,
       links-parts (g .iid) (g .owner) (g .state) (g .ases) (g .links) (and-left z k (and-right y (z && k) (and-right x (y && (z && k)) (and-right (c && e) (x && (y && (z && k))) h)))) .order,
     )
 
 -- the tables of a state, whatever units it holds
 abbrev tables : Gateway → Bool
-tables g = soundTablesOf (g .asps) (g .ases) (g .links) (g .spare) (g .aspid) (g .up) (g .member) (g .active) (g .mode) (g .waiting) (g .iid) (g .owner) (g .state) (g .highspeed)
+tables g = soundTablesOf (g .asps) (g .ases) (g .links) (g .spare) (g .aspid) (g .up) (g .member) (g .active) (g .mode) (g .waiting) (g .iid) (g .owner) (g .state) (g .highspeed) (g .wholelists)
 
 tables-of : (g : Gateway) → tables g ≡ soundTables g
 unfolding soundTables

@@ -339,6 +339,7 @@ pub fn sound_of<'a>(
     owner: &'a [u8; 128],
     state: &'a [u8; 128],
     highspeed: &'a [u8; 128],
+    wholelists: &'a [u8; 16],
     count: &'a [u8; 16],
     tag: &'a [u16; 128],
     length: &'a [u16; 128],
@@ -346,7 +347,7 @@ pub fn sound_of<'a>(
     id: &'a [u32; 128],
     correlation: &'a [u32; 128],
 ) -> bool
-    ensures { λ r. ⌜ r ≡ isSoundOf asps ases links spare (now (aspid .entry)) (now (up .entry)) (now (member .entry)) (now (active .entry)) (now (mode .entry)) (now (waiting .entry)) (now (iid .entry)) (now (owner .entry)) (now (state .entry)) (now (highspeed .entry)) (now (count .entry)) (now (tag .entry)) (now (length .entry)) (now (marked .entry)) (now (id .entry)) (now (correlation .entry)) ⌝ }
+    ensures { λ r. ⌜ r ≡ isSoundOf asps ases links spare (now (aspid .entry)) (now (up .entry)) (now (member .entry)) (now (active .entry)) (now (mode .entry)) (now (waiting .entry)) (now (iid .entry)) (now (owner .entry)) (now (state .entry)) (now (highspeed .entry)) (now (wholelists .entry)) (now (count .entry)) (now (tag .entry)) (now (length .entry)) (now (marked .entry)) (now (id .entry)) (now (correlation .entry)) ⌝ }
 {
     if !gateway::tables_ok(
         asps,
@@ -363,6 +364,7 @@ pub fn sound_of<'a>(
         owner,
         state,
         highspeed,
+        wholelists,
     ) {
         return false;
     }
@@ -404,6 +406,7 @@ pub fn is_sound(g: Gateway) -> bool
         &g.owner,
         &g.state,
         &g.highspeed,
+        &g.wholelists,
         &g.held.count,
         &g.held.tag,
         &g.held.length,

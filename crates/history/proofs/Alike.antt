@@ -30,9 +30,10 @@ use Rattle.action.specs.Types.{aspActiveAck, aspUpAck, aspUp, aspDown, beat, be
 use Rattle.server.specs.declared.AsRecord.{AsRecord}
 use Rattle.server.specs.Record.{some, recordOf, stateIn}
 use Rattle.rules.specs.Event.{EventKind, message, lost, recovery, linkUp, linkDown, linkMessage}
-use Rattle.rules.specs.Identifiers.{firstRefused, ownsNamed, ownersNamed, isKnown, linkOf, ownerAt, isMember, isActive}
+use Rattle.rules.specs.Identifiers.{firstRefused, namesSome, ownsGood, ownersGood, isKnown, linkOf, ownerAt, isMember, isActive}
+use Rattle.action.specs.declared.Action.{Action}
 use Rattle.rules.specs.Effect.{Effect, send, setLink, changeIn, takeIn, oneAction, error, error2}
-use Rattle.rules.specs.Asp.{asesOf, activeIn, upEffect, downEffect, lostEffect, otherMode, activeEffect, trafficEffect}
+use Rattle.rules.specs.Asp.{asesOf, activeIn, upEffect, downEffect, lostEffect, otherMode, activeEffect, partEffect, trafficEffect}
 use Rattle.rules.specs.Link.{canHave, linkEffect, classSixEffect, recipientsOf, toRecipients, linkUpEffect, linkDownEffect, isPending, arrival, holdEffect, linkMessageEffect, starting, idle, inService, stopping}
 use Rattle.rules.specs.Inner.TakeIn.{planned}
 use Rattle.rules.specs.Rules.{isError, classTypeOf, fromAsp, readEffect, messageEffect, effectOf, inPlan}
@@ -64,22 +65,21 @@ module _ (g : Gateway) (g′ : Gateway) where
   refused-plan p [] = refl
   refused-plan p (x ∷ ps) = rw (refused-plan p ps)
 
-  pub owns-plan : (ps : List Par) (a : ℕ) → ownsNamed (dyn g g′) ps a ≡ ownsNamed g ps a
-  unfolding ownsNamed
-  owns-plan [] a = refl
-  owns-plan (x ∷ ps) a = rw (owns-plan ps a)
+  pub owns-plan : (p : ℕ) (ps : List Par) (a : ℕ) → ownsGood (dyn g g′) p ps a ≡ ownsGood g p ps a
+  unfolding ownsGood
+  owns-plan p ps a = refl
 
-  owners-plan : (ps : List Par) → ownersNamed (dyn g g′) ps ≡ ownersNamed g ps
-  unfolding ownersNamed
-  owners-plan ps = tabulate-ext false 16 _ _ (λ a b. owns-plan ps a)
+  owners-plan : (p : ℕ) (ps : List Par) → ownersGood (dyn g g′) p ps ≡ ownersGood g p ps
+  unfolding ownersGood
+  owners-plan p ps = tabulate-ext false 16 _ _ (λ a b. owns-plan p ps a)
 
   other-plan : (mode : ℕ) (named : List Bool) → otherMode (dyn g g′) mode named ≡ otherMode g mode named
   unfolding otherMode
   other-plan mode named = refl
 
-  active-plan : (p mode : ℕ) (n : List Bool) → activeEffect (dyn g g′) p mode n ≡ activeEffect g p mode n
+  active-plan : (p mode : ℕ) (told : List Action) (n : List Bool) → activeEffect (dyn g g′) p mode told n ≡ activeEffect g p mode told n
   unfolding activeEffect
-  active-plan p mode n = ap (λ (t : Bool). cond t (send (error p 5)) (changeIn (oneAction p aspActiveAck 0 0) (Activate p) n)) (other-plan mode n)
+  active-plan p mode told n = ap (λ (t : Bool). cond t (send (error p 5)) (changeIn (oneAction p aspActiveAck 0 0 ++ told) (Activate p) n)) (other-plan mode n)
 
   pub in-plan : (k : EventKind) → inPlan (dyn g g′) k ≡ inPlan g k
   unfolding isKnown linkOf
@@ -92,7 +92,7 @@ module _ (g : Gateway) (g′ : Gateway) where
 
   pub reach-plan : (k : EventKind) (a : ℕ) → kindReach (dyn g g′) k a ≡ kindReach g k a
   unfolding isKnown linkOf ownsId messageReach readReach
-  reach-plan (message p m) a = rw (owns-plan (walk m 8 .pars) a)
+  reach-plan (message p m) a = rw (owns-plan p (walk m 8 .pars) a)
   reach-plan (lost p) a = refl
   reach-plan (recovery b) a = refl
   reach-plan (linkUp l) a = refl
@@ -169,14 +169,21 @@ module _ (g : Gateway) (g′ : Gateway) (ok : isSound g ≡ true) (ok′ : isSou
     mine-alike : (R : ℕ → Bool) → Alike g R (eqb p) g′ → isSet (g′ .up) p ≡ isSet (g .up) p
     mine-alike R k = flag (k .mine p (asps-16 g ok p b) (eq-eqb p p refl))
 
-    traffic-alike : (R : ℕ → Bool) → Alike g R (eqb p) g′ → (r : Reading) (ps : List Par) (act′ act : List Bool → Effect) → ((n : List Bool) → act′ n ≡ act n) → trafficEffect (dyn g g′) p r ps act′ ≡ trafficEffect g p r ps act
+    part-alike : (act′ act : List Action → List Bool → Effect) → ((told : List Action) (n : List Bool) → act′ told n ≡ act told n) → (x : ℕ) {good′ good : List Bool} → good′ ≡ good → partEffect (dyn g g′) p x good′ act′ ≡ partEffect g p x good act
+    unfolding partEffect
+    part-alike act′ act h x {good′} {good} e =
+        ap (λ (n : List Bool). cond (isSet (g .wholelists) p || not (some n)) (send (error2 p x)) (act′ (error2 p x) n)) e
+        ∙ cond-same (isSet (g .wholelists) p || not (some good)) (λ _. refl) (λ _. h (error2 p x) good)
+
+    traffic-alike : (R : ℕ → Bool) → Alike g R (eqb p) g′ → (r : Reading) (ps : List Par) (act′ act : List Action → List Bool → Effect) → ((told : List Action) (n : List Bool) → act′ told n ≡ act told n) → trafficEffect (dyn g g′) p r ps act′ ≡ trafficEffect g p r ps act
     unfolding trafficEffect
     traffic-alike R k r ps act′ act h =
         cond-both (not (isSet (g .up) p)) (ap not (mine-alike R k)) (λ _. refl)
         (λ _. cond-same (eqb (r .ids) 1)
         (λ _. cond-both (firstRefused g p ps .found) (ap (λ (x : Refused). x .found) (refused-plan g g′ p ps))
-        (λ _. ap (λ (x : Refused). send (error2 p (x .id))) (refused-plan g g′ p ps)) (λ _. ap act′ (owners-plan g g′ ps) ∙ h (ownersNamed g ps)))
-        (λ _. cond-same (some (asesOf g p)) (λ _. h (asesOf g p)) (λ _. refl)))
+        (λ _. ap (λ (x : Refused). partEffect (dyn g g′) p (x .id) (ownersGood (dyn g g′) p ps) act′) (refused-plan g g′ p ps) ∙ part-alike act′ act h (firstRefused g p ps .id) (owners-plan g g′ p ps))
+        (λ _. ap (act′ []) (owners-plan g g′ p ps) ∙ h [] (ownersGood g p ps)))
+        (λ _. cond-same (some (asesOf g p)) (λ _. h [] (asesOf g p)) (λ _. refl)))
 
     six-alike : (R : ℕ → Bool) → Alike g R (eqb p) g′ → (r : Reading) → (isKnown g (r .id) ≡ true → R (ownerAt g (linkOf g (r .id))) ≡ true) → classSixEffect (dyn g g′) p r ≡ classSixEffect g p r
     unfolding classSixEffect isKnown linkOf
@@ -199,7 +206,7 @@ module _ (g : Gateway) (g′ : Gateway) (ok : isSound g ≡ true) (ok′ : isSou
         (λ n₂. cond-same (eqb (classTypeOf r) beat) (λ _. refl)
         (λ _. cond-same (eqb (classTypeOf r) beatAck) (λ _. refl)
         (λ _. cond-same (eqb (classTypeOf r) aspActive) (λ _. traffic-alike R k r (walk m 8 .pars) _ _ (active-plan g g′ p (r .mode)))
-        (λ n₃. cond-same (eqb (classTypeOf r) aspInactive) (λ _. traffic-alike R k r (walk m 8 .pars) _ _ (λ n. refl))
+        (λ n₃. cond-same (eqb (classTypeOf r) aspInactive) (λ _. traffic-alike R k r (walk m 8 .pars) _ _ (λ t n. refl))
         (λ n₄. cond-same (eqb (r .class) 6 && fromAsp (r .msgtype))
         (λ t. six-alike R k r
         (λ y.

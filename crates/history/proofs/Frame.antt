@@ -53,6 +53,7 @@ pub record Plan : Type 0 where
   pub iid : List ℕ
   pub owner : List ℕ
   pub highspeed : List ℕ
+  pub wholelists : List ℕ
 
 abbrev pub planOf : Gateway → Plan
 planOf g =
@@ -67,6 +68,7 @@ planOf g =
       iid = g .iid;
       owner = g .owner;
       highspeed = g .highspeed;
+      wholelists = g .wholelists;
     }
 
 pub data Key : Type 0 where
@@ -196,6 +198,7 @@ ext g h e s = λ j. record {
   owner = e plan j .owner;
   state = lines j;
   highspeed = e plan j .highspeed;
+  wholelists = e plan j .wholelists;
   held = record { count = units counts j; tag = units tags j; length = units lengths j; marked = units marks j; id = units ids j; correlation = units correlations j };
 }
   where
@@ -443,6 +446,7 @@ module _ (b b′ : Gateway) (P : planOf b′ ≡ planOf b) where
     owner = P j .owner;
     state = b′ .state;
     highspeed = P j .highspeed;
+    wholelists = P j .wholelists;
     held = b′ .held;
   }
 

@@ -95,6 +95,7 @@ one-outside b e =
       iid = ap (λ (x : Plan). x .iid) same;
       owner = ap (λ (x : Plan). x .owner) same;
       highspeed = ap (λ (x : Plan). x .highspeed) same;
+      wholelists = ap (λ (x : Plan). x .wholelists) same;
       waiting = λ a l r. untouched b e (gate (wait a l)) r;
       active = λ a q l m r. untouched b e (gate (act a q l m)) r;
       state = λ l r. untouched b e (gate (line l)) r;

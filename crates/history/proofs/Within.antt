@@ -30,9 +30,9 @@ use Rattle.server.specs.declared.Change.the-variants.{AspUp, AspDown, Recover}
 use Rattle.server.specs.Record.{some}
 use Rattle.servers.specs.Inner.Records.{moves, NamesOwn, names-own, column-at}
 use Rattle.rules.specs.Event.{EventKind, message, lost, recovery, linkUp, linkDown, linkMessage}
-use Rattle.rules.specs.Identifiers.{isIds, firstRefused, ownsNamed, ownersNamed, isKnown, linkOf, ownerAt, isMember, isActive}
-use Rattle.rules.specs.Effect.{Effect, send, setLink, changeIn, takeIn}
-use Rattle.rules.specs.Asp.{asesOf, upEffect, downEffect, lostEffect, otherMode, activeEffect, inactiveEffect, trafficEffect}
+use Rattle.rules.specs.Identifiers.{namesSome, firstRefused, ownsGood, ownersGood, isKnown, linkOf, ownerAt, isMember, isActive}
+use Rattle.rules.specs.Effect.{Effect, send, setLink, changeIn, takeIn, error2}
+use Rattle.rules.specs.Asp.{asesOf, upEffect, downEffect, lostEffect, otherMode, activeEffect, inactiveEffect, partEffect, trafficEffect}
 use Rattle.rules.specs.Link.{starting, inService, stopping, idle, establish, release, dataEffect, canHave, linkEffect, classSixEffect, linkUpEffect, linkDownEffect}
 use Rattle.rules.specs.Rules.{isError, classTypeOf, fromAsp, readEffect, messageEffect, effectOf, inPlan}
 use Rattle.rules.specs.Reach.{ownsId, readReach, messageReach, kindReach, fromController}
@@ -75,21 +75,6 @@ widen g R R′ own (changeIn os k named) h w =
 widen g R R′ own (takeIn a x) h w =
     record { reached = h a (w .reached); room = w .room; most = w .most }
 
--- ---- the identifiers that a message names
-
--- an AS that owns one of those named owns one in the plan
-named-one : (g : Gateway) (ps : List Par) (a : ℕ) → ownsNamed g ps a ≡ true → (x : ℕ) × (isOwnedBy (g .iid) (g .owner) (g .links) a x ≡ true)
-unfolding ownsNamed someOf someEntry someIn
-named-one g [] a h = clash false refl h
-named-one g (x ∷ ps) a h =
-    let good = isOwnedBy (g .iid) (g .owner) (g .links) a in
-    or-case (isIds (x .tag) && someOf good (eqb (x .tag) 0x8) (x .body)) (ownsNamed g ps a) h
-    (λ e.
-    let i = any-at (λ i. someIn good (startAt (eqb (x .tag) 0x8) (x .body) i) (stopAt (eqb (x .tag) 0x8) (x .body) i)) (entries (eqb (x .tag) 0x8) (x .body)) (and-right (isIds (x .tag)) _ e) in
-    let k = any-at (λ k. good (startAt (eqb (x .tag) 0x8) (x .body) (i .0) + k)) (span (startAt (eqb (x .tag) 0x8) (x .body) (i .0)) (stopAt (eqb (x .tag) 0x8) (x .body) (i .0))) (i .2) in
-    (startAt (eqb (x .tag) 0x8) (x .body) (i .0) + k .0, k .2))
-    (named-one g ps a)
-
 -- ---- what a sound state says of the ASes reached
 
 module _ (g : Gateway) (ok : isSound g ≡ true) where
@@ -99,14 +84,6 @@ module _ (g : Gateway) (ok : isSound g ≡ true) where
   -- the owner of a link in the plan
   pub owner-in : (l : ℕ) → l < g .links → ltb (ownerAt g l) (g .ases) ≡ true
   owner-in l b = lt-ltb (ownerAt g l) (g .ases) (owner-within g ok l b)
-
-  named-in : (ps : List Par) (a : ℕ) → ownsNamed g ps a ≡ true → ltb a (g .ases) ≡ true
-  unfolding isOwnedBy ownerOf known
-  named-in ps a h =
-      let x = named-one g ps a h in
-      let k = and-left (ltb (indexOf (g .iid) (g .links) (x .0)) (g .links)) (eqb (numberAt (g .owner) (indexOf (g .iid) (g .links) (x .0))) a) (x .1) in
-      let o = eqb-true (numberAt (g .owner) (indexOf (g .iid) (g .links) (x .0))) a (and-right (ltb (indexOf (g .iid) (g .links) (x .0)) (g .links)) _ (x .1)) in
-      rw o at (owner-in (indexOf (g .iid) (g .links) (x .0)) (ltb-true _ (g .links) k))
 
   pub member-in : (p a : ℕ) → p < g .asps → a < 16 → isMember g a p ≡ true → ltb a (g .ases) ≡ true
   member-in p a b c h = lt-ltb a (g .ases) (member-within g ok a p c (asps-16 p b) h .1)
@@ -129,36 +106,45 @@ module _ (g : Gateway) (ok : isSound g ≡ true) where
     down-in : (K : ℕ → Bool) → ((a : ℕ) → isMember g a p ≡ true → K a ≡ true) → In g (λ a. ltb a (g .ases) && K a) (eqb p) (AspDown p) (asesOf g p)
     down-in K h = record { reached = all-of-p K h; mine = mine-p; whole = names-own (AspDown p) (g .member) p (λ q m. eqb-true q p m) }
 
-    -- Active and Inactive: those named by identifiers, or all ASes of p
-    traffic-in : (K : ℕ → Bool) (r : Reading) (ps : List Par) (act : List Bool → Effect)
-        → ((named : List Bool) → ((a : ℕ) → a < 16 → flagAt named a ≡ true → (ltb a (g .ases) && K a) ≡ true) → Within g (λ a. ltb a (g .ases) && K a) (eqb p) (act named))
-        → (eqb (r .ids) 1 ≡ true → (a : ℕ) → ownsNamed g ps a ≡ true → K a ≡ true)
+    -- an AS that owns a good identifier has p as a member
+    good-member : (ps : List Par) (a : ℕ) → ownsGood g p ps a ≡ true → isMember g a p ≡ true
+    unfolding ownsGood
+    good-member ps a h = and-right (namesSome (isOwnedBy (g .iid) (g .owner) (g .links) a) ps) (isMember g a p) h
+
+    -- Active and Inactive: the owners of the good ones named by identifiers, or all ASes of p
+    traffic-in : (K : ℕ → Bool) (r : Reading) (ps : List Par) (act : List Action → List Bool → Effect)
+        → ((told : List Action) (named : List Bool) → ((a : ℕ) → a < 16 → flagAt named a ≡ true → (ltb a (g .ases) && K a) ≡ true) → Within g (λ a. ltb a (g .ases) && K a) (eqb p) (act told named))
+        → (eqb (r .ids) 1 ≡ true → (a : ℕ) → ownsGood g p ps a ≡ true → K a ≡ true)
         → (eqb (r .ids) 1 ≡ false → (a : ℕ) → isMember g a p ≡ true → K a ≡ true)
         → Within g (λ a. ltb a (g .ases) && K a) (eqb p) (trafficEffect g p r ps act)
-    unfolding trafficEffect ownersNamed
+    unfolding trafficEffect partEffect ownersGood
     traffic-in K r ps act h ids all =
         by-cond (not (isSet (g .up) p)) W (λ _. tt)
         (λ _. by-cond (eqb (r .ids) 1) W
-        (λ i. by-cond (firstRefused g p ps .found) W (λ _. tt)
-        (λ _. h (tabulate 16 (ownsNamed g ps)) (λ a c e. and-both (ltb a (g .ases)) (K a) (named-in ps a (own a c e)) (ids i a (own a c e)))))
+        (λ i. by-cond (firstRefused g p ps .found) W
+        (λ _. by-cond (isSet (g .wholelists) p || not (some (tabulate 16 (ownsGood g p ps)))) W (λ _. tt) (λ _. h (error2 p (firstRefused g p ps .id)) (tabulate 16 (ownsGood g p ps)) (good-in i)))
+        (λ _. h [] (tabulate 16 (ownsGood g p ps)) (good-in i)))
         (λ i. by-cond (some (asesOf g p)) W
-        (λ _. h (asesOf g p) (all-of-p K (all i))) (λ _. tt)))
+        (λ _. h [] (asesOf g p) (all-of-p K (all i))) (λ _. tt)))
       where
         W : Effect → Type 0
         W = Within g (λ a. ltb a (g .ases) && K a) (eqb p)
 
-        own : (a : ℕ) → a < 16 → flagAt (tabulate 16 (ownsNamed g ps)) a ≡ true → ownsNamed g ps a ≡ true
-        own a c e = sym (getD-tabulate 16 (ownsNamed g ps) a false c) ∙ e
+        own : (a : ℕ) → a < 16 → flagAt (tabulate 16 (ownsGood g p ps)) a ≡ true → ownsGood g p ps a ≡ true
+        own a c e = sym (getD-tabulate 16 (ownsGood g p ps) a false c) ∙ e
 
-    active-in : (K : ℕ → Bool) (mode : ℕ) (named : List Bool) → ((a : ℕ) → a < 16 → flagAt named a ≡ true → (ltb a (g .ases) && K a) ≡ true) → Within g (λ a. ltb a (g .ases) && K a) (eqb p) (activeEffect g p mode named)
+        good-in : eqb (r .ids) 1 ≡ true → (a : ℕ) → a < 16 → flagAt (tabulate 16 (ownsGood g p ps)) a ≡ true → (ltb a (g .ases) && K a) ≡ true
+        good-in i a c e = and-both (ltb a (g .ases)) (K a) (member-in p a b c (good-member ps a (own a c e))) (ids i a (own a c e))
+
+    active-in : (K : ℕ → Bool) (mode : ℕ) (told : List Action) (named : List Bool) → ((a : ℕ) → a < 16 → flagAt named a ≡ true → (ltb a (g .ases) && K a) ≡ true) → Within g (λ a. ltb a (g .ases) && K a) (eqb p) (activeEffect g p mode told named)
     unfolding activeEffect
-    active-in K mode named h =
+    active-in K mode told named h =
         by-cond (otherMode g mode named) (Within g (λ a. ltb a (g .ases) && K a) (eqb p)) (λ _. tt)
         (λ _. record { reached = h; mine = λ q e. clash false refl e; whole = λ q a e c. clash false refl e })
 
-    inactive-in : (K : ℕ → Bool) (named : List Bool) → ((a : ℕ) → a < 16 → flagAt named a ≡ true → (ltb a (g .ases) && K a) ≡ true) → Within g (λ a. ltb a (g .ases) && K a) (eqb p) (inactiveEffect p named)
+    inactive-in : (K : ℕ → Bool) (told : List Action) (named : List Bool) → ((a : ℕ) → a < 16 → flagAt named a ≡ true → (ltb a (g .ases) && K a) ≡ true) → Within g (λ a. ltb a (g .ases) && K a) (eqb p) (inactiveEffect p told named)
     unfolding inactiveEffect
-    inactive-in K named h = record { reached = h; mine = λ q e. clash false refl e; whole = λ q a e c. clash false refl e }
+    inactive-in K told named h = record { reached = h; mine = λ q e. clash false refl e; whole = λ q a e c. clash false refl e }
 
     -- class 6: the owner of a known identifier
     six-in : (K : ℕ → Bool) (r : Reading) → ((a : ℕ) → ownsId g (r .id) a ≡ true → K a ≡ true) → Within g (λ a. ltb a (g .ases) && K a) (eqb p) (classSixEffect g p r)
@@ -206,7 +192,7 @@ module _ (g : Gateway) (ok : isSound g ≡ true) where
       unfolding readReach
       reach-down u t m = rw (u, t) m
 
-      reach-ids : (eqb (classTypeOf r) aspUp || eqb (classTypeOf r) aspDown) ≡ false → (eqb (classTypeOf r) aspActive || eqb (classTypeOf r) aspInactive) ≡ true → eqb (r .ids) 1 ≡ true → ownsNamed g (walk s 8 .pars) a ≡ true → readReach g p s r a ≡ true
+      reach-ids : (eqb (classTypeOf r) aspUp || eqb (classTypeOf r) aspDown) ≡ false → (eqb (classTypeOf r) aspActive || eqb (classTypeOf r) aspInactive) ≡ true → eqb (r .ids) 1 ≡ true → ownsGood g p (walk s 8 .pars) a ≡ true → readReach g p s r a ≡ true
       unfolding readReach
       reach-ids u v i m = rw (u, v, i) m
 

@@ -46,6 +46,7 @@ pub record Untouched (g : Gateway) (e : Event) (c : Gateway) : Type 0 where
   pub iid : c .iid ≡ g .iid
   pub owner : c .owner ≡ g .owner
   pub highspeed : c .highspeed ≡ g .highspeed
+  pub wholelists : c .wholelists ≡ g .wholelists
   pub waiting : (a : ℕ) → a < 16 → reaches g e a ≡ false → numberAt (c .waiting) a ≡ numberAt (g .waiting) a
   pub active : (a q : ℕ) → a < 16 → q < 16 → reaches g e a ≡ false → numberAt (c .active) (pair a q) ≡ numberAt (g .active) (pair a q)
   pub state : (l : ℕ) → reachesLink g e l ≡ false → numberAt (c .state) l ≡ numberAt (g .state) l

@@ -1,7 +1,7 @@
 -- Every event leaves a sound state sound.
 -- Assumes nothing.
 use mathlib.Core.Path.{_≡_, sym, _∙_}
-use mathlib.Core.Bool.{Bool, true, false, cond, not, _&&_}
+use mathlib.Core.Bool.{Bool, true, false, cond, not, _&&_, _||_}
 use mathlib.Core.List.{List, []}
 use Prim.Native.Nat.{ℕ, _<_}
 use native.Mathlib.Omega.{arith}
@@ -9,10 +9,9 @@ use lib.Dec.{eqb}
 use borrow.Author.Tests.{eqb-true, ltb-true, not-false}
 use Rattle.laws.specs.Inner.Every.{and-left, and-right}
 use Rattle.laws.specs.Inner.Choice.{by-cond}
-use Rattle.laws.specs.Columns.{flagAt, numberAt, isSet, tabulate}
+use Rattle.laws.specs.Columns.{flagAt, numberAt, isSet}
 use Rattle.laws.specs.Inner.Columns.{getD-tabulate}
 use Rattle.wire.specs.Walk.{Par, walk}
-use Rattle.message.specs.Meaning.{readingOf}
 use Rattle.message.specs.declared.Reading.{Reading}
 use Rattle.action.specs.declared.Action.{Action}
 use Rattle.gateway.specs.Sound.{isSound}
@@ -23,16 +22,16 @@ use Rattle.server.specs.declared.Change.the-variants.{AspUp, AspDown, Activate,
 use Rattle.server.specs.Record.{some}
 use Rattle.servers.specs.Inner.Records.{column-at}
 use Rattle.rules.specs.Event.{EventKind, message, lost, recovery, linkUp, linkDown, linkMessage, Event}
-use Rattle.rules.specs.Identifiers.{firstRefused, ownsNamed, ownersNamed, isKnown, linkOf, ownerAt, isMember, isActive}
+use Rattle.ranges.specs.Named.{isOwnedBy}
+use Rattle.rules.specs.Identifiers.{firstRefused, namesSome, ownsGood, ownersGood, isKnown, linkOf, ownerAt, isMember, isActive}
 use Rattle.rules.specs.Effect.{Effect, send, setLink, changeIn, takeIn, stateAfter}
-use Rattle.rules.specs.Asp.{asesOf, upEffect, downEffect, lostEffect, activeEffect, inactiveEffect, trafficEffect}
+use Rattle.rules.specs.Asp.{asesOf, upEffect, downEffect, lostEffect, activeEffect, inactiveEffect, partEffect, trafficEffect}
 use Rattle.rules.specs.Link.{starting, inService, idle, establish, release, dataEffect, canHave, linkEffect, classSixEffect, linkUpEffect, linkDownEffect}
 use Rattle.rules.specs.Rules.{readEffect, messageEffect, effectOf, inPlan, refusal}
 use Rattle.rules.specs.Entry.{next}
 use Rattle.rules.specs.Inner.Accepted.{accepted}
 use Rattle.rules.specs.Inner.TakeIn.{Takes, link-cases, taken-in}
 use Rattle.keeps.specs.Inner.Keeps.{keeps-up, keeps-down, keeps-deactivate, keeps-activate, keeps-recover, keeps-link, keeps-unit}
-use Rattle.keeps.proofs.Named.{named-mine}
 
 module _ (g : Gateway) (ok : isSound g ≡ true) where
   unfoldable Keeps : Effect → Type 0
@@ -76,26 +75,32 @@ module _ (g : Gateway) (ok : isSound g ≡ true) where
     unfolding Keeps
     acts os named u m = keeps-activate g ok p named b u m
 
-    active : (mode : ℕ) (named : List Bool) → isSet (g .up) p ≡ true → ((a : ℕ) → a < 16 → flagAt named a ≡ true → isMember g a p ≡ true) → Keeps (activeEffect g p mode named)
+    active : (mode : ℕ) (told : List Action) (named : List Bool) → isSet (g .up) p ≡ true → ((a : ℕ) → a < 16 → flagAt named a ≡ true → isMember g a p ≡ true) → Keeps (activeEffect g p mode told named)
     unfolding activeEffect
-    active mode named u m = search (either, said, acts) depth 6
+    active mode told named u m = search (either, said, acts) depth 6
 
-    inactive : (named : List Bool) → Keeps (inactiveEffect p named)
+    inactive : (told : List Action) (named : List Bool) → Keeps (inactiveEffect p told named)
     unfolding inactiveEffect Keeps
-    inactive named = keeps-deactivate g ok p named
+    inactive told named = keeps-deactivate g ok p named
 
-    -- Active and Inactive: in the ASes named by identifiers, or in all of p
-    traffic : (r : Reading) (ps : List Par) (act : List Bool → Effect)
-        → (isSet (g .up) p ≡ true → (named : List Bool) → ((a : ℕ) → a < 16 → flagAt named a ≡ true → isMember g a p ≡ true) → Keeps (act named))
+    -- p is in every AS that owns a good identifier
+    good-mine : (ps : List Par) (a : ℕ) → a < 16 → flagAt (ownersGood g p ps) a ≡ true → isMember g a p ≡ true
+    unfolding ownersGood ownsGood
+    good-mine ps a c e = and-right (namesSome (isOwnedBy (g .iid) (g .owner) (g .links) a) ps) (isMember g a p) (sym (getD-tabulate 16 (ownsGood g p ps) a false c) ∙ e)
+
+    -- Active and Inactive: in the ASes that own good identifiers, or in all of p
+    traffic : (r : Reading) (ps : List Par) (act : List Action → List Bool → Effect)
+        → (isSet (g .up) p ≡ true → (told : List Action) (named : List Bool) → ((a : ℕ) → a < 16 → flagAt named a ≡ true → isMember g a p ≡ true) → Keeps (act told named))
         → Keeps (trafficEffect g p r ps act)
-    unfolding trafficEffect ownersNamed
+    unfolding trafficEffect partEffect
     traffic r ps act h =
         by-cond (not (isSet (g .up) p)) Keeps (λ _. said _)
         (λ u. by-cond (eqb (r .ids) 1) Keeps
-        (λ _. by-cond (firstRefused g p ps .found) Keeps (λ _. said _)
-        (λ n. h (not-false (isSet (g .up) p) u) (tabulate 16 (ownsNamed g ps)) (λ a c e. named-mine g p ps a n (sym (getD-tabulate 16 (ownsNamed g ps) a false c) ∙ e))))
+        (λ _. by-cond (firstRefused g p ps .found) Keeps
+        (λ _. by-cond (isSet (g .wholelists) p || not (some (ownersGood g p ps))) Keeps (λ _. said _) (λ _. h (not-false (isSet (g .up) p) u) _ (ownersGood g p ps) (good-mine ps)))
+        (λ _. h (not-false (isSet (g .up) p) u) [] (ownersGood g p ps) (good-mine ps)))
         (λ _. by-cond (some (asesOf g p)) Keeps
-        (λ _. h (not-false (isSet (g .up) p) u) (asesOf g p) (λ a c e. sym (column-at (g .member) p a c) ∙ e))
+        (λ _. h (not-false (isSet (g .up) p) u) [] (asesOf g p) (λ a c e. sym (column-at (g .member) p a c) ∙ e))
         (λ _. said _)))
 
     link : (x l st : ℕ) (r : Reading) → l < g .links → Keeps (linkEffect p x l st r)
@@ -126,10 +131,10 @@ module _ (g : Gateway) (ok : isSound g ≡ true) where
     read s r = search (either, said, up, down, six, on, off) depth 16
       where
         on : Keeps (trafficEffect g p r (walk s 8 .pars) (activeEffect g p (r .mode)))
-        on = traffic r (walk s 8 .pars) (activeEffect g p (r .mode)) (λ u named m. active (r .mode) named u m)
+        on = traffic r (walk s 8 .pars) (activeEffect g p (r .mode)) (λ u told named m. active (r .mode) told named u m)
 
         off : Keeps (trafficEffect g p r (walk s 8 .pars) (inactiveEffect p))
-        off = traffic r (walk s 8 .pars) (inactiveEffect p) (λ u named m. inactive named)
+        off = traffic r (walk s 8 .pars) (inactiveEffect p) (λ u told named m. inactive told named)
 
     of-asp : (s : List ℕ) → Keeps (messageEffect g p s)
     unfolding messageEffect

@@ -1,6 +1,5 @@
-// The identifiers that the value of a parameter names (Rule 2.11): the first that is refused or, where none is, the ASes that own them.
+// The identifiers that the value of a parameter names (Rule 2.11): the first that is refused, and the ASes that own the known ones.
 use ranges::Named;
-use ranges::Refused;
 ghost use mathlib.Core.Path.{_≡_};
 ghost use mathlib.Core.Bool.{true, false, _||_};
 ghost use Prim.Native.Nat.{_<_, _≤_};
@@ -12,12 +11,12 @@ ghost use Rattle.ranges.specs.Named.{isOwnedBy, startAt, stopAt, entries, refus
 ghost use Rattle.ranges.specs.Inner.Laws.{Table};
 ghost use Rattle.ranges.specs.Inner.Refused.{refusedBy};
 ghost use Rattle.ranges.specs.Inner.Owners.{Looked};
-ghost use Rattle.ranges.specs.Inner.Names.{Names};
+ghost use Rattle.ranges.specs.Inner.Names.{earlier, Plain, Names};
 
 // ---- identifiers
 
 // How many identifiers are below x. They often come in order: so the place `near` is tried first. (500 in order take a quarter to a third of the time.)
-fn rank_near(iid: &[u32; 128], links: usize, x: u32, near: usize) -> usize
+pub fn rank_near(iid: &[u32; 128], links: usize, x: u32, near: usize) -> usize
     requires { ⌜ (links ≤ 128) × (ascends (now iid) links ≡ true) ⌝ }
     ensures { λ r. ⌜ (r ≡ rank (now (iid .entry)) links x) × (r ≤ links) ⌝ }
 {
@@ -26,41 +25,38 @@ fn rank_near(iid: &[u32; 128], links: usize, x: u32, near: usize) -> usize
             return near;
         }
     }
-    lookup::rank_of(iid, links, x)
+    ranges::rank_at(iid, links, x)
 }
 
-// The identifiers of the value of a 0x1, beside those of the set.
+// The identifiers of the value of a 0x1, beside what was named before.
 pub fn of_ids<'a>(
-    set: u32,
+    old: Named,
     value: &[u8],
     iid: &'a [u32; 128],
     owner: &'a [u8; 128],
     links: usize,
     mine: u32,
 ) -> Named
-    requires { ⌜ Table (now iid) (now owner) links ⌝ }
-    ensures { λ r. ⌜ Names r (refusedIn (refusedBy (now (iid .entry)) (now (owner .entry)) links (flagsOf mine)) false (now (value .entry))) (tabulate 16 (λ a. flagAt (flagsOf set) a || someOf (isOwnedBy (now (iid .entry)) (now (owner .entry)) links a) false (now (value .entry)))) ⌝ }
+    requires { ⌜ Table (now iid) (now owner) links × Plain (old .refused) ⌝ }
+    ensures { λ r. ⌜ Names r (earlier (old .refused) (refusedIn (refusedBy (now (iid .entry)) (now (owner .entry)) links (flagsOf mine)) false (now (value .entry)))) (tabulate 16 (λ a. flagAt (flagsOf (old .set)) a || someOf (isOwnedBy (now (iid .entry)) (now (owner .entry)) links a) false (now (value .entry)))) ⌝ }
 {
     let n = value.len() / 4;
-    let mut r = set;
+    let mut r = old;
     let mut near: usize = 0;
     for i in 0..n {
         let x = wire::get32(value, 4 * i);
         let l = rank_near(iid, links, x, near);
-        if ranges::is_refused(iid, owner, links, mine, l, x) {
-            return ranges::answer(Refused { found: true, id: x }, r);
-        }
-        r = sets::with_as(r, gateway::wide(owner[l]));
+        r = ranges::with_id(r, iid, owner, links, mine, l, x);
         near = l + 1;
     }
-    ranges::passes(r)
+    r
 }
 
 // ---- ranges
 
 // Those of the value of a 0x8.
 pub fn of_ranges<'a>(
-    set: u32,
+    old: Named,
     far: &mut [u8; 128],
     value: &[u8],
     iid: &'a [u32; 128],
@@ -68,28 +64,23 @@ pub fn of_ranges<'a>(
     links: usize,
     mine: u32,
 ) -> Named
-    requires { ⌜ Table (now iid) (now owner) links × Looked (now owner) (now far) (flagsOf set) ⌝ }
-    ensures { λ r. ⌜ Names r (refusedIn (refusedBy (now (iid .entry)) (now (owner .entry)) links (flagsOf mine)) true (now (value .entry))) (tabulate 16 (λ a. flagAt (flagsOf set) a || someOf (isOwnedBy (now (iid .entry)) (now (owner .entry)) links a) true (now (value .entry)))) × Looked (now (owner .entry)) (now (far .exit)) (flagsOf (r .set)) ⌝ }
+    requires { ⌜ Table (now iid) (now owner) links × Looked (now owner) (now far) (flagsOf (old .set)) × Plain (old .refused) ⌝ }
+    ensures { λ r. ⌜ Names r (earlier (old .refused) (refusedIn (refusedBy (now (iid .entry)) (now (owner .entry)) links (flagsOf mine)) true (now (value .entry)))) (tabulate 16 (λ a. flagAt (flagsOf (old .set)) a || someOf (isOwnedBy (now (iid .entry)) (now (owner .entry)) links a) true (now (value .entry)))) × Looked (now (owner .entry)) (now (far .exit)) (flagsOf (r .set)) ⌝ }
 {
     let n = value.len() / 8;
-    let mut r = set;
+    let mut r = old;
     for i in 0..n {
         let start = wire::get32(value, 8 * i);
         let stop = wire::get32(value, 8 * i + 4);
-        let e = ranges::of_range(r, far, iid, owner, links, mine, start, stop);
-        let f = e.refused;
-        if f.found {
-            return e;
-        }
-        let next = e.set;
+        let next = ranges::with_range(r, far, iid, owner, links, mine, start, stop);
         r = next;
     }
-    ranges::passes(r)
+    r
 }
 
 // ---- the owners alone; pairs says that the tag is 0x8
 
-fn entries_of(value: &[u8], pairs: bool) -> usize
+pub fn entries_of(value: &[u8], pairs: bool) -> usize
     ensures { λ r. ⌜ r ≡ entries pairs (now (value .entry)) ⌝ }
 {
     if pairs {
@@ -98,7 +89,7 @@ fn entries_of(value: &[u8], pairs: bool) -> usize
     value.len() / 4
 }
 
-fn start_at(value: &[u8], pairs: bool, i: usize) -> u32
+pub fn start_at(value: &[u8], pairs: bool, i: usize) -> u32
     requires { ⌜ i < entries pairs (now value) ⌝ }
     ensures { λ r. ⌜ r ≡ startAt pairs (now (value .entry)) i ⌝ }
 {
@@ -108,7 +99,7 @@ fn start_at(value: &[u8], pairs: bool, i: usize) -> u32
     wire::get32(value, 4 * i)
 }
 
-fn stop_at(value: &[u8], pairs: bool, i: usize) -> u32
+pub fn stop_at(value: &[u8], pairs: bool, i: usize) -> u32
     requires { ⌜ i < entries pairs (now value) ⌝ }
     ensures { λ r. ⌜ r ≡ stopAt pairs (now (value .entry)) i ⌝ }
 {

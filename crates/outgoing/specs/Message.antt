@@ -15,7 +15,7 @@ use Rattle.gateway.specs.declared.Gateway.{Gateway}
 use Rattle.action.specs.declared.Action.{Action}
 use Rattle.action.specs.Types.{mgmtError, mgmtNotify, beatAck, aspUpAck, aspDownAck, aspActiveAck, aspInactiveAck, userData, dataAck}
 use Rattle.rules.specs.Event.{EventKind, message, lost, recovery, linkUp, linkDown, linkMessage}
-use Rattle.rules.specs.Identifiers.{isIds, ownerAt}
+use Rattle.rules.specs.Identifiers.{isIds, ownerAt, firstRefused, isNamedGood}
 use Rattle.rules.specs.Effect.{holdAt}
 
 -- a parameter that holds one number
@@ -26,9 +26,12 @@ numberPar t n = par t (bytes32 n)
 unfoldable pub idsOf : Gateway → ℕ → List ℕ
 idsOf g a = concatBelow (λ l. cond (eqb (ownerAt g l) a) (bytes32 (numberAt (g .iid) l)) []) (g .links)
 
--- all of them in one parameter; none where the AS has no links
+-- identifiers in one parameter; none where there are none
+abbrev pub listPar : List ℕ → List Par
+listPar ids = cond (eqb (length ids) 0) [] (par 0x1 ids ∷ [])
+
 unfoldable pub idsPar : Gateway → ℕ → List Par
-idsPar g a = cond (eqb (length (idsOf g a)) 0) [] (par 0x1 (idsOf g a) ∷ [])
+idsPar g a = listPar (idsOf g a)
 
 -- Rule 8.9: its code; code 2 also says which identifier was refused
 unfoldable pub errorPars : Action → List Par
@@ -38,9 +41,14 @@ errorPars o = numberPar 0xc (o .value) ∷ cond (eqb (o .value) 2) (numberPar 0x
 unfoldable pub notifyPars : Gateway → Action → List Par
 notifyPars g o = numberPar 0xd (o .value) ∷ idsPar g (o .subject)
 
--- Rule 8.11: the Acks of class 4 repeat the traffic mode, then what names identifiers; ps are the parameters of the message that they answer
-unfoldable pub trafficAckPars : List Par → List Par
-trafficAckPars ps = only (λ t. eqb t 0xb) ps ++ only isIds ps
+-- the good identifiers that a message of p names, ascending as the links' places do, each once, as bytes
+unfoldable pub goodIds : Gateway → ℕ → List Par → List ℕ
+goodIds g p ps = concatBelow (λ l. cond (isNamedGood g p ps l) (bytes32 (numberAt (g .iid) l)) []) (g .links)
+
+-- Rule 8.11: the Acks of class 4 repeat the traffic mode, then what names identifiers; where one of these was refused, the good ones in one parameter instead.
+-- ps are the parameters of the message of p that they answer
+unfoldable pub trafficAckPars : Gateway → ℕ → List Par → List Par
+trafficAckPars g p ps = only (λ t. eqb t 0xb) ps ++ cond (firstRefused g p ps .found) (listPar (goodIds g p ps)) (only isIds ps)
 
 -- Rule 8.12: a Beat Ack repeats the heartbeat data
 unfoldable pub beatAckPars : List Par → List Par
@@ -66,7 +74,7 @@ replyPars g h ps i o =
     (cond (eqb (o .classtype) mgmtNotify) (notifyPars g o)
     (cond (eqb (o .classtype) aspUpAck || eqb (o .classtype) aspDownAck) []
     (cond (eqb (o .classtype) beatAck) (beatAckPars ps)
-    (cond (eqb (o .classtype) aspActiveAck || eqb (o .classtype) aspInactiveAck) (trafficAckPars ps)
+    (cond (eqb (o .classtype) aspActiveAck || eqb (o .classtype) aspInactiveAck) (trafficAckPars g (o .to) ps)
     (cond (eqb (o .classtype) userData) (unitPars g h i o)
     (linkPars o))))))
 

@@ -367,7 +367,7 @@ fn put_copies(out: &mut [u8], at: usize, msg: &[u8], f: Form) -> usize
 }
 
 // The identifiers of an AS, and behind them the parameters of the received message.
-fn put_rest<'a>(
+pub fn put_rest<'a>(
     out: &mut [u8],
     at: usize,
     msg: &[u8],

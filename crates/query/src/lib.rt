@@ -41,9 +41,9 @@ pub struct Waits {
 // The version of the entries that this library has: raised by each change of a struct, a limit or a signature (include/m2ua.h, M2UA_ABI).
 #[no_mangle]
 pub extern "C" fn m2ua_abi() -> u32
-    ensures { λ r. ⌜ r ≡ 3 ⌝ }
+    ensures { λ r. ⌜ r ≡ 4 ⌝ }
 {
-    3
+    4
 }
 
 // Where the protocol data of a message lies (Rule 1.7).

@@ -5,3 +5,4 @@ pub mod Owners
 pub mod Places
 pub mod Range
 pub mod Names
+pub mod Alone

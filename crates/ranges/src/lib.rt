@@ -1,18 +1,18 @@
 // The links inside a range of identifiers (Rule 2.11): from the first to the last of them, by the ascending order, so that a range costs a search and not a walk.
 ghost use mathlib.Core.Path.{_≡_};
 ghost use mathlib.Core.Bool.{true, cond, _&&_, _||_};
-ghost use Prim.Native.Nat.{_+_, _<_, _≤_};
-ghost use lib.Dec.{eqb, ltb};
+ghost use Prim.Native.Nat.{_+_, _-_, _<_, _≤_};
+ghost use lib.Dec.{eqb, leb, ltb};
 ghost use Rattle.laws.specs.Below.{anyBelow};
 ghost use Rattle.laws.specs.Columns.{flagAt, numberAt, tabulate};
 ghost use Rattle.gateway.specs.Sound.{ascends, allUnder};
 ghost use Rattle.lookup.specs.Inner.Links.{rank};
 ghost use Rattle.sets.specs.Inner.Bits.{flagsOf};
-ghost use Rattle.ranges.specs.Named.{isOwnedBy, nothing, firstIn, someIn};
+ghost use Rattle.ranges.specs.Named.{isOwnedBy, nothing, refusing, firstIn, someIn};
 ghost use Rattle.ranges.specs.Inner.Laws.{Table};
 ghost use Rattle.ranges.specs.Inner.Refused.{refusedBy};
 ghost use Rattle.ranges.specs.Inner.Owners.{ownsFrom, Looked};
-ghost use Rattle.ranges.specs.Inner.Names.{Names};
+ghost use Rattle.ranges.specs.Inner.Names.{earlier, Plain, Names};
 
 // The first refused identifier, if one is found; else 0.
 pub struct Refused {
@@ -20,7 +20,7 @@ pub struct Refused {
     pub id: u32,
 }
 
-// What identifiers name: the ASes are of use where nothing is refused, AS a as bit a.
+// What identifiers name: the first that is refused, and the ASes that own the known ones, AS a as bit a.
 pub struct Named {
     pub refused: Refused,
     pub set: u32,
@@ -34,6 +34,22 @@ pub fn answer(refused: Refused, set: u32) -> Named
     Named {
         refused: refused,
         set: set,
+    }
+}
+
+fn id_of(found: bool, id: u32, x: u32) -> u32
+    ensures { λ r. ⌜ r ≡ cond found id x ⌝ }
+{
+    if found { id } else { x }
+}
+
+// The one found before, if there is one, else x.
+fn first_of(old: Refused, x: u32) -> Refused
+    ensures { λ r. ⌜ r ≡ earlier old (refusing x) ⌝ }
+{
+    Refused {
+        found: true,
+        id: id_of(old.found, old.id, x),
     }
 }
 
@@ -62,15 +78,49 @@ fn holds(iid: &[u32; 128], links: usize, l: usize, x: u32) -> bool
     false
 }
 
+// Whether no identifier is above x, and there is one.
+fn ends_by(iid: &[u32; 128], links: usize, x: u32) -> bool
+    requires { ⌜ links ≤ 128 ⌝ }
+    ensures { λ r. ⌜ r ≡ (ltb 0 links && leb (numberAt (now (iid .entry)) (links - 1)) x) ⌝ }
+{
+    if 0 < links {
+        return iid[links - 1] <= x;
+    }
+    false
+}
+
+// How many identifiers are below x. Links are often numbered one after the other: so the place as far from the first as x is above it is tried before the search;
+// and what is above the last needs none.
+pub fn rank_at(iid: &[u32; 128], links: usize, x: u32) -> usize
+    requires { ⌜ (links ≤ 128) × (ascends (now iid) links ≡ true) ⌝ }
+    ensures { λ r. ⌜ (r ≡ rank (now (iid .entry)) links x) × (r ≤ links) ⌝ }
+{
+    if iid[0] <= x {
+        let l = (x - iid[0]) as usize;
+        if holds(iid, links, l, x) {
+            return l;
+        }
+    }
+    if 0 < links {
+        if iid[links - 1] < x {
+            return links;
+        }
+    }
+    lookup::rank_of(iid, links, x)
+}
+
 // Past the last place inside a range: as many links as have identifiers up to stop. All of the range is known where stop stands as many places after
-// the first as it is above start, so that place is tried before the search.
-fn past_of(iid: &[u32; 128], links: usize, first: usize, start: u32, stop: u32) -> usize
+// the first as it is above start, so that place is tried before the search; and so is the last one, for a range that goes on beyond it.
+pub fn past_of(iid: &[u32; 128], links: usize, first: usize, start: u32, stop: u32) -> usize
     requires { ⌜ (links ≤ 128) × (ascends (now iid) links ≡ true) × (first ≤ links) × (start ≤ stop) ⌝ }
     ensures { λ r. ⌜ (r ≡ rank (now (iid .entry)) links (stop + 1)) × (r ≤ links) ⌝ }
 {
     let last = first + (stop - start) as usize;
     if holds(iid, links, last, stop) {
         return last + 1;
+    }
+    if ends_by(iid, links, stop) {
+        return links;
     }
     let l = lookup::rank_of(iid, links, stop);
     if holds(iid, links, l, stop) {
@@ -79,7 +129,7 @@ fn past_of(iid: &[u32; 128], links: usize, first: usize, start: u32, stop: u32) 
     l
 }
 
-fn later(x: u8, y: u8) -> u8
+pub fn later(x: u8, y: u8) -> u8
     ensures { λ r. ⌜ r ≡ cond (ltb x y) y x ⌝ }
 {
     if x < y { y } else { x }
@@ -133,7 +183,7 @@ pub fn is_refused<'a>(
     (iid[l] != x) | !sets::has(mine, gateway::wide(owner[l]))
 }
 
-// The first of a range that is refused; `first` is the place of start. A message has this walk once at most, for what it finds ends it.
+// The first of a range that is refused; `first` is the place of start. A message has this walk once at most, for behind what it finds no other counts.
 fn first_refused<'a>(
     iid: &'a [u32; 128],
     owner: &'a [u8; 128],
@@ -182,7 +232,7 @@ pub fn of_range<'a>(
     if stop < start {
         return passes(set);
     }
-    let first = lookup::rank_of(iid, links, start);
+    let first = rank_at(iid, links, start);
     let past = past_of(iid, links, first, start, stop);
     let all = owners_between(set, far, owner, first, past);
     if past - first == (stop - start) as usize + 1 {
@@ -212,7 +262,58 @@ pub fn owners_in<'a>(
     if stop < start {
         return set;
     }
-    let first = lookup::rank_of(iid, links, start);
+    let first = rank_at(iid, links, start);
     let past = past_of(iid, links, first, start, stop);
     owners_between(set, far, owner, first, past)
+}
+
+// ---- beside what was named before
+
+// What was named before, with x, that stands at l or nowhere.
+pub fn with_id<'a>(
+    old: Named,
+    iid: &'a [u32; 128],
+    owner: &'a [u8; 128],
+    links: usize,
+    mine: u32,
+    l: usize,
+    x: u32,
+) -> Named
+    requires { ⌜ Table (now iid) (now owner) links × (l ≡ rank (now iid) links x) × Plain (old .refused) ⌝ }
+    ensures { λ r. ⌜ Names r (earlier (old .refused) (firstIn (refusedBy (now (iid .entry)) (now (owner .entry)) links (flagsOf mine)) x x)) (tabulate 16 (λ a. flagAt (flagsOf (old .set)) a || someIn (isOwnedBy (now (iid .entry)) (now (owner .entry)) links a) x x)) ⌝ }
+{
+    let f = old.refused;
+    let set = old.set;
+    if !holds(iid, links, l, x) {
+        return answer(first_of(f, x), set);
+    }
+    let a = gateway::wide(owner[l]);
+    let all = sets::with_as(set, a);
+    if sets::has(mine, a) {
+        return answer(f, all);
+    }
+    answer(first_of(f, x), all)
+}
+
+// The same, with the identifiers from start to stop. Where one was refused before, none of these counts.
+pub fn with_range<'a>(
+    old: Named,
+    far: &mut [u8; 128],
+    iid: &'a [u32; 128],
+    owner: &'a [u8; 128],
+    links: usize,
+    mine: u32,
+    start: u32,
+    stop: u32,
+) -> Named
+    requires { ⌜ Table (now iid) (now owner) links × Looked (now owner) (now far) (flagsOf (old .set)) ⌝ }
+    ensures { λ r. ⌜ Names r (earlier (old .refused) (firstIn (refusedBy (now (iid .entry)) (now (owner .entry)) links (flagsOf mine)) start stop)) (tabulate 16 (λ a. flagAt (flagsOf (old .set)) a || someIn (isOwnedBy (now (iid .entry)) (now (owner .entry)) links a) start stop)) × Looked (now (owner .entry)) (now (far .exit)) (flagsOf (r .set)) ⌝ }
+{
+    let f = old.refused;
+    let set = old.set;
+    if f.found {
+        let all = owners_in(set, far, iid, owner, links, start, stop);
+        return answer(f, all);
+    }
+    of_range(set, far, iid, owner, links, mine, start, stop)
 }

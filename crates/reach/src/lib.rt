@@ -13,7 +13,7 @@ ghost use Rattle.ranges.specs.Inner.Laws.{Table};
 ghost use Rattle.ranges.specs.Named.{isOwnedBy};
 ghost use Rattle.ranges.specs.Inner.Owners.{Looked};
 ghost use Rattle.sets.specs.Inner.Bits.{flagsOf};
-ghost use Rattle.traffic.specs.Inner.Named.{withPar, ownersPars};
+ghost use Rattle.traffic.specs.Inner.Named.{withPar, goodPars};
 ghost use Rattle.rules.specs.Event.{message, lost, recovery, linkUp, linkDown, linkMessage};
 ghost use Rattle.ask.specs.Happened.{happened, eventOf};
 ghost use Rattle.ask.specs.Inner.Ask.{AskFits};
@@ -44,10 +44,16 @@ fn owners_par<'a>(
     set
 }
 
-// The ASes that own a known identifier of the message.
-fn owners_named<'a>(s: &[u8], links: usize, iid: &'a [u32; 128], owner: &'a [u8; 128]) -> [bool; 16]
+// The ASes of the set mine that own a known identifier of the message.
+fn owners_good<'a>(
+    s: &[u8],
+    links: usize,
+    iid: &'a [u32; 128],
+    owner: &'a [u8; 128],
+    mine: u32,
+) -> [bool; 16]
     requires { ⌜ Table (now iid) (now owner) links ⌝ }
-    ensures { λ r. ⌜ r ≡ ownersPars (isOwnedBy (now (iid .entry)) (now (owner .entry)) links) (walk (now (s .entry)) 8 .pars) ⌝ }
+    ensures { λ r. ⌜ r ≡ goodPars (isOwnedBy (now (iid .entry)) (now (owner .entry)) links) (flagsOf mine) (walk (now (s .entry)) 8 .pars) ⌝ }
 {
     let mut far = [0u8; 128];
     let mut set: u32 = 0;
@@ -55,7 +61,7 @@ fn owners_named<'a>(s: &[u8], links: usize, iid: &'a [u32; 128], owner: &'a [u8;
     loop {
         let w = wire::step_at(s, at);
         let Step::Param { tag, len, next } = w else {
-            return sets::flags_of(set);
+            return sets::flags_of(sets::common(set, mine));
         };
         let start = at + 4;
         let stop = at + len as usize;
@@ -101,7 +107,7 @@ fn named_row<'a>(
     ensures { λ r. ⌜ r ≡ namedRow links (now (member .entry)) (now (iid .entry)) (now (owner .entry)) p (now (s .entry)) ids ⌝ }
 {
     if ids == 1 {
-        return owners_named(s, links, iid, owner);
+        return owners_good(s, links, iid, owner, asps::ases_of(member, p));
     }
     servers::column_of(member, p)
 }

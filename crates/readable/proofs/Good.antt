@@ -23,17 +23,18 @@ use Rattle.rules.specs.Sent.{isData}
 use Rattle.outgoing.specs.Message.{numberPar, idsOf, idsPar, errorPars, notifyPars, linkPars, replyPars}
 use Rattle.readable.proofs.Numbers.{largest, ids-fours}
 use Rattle.readable.proofs.Lists.{error-list, notify-none, notify-ids, up-list, down-list, link-list, data-list}
+use Rattle.readable.proofs.Effects.{Holds}
 use Rattle.readable.proofs.Acks.{beat-list, active-list, inactive-list}
 
 -- an action whose parameters q gives: it goes to the link side, or is Data to an ASP, whose unit is looked at elsewhere, or its message is accepted
 unfoldable pub Good : (Action → List Par) → Action → Type 0
 Good q o = (o .to ≡ linkSide) ⊎ ((isData o ≡ true) ⊎ (listCode (o .classtype / 256) (o .classtype % 256) (q o) ≡ 0))
 
-pub good-side : (q : Action → List Par) (k x v : ℕ) → Good q (action linkSide k x v)
+good-side : (q : Action → List Par) (k x v : ℕ) → Good q (action linkSide k x v)
 unfolding Good
 good-side q k x v = inl refl
 
-pub good-unit : (q : Action → List Par) (p x : ℕ) → Good q (action p userData x 0)
+good-unit : (q : Action → List Par) (p x : ℕ) → Good q (action p userData x 0)
 unfolding Good isData
 good-unit q p x = go (ℕ-discrete p linkSide)
   where
@@ -44,11 +45,11 @@ good-unit q p x = go (ℕ-discrete p linkSide)
 -- ---- replies; ps are the parameters of the message that they answer
 
 module _ (g : Gateway) (hold : List ℕ) (ps : List Par) (i : ℕ) where
-  pub good-error : (p x n : ℕ) → n ≤ largest → Good (replyPars g hold ps i) (action p mgmtError x n)
+  good-error : (p x n : ℕ) → n ≤ largest → Good (replyPars g hold ps i) (action p mgmtError x n)
   unfolding Good replyPars errorPars
   good-error p x n h = inr (inr (error-list x n (eqb n 2) h))
 
-  pub good-notify : g .links ≤ 128 → (p a n : ℕ) → n ≤ largest → Good (replyPars g hold ps i) (action p mgmtNotify a n)
+  good-notify : g .links ≤ 128 → (p a n : ℕ) → n ≤ largest → Good (replyPars g hold ps i) (action p mgmtNotify a n)
   unfolding Good replyPars notifyPars idsPar
   good-notify b p a n h = inr (inr (go (eqb (length (idsOf g a)) 0) refl))
     where
@@ -56,11 +57,11 @@ module _ (g : Gateway) (hold : List ℕ) (ps : List Par) (i : ℕ) where
       go true e = notify-none n h
       go false e = notify-ids n (g .links) (idsOf g a) h (ids-fours g a) b (eqb-false _ _ e)
 
-  pub good-up : (p : ℕ) → Good (replyPars g hold ps i) (action p aspUpAck 0 0)
+  good-up : (p : ℕ) → Good (replyPars g hold ps i) (action p aspUpAck 0 0)
   unfolding Good replyPars
   good-up p = inr (inr up-list)
 
-  pub good-down : (p : ℕ) → Good (replyPars g hold ps i) (action p aspDownAck 0 0)
+  good-down : (p : ℕ) → Good (replyPars g hold ps i) (action p aspDownAck 0 0)
   unfolding Good replyPars
   good-down p = inr (inr down-list)
 
@@ -69,26 +70,42 @@ module _ (g : Gateway) (hold : List ℕ) (ps : List Par) (i : ℕ) where
   unfolding Good replyPars
   good-beat h e p = inr (inr (beat-list ps e h))
 
-  pub good-active : sizeOf ps ≤ most → inTurn (rowIn table 4 1) [] ps ≡ 0 → (p : ℕ) → Good (replyPars g hold ps i) (action p aspActiveAck 0 0)
+  pub good-active : g .links ≤ 128 → sizeOf ps ≤ most → inTurn (rowIn table 4 1) [] ps ≡ 0 → (p : ℕ) → Good (replyPars g hold ps i) (action p aspActiveAck 0 0)
   unfolding Good replyPars
-  good-active h e p = inr (inr (active-list ps e h))
+  good-active b h e p = inr (inr (active-list g p ps b e h))
 
-  pub good-inactive : sizeOf ps ≤ most → inTurn (rowIn table 4 2) [] ps ≡ 0 → (p : ℕ) → Good (replyPars g hold ps i) (action p aspInactiveAck 0 0)
+  pub good-inactive : g .links ≤ 128 → sizeOf ps ≤ most → inTurn (rowIn table 4 2) [] ps ≡ 0 → (p : ℕ) → Good (replyPars g hold ps i) (action p aspInactiveAck 0 0)
   unfolding Good replyPars
-  good-inactive h e p = inr (inr (inactive-list ps e h))
+  good-inactive b h e p = inr (inr (inactive-list g p ps b e h))
 
-  pub good-data : (p x n : ℕ) → n ≤ largest → Good (replyPars g hold ps i) (action p dataAck x n)
+  good-data : (p x n : ℕ) → n ≤ largest → Good (replyPars g hold ps i) (action p dataAck x n)
   unfolding Good replyPars linkPars
   good-data p x n h = inr (inr (data-list x n h))
 
-  pub good-established : (p x v : ℕ) → Good (replyPars g hold ps i) (action p establishConfirm x v)
+  good-established : (p x v : ℕ) → Good (replyPars g hold ps i) (action p establishConfirm x v)
   unfolding Good replyPars linkPars
   good-established p x v = inr (inr (link-list x 3 (inl refl)))
 
-  pub good-released : (p x v : ℕ) → Good (replyPars g hold ps i) (action p releaseConfirm x v)
+  good-released : (p x v : ℕ) → Good (replyPars g hold ps i) (action p releaseConfirm x v)
   unfolding Good replyPars linkPars
   good-released p x v = inr (inr (link-list x 5 (inr (inl refl))))
 
-  pub good-stopped : (p x v : ℕ) → Good (replyPars g hold ps i) (action p releaseIndication x v)
+  good-stopped : (p x v : ℕ) → Good (replyPars g hold ps i) (action p releaseIndication x v)
   unfolding Good replyPars linkPars
   good-stopped p x v = inr (inr (link-list x 6 (inr (inr refl))))
+
+  -- so all of them are, that do not repeat some of what they answer
+  pub all-good : g .links ≤ 128 → Holds (Good (replyPars g hold ps i))
+  all-good b =
+      record {
+        errors = good-error;
+        notes = good-notify b;
+        units = good-unit (replyPars g hold ps i);
+        sides = λ k x v e. good-side (replyPars g hold ps i) k x v;
+        up-acked = good-up;
+        down-acked = good-down;
+        data-acked = good-data;
+        established = good-established;
+        released = good-released;
+        stopped = good-stopped;
+      }

@@ -35,7 +35,7 @@ not-among (x ∷ ts) t e h =
     let b = ltb-true x 16 (and-left (ltb x 16) (smallTypes ts) e) in
     rw (ne-eqb t x (λ z. omega arith), not-among ts t (and-right (ltb x 16) (smallTypes ts) e) h)
 
-and-none : (b : Bool) → (b && false) ≡ false
+pub and-none : (b : Bool) → (b && false) ≡ false
 and-none true = refl
 and-none false = refl
 

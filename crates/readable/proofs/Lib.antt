@@ -3,11 +3,13 @@ pub mod Small
 pub mod Part
 pub mod Numbers
 pub mod Lists
+pub mod Modes
 pub mod Header
 pub mod Acks
-pub mod Good
 pub mod Effects
+pub mod Good
 pub mod Events
+pub mod Begins
 pub mod Passed
 pub mod Held
 pub mod Readable

@@ -22,8 +22,8 @@ use Rattle.put.specs.Bytes.{bytes32}
 use Rattle.put.proofs.Round.{be-two-in}
 use Rattle.encode.proofs.Writes.{or-none}
 use Rattle.gateway.specs.declared.Gateway.{Gateway}
-use Rattle.outgoing.specs.Message.{idsOf}
-use Rattle.rules.specs.Identifiers.{ownerAt}
+use Rattle.outgoing.specs.Message.{idsOf, goodIds}
+use Rattle.rules.specs.Identifiers.{ownerAt, isNamedGood}
 
 abbrev pub largest : ℕ
 largest = 0xffff_ffff
@@ -95,24 +95,27 @@ pub record Fours (n : ℕ) (v : List ℕ) : Type 0 where
   pub multiple : length v % 4 ≡ 0
   pub most : length v ≤ n * 4
 
-pub ids-fours : (g : Gateway) (a : ℕ) → Fours (g .links) (idsOf g a)
-unfolding idsOf concatBelow
-ids-fours g a = upTo (g .links)
+-- the identifiers of those of the first n links that a test chooses
+chosen-fours : (iid : List ℕ) (f : ℕ → Bool) (n : ℕ) → Fours n (concatBelow (λ l. cond (f l) (bytes32 (numberAt iid l)) []) n)
+unfolding concatBelow
+chosen-fours iid f zero = record { multiple = refl; most = omega arith }
+chosen-fours iid f (suc n) =
+    let h = chosen-fours iid f n in
+    let o = one (f n) in
+    let j = length-append (concatBelow (λ l. cond (f l) (bytes32 (numberAt iid l)) []) n) (cond (f n) (bytes32 (numberAt iid n)) []) in
+    record { multiple = omega arith; most = omega arith }
   where
-    f : ℕ → List ℕ
-    f l = cond (eqb (ownerAt g l) a) (bytes32 (numberAt (g .iid) l)) []
+    one : (b : Bool) → (length (cond b (bytes32 (numberAt iid n)) []) % 4 ≡ 0) × (length (cond b (bytes32 (numberAt iid n)) []) ≤ 4)
+    one true = (refl, omega arith)
+    one false = (refl, omega arith)
 
-    one : (b : Bool) (l : ℕ) → (length (cond b (bytes32 (numberAt (g .iid) l)) []) % 4 ≡ 0) × (length (cond b (bytes32 (numberAt (g .iid) l)) []) ≤ 4)
-    one true l = (refl, omega arith)
-    one false l = (refl, omega arith)
+pub ids-fours : (g : Gateway) (a : ℕ) → Fours (g .links) (idsOf g a)
+unfolding idsOf
+ids-fours g a = chosen-fours (g .iid) (λ l. eqb (ownerAt g l) a) (g .links)
 
-    upTo : (n : ℕ) → Fours n (concatBelow f n)
-    upTo zero = record { multiple = refl; most = omega arith }
-    upTo (suc n) =
-        let h = upTo n in
-        let o = one (eqb (ownerAt g n) a) n in
-        let j = length-append (concatBelow f n) (f n) in
-        record { multiple = omega arith; most = omega arith }
+pub good-fours : (g : Gateway) (p : ℕ) (ps : List Par) → Fours (g .links) (goodIds g p ps)
+unfolding goodIds
+good-fours g p ps = chosen-fours (g .iid) (isNamedGood g p ps) (g .links)
 
 -- one or more of them
 pub ids-code : (n : ℕ) (v : List ℕ) → Fours n v → (length v ≡ 0 → ⊥) → idCode repeated v ≡ 0

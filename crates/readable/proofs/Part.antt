@@ -62,7 +62,7 @@ or-mono true v w h e = rw (h refl)
 or-mono false true w h e = refl
 or-mono false false w h e = e
 
-or-first : (u v : Bool) → u ≡ true → (u || v) ≡ true
+pub or-first : (u v : Bool) → u ≡ true → (u || v) ≡ true
 or-first u v e = rw e
 
 module _ (i : ℕ) (f : ℕ → Bool) (free : (t : ℕ) → f t ≡ true → Anywhere i t) where

@@ -36,7 +36,7 @@ use Rattle.outgoing.specs.Message.{unitPars, replyPars, sentPars, sentBytes}
 use Rattle.outgoing.specs.Send.{messageAt, sendCode}
 use Rattle.readable.specs.Readable.{Reads, EveryReads, SentReads}
 use Rattle.readable.proofs.Each.{Each, each-at}
-use Rattle.readable.proofs.Good.{Good}
+use Rattle.readable.proofs.Good.{Good, all-good}
 use Rattle.readable.proofs.Events.{Fine, fine-message, fine-lost, fine-change, fine-linkUp, fine-linkDown}
 use Rattle.readable.proofs.Passed.{each-passed}
 use Rattle.readable.proofs.Held.{short, accepts}
@@ -104,10 +104,10 @@ module _ (P : ℕ → ℕ → List Par → Type 0) (list : (c t : ℕ) (ps : Lis
   every : (k : EventKind) → inPlan g k ≡ true → isSent (actionsOn g k) n ≡ true → IfUnit k → P (at k .classtype / 256) (at k .classtype % 256) (sentPars g h k (unitFor g k n) (at k))
   unfolding Fine isSent actionAt
   every (message p s) i z f = by-reply (message p s) (walk s 8 .pars) i refl z f (fine-message g h _ (counts-within g sound .links) p s)
-  every (lost p) i z f = by-reply (lost p) [] i refl z f (fine-lost g h [] _ (counts-within g sound .links) p)
-  every (recovery a) i z f = by-reply (recovery a) [] i refl z f (fine-change g h [] _ (counts-within g sound .links) _ _)
-  every (linkUp l) i z f = by-reply (linkUp l) [] i refl z f (fine-linkUp g h [] _ (counts-within g sound .links) l)
-  every (linkDown l) i z f = by-reply (linkDown l) [] i refl z f (fine-linkDown g h [] _ (counts-within g sound .links) l)
+  every (lost p) i z f = by-reply (lost p) [] i refl z f (fine-lost (all-good g h [] _ (counts-within g sound .links)) g p)
+  every (recovery a) i z f = by-reply (recovery a) [] i refl z f (fine-change (all-good g h [] _ (counts-within g sound .links)) g _ _)
+  every (linkUp l) i z f = by-reply (linkUp l) [] i refl z f (fine-linkUp (all-good g h [] _ (counts-within g sound .links)) g l)
+  every (linkDown l) i z f = by-reply (linkDown l) [] i refl z f (fine-linkDown (all-good g h [] _ (counts-within g sound .links)) g l)
   every (linkMessage s) i z f =
       list _ _ _
       (each-at (actionsOn g (linkMessage s)) n (action linkSide 0 0 0) (each-passed g s (eqb-true (verdict s) 0 (and-left (eqb (verdict s) 0) _ i)))

@@ -18,6 +18,7 @@ use Rattle.action.specs.declared.Action.{Action}
 use Rattle.action.specs.Words.{action}
 use Rattle.rules.specs.Event.{message}
 use Rattle.rules.specs.Effect.{holdBytes}
+use Rattle.rules.specs.Identifiers.{firstRefused}
 use Rattle.rules.specs.Rules.{inPlan, refusal}
 use Rattle.rules.specs.Sent.{actionsOn, actionAt, isSent, isData, unitFor}
 use Rattle.rules.specs.Inner.Accepted.{accepted}
@@ -28,7 +29,9 @@ use Rattle.outgoing.specs.Message.{trafficAckPars, replyPars, sentBytes}
 use Rattle.outgoing.specs.Send.{messageAt}
 use Rattle.gateway.specs.Sound.{isSound}
 use Rattle.readable.specs.Readable.{Reads}
+use Rattle.readable.proofs.Begins.{isPart, ack-tells}
 use Rattle.readable.proofs.Readable.{every-reads}
+use Rattle.outgoing.specs.Inner.Stands.{isTrafficAck}
 
 -- its actions are an Active Ack and a Notify, so it is not refused
 record Acts : Type 0 where
@@ -43,11 +46,17 @@ acts = go (eqb (refusal g₁ (event (message 0 m))) 0) refl (samples .takes-over
     go true h e = record { accepted-is = h; actions-are = e }
     go false h e = let z : _≡_ {A = ℕ} 0 1 = cc in absurd (omega arith)
 
+-- none of its identifiers is refused
+none-refused : firstRefused g₁ 0 (walk m 8 .pars) .found ≡ false
+unfolding isPart actionAt
+none-refused =
+    ack-tells g₁ 0 m 0 (rw (acts .actions-are) (omega arith)) (ap (λ (l : List Action). isTrafficAck (actionAt l 0 .classtype)) (acts .actions-are)) ∙ ap isPart (acts .actions-are)
+
 -- the Ack repeats mode and range, whatever is held
 ack : (h : List ℕ) → messageAt g₁ h (message 0 m) 0
     ≡ 1 ∷ 0 ∷ 4 ∷ 3 ∷ 0 ∷ 0 ∷ 0 ∷ 0x1c ∷ 0 ∷ 0xb ∷ 0 ∷ 8 ∷ 0 ∷ 0 ∷ 0 ∷ 1 ∷ 0 ∷ 8 ∷ 0 ∷ 0xc ∷ 0 ∷ 0 ∷ 0 ∷ 0x64 ∷ 0 ∷ 0 ∷ 0 ∷ 0x73 ∷ []
 unfolding messageAt actionAt sentBytes replyPars trafficAckPars only encode sizeOf parsBytes parBytes walk walkF stepAt be m active
-ack h = ap (λ (os : List Action). sentBytes g₁ h (message 0 m) (unitFor g₁ (message 0 m) 0) (actionAt os 0)) (acts .actions-are)
+ack h = ap (λ (os : List Action). sentBytes g₁ h (message 0 m) (unitFor g₁ (message 0 m) 0) (actionAt os 0)) (acts .actions-are) ∙ rw none-refused
 
 -- and reads: the law's premises are met
 ack-reads : (h : List ℕ) → length h ≡ holdBytes → Reads g₁ h (message 0 m) (unitFor g₁ (message 0 m) 0) (action 0 1027 0 0) (messageAt g₁ h (message 0 m) 0)

@@ -10,11 +10,12 @@ use Rattle.wire.specs.Walk.{Par}
 use Rattle.message.specs.declared.Reading.{Reading}
 use Rattle.ranges.specs.declared.Refused.{Refused}
 use Rattle.gateway.specs.declared.Gateway.{Gateway}
+use Rattle.action.specs.declared.Action.{Action}
 use Rattle.action.specs.Types.{aspUpAck, aspDownAck, aspActiveAck, aspInactiveAck}
 use Rattle.server.specs.declared.Change.the-variants.{AspUp, AspDown, Deactivate, Activate, Recover}
 use Rattle.server.specs.Record.{some}
 use Rattle.servers.specs.Changed.{columnOf}
-use Rattle.rules.specs.Identifiers.{firstRefused, ownersNamed}
+use Rattle.rules.specs.Identifiers.{firstRefused, ownersGood}
 use Rattle.rules.specs.Effect.{Effect, send, changeIn, oneAction, error, error2}
 
 -- the ASes of p, and those in which it is active
@@ -41,17 +42,23 @@ lostEffect g p = changeIn [] (AspDown p) (asesOf g p)
 unfoldable pub otherMode : Gateway → ℕ → List Bool → Bool
 otherMode g mode named = not (eqb mode 0) && anyBelow (λ a. flagAt named a && not (eqb (numberAt (g .mode) a) mode)) 16
 
--- Rules 7.9 and 7.10: an Ack, and p is active, or no longer active, in the ASes named
-unfoldable pub activeEffect : Gateway → ℕ → ℕ → List Bool → Effect
-activeEffect g p mode named = cond (otherMode g mode named) (send (error p 5)) (changeIn (oneAction p aspActiveAck 0 0) (Activate p) named)
+-- Rules 7.9 and 7.10: an Ack, then what is told beside it, and p is active, or no longer active, in the ASes named
+unfoldable pub activeEffect : Gateway → ℕ → ℕ → List Action → List Bool → Effect
+activeEffect g p mode told named =
+    cond (otherMode g mode named) (send (error p 5)) (changeIn (oneAction p aspActiveAck 0 0 ++ told) (Activate p) named)
 
-unfoldable pub inactiveEffect : ℕ → List Bool → Effect
-inactiveEffect p named = changeIn (oneAction p aspInactiveAck 0 0) (Deactivate p) named
+unfoldable pub inactiveEffect : ℕ → List Action → List Bool → Effect
+inactiveEffect p told named = changeIn (oneAction p aspInactiveAck 0 0 ++ told) (Deactivate p) named
+
+-- Rule 7.27, of a list of which an identifier is refused: Error 2 says the first such one. It stands alone where p's lists are taken whole, and where none is good; else
+-- it is told beside what is done in the owners of the good ones.
+unfoldable pub partEffect : Gateway → ℕ → ℕ → List Bool → (List Action → List Bool → Effect) → Effect
+partEffect g p first good act = cond (isSet (g .wholelists) p || not (some good)) (send (error2 p first)) (act (error2 p first) good)
 
 -- Rule 7.8: the ASes that the message names, by identifiers or, without any, all of p's; what is done with them is given.
-unfoldable pub trafficEffect : Gateway → ℕ → Reading → List Par → (List Bool → Effect) → Effect
+unfoldable pub trafficEffect : Gateway → ℕ → Reading → List Par → (List Action → List Bool → Effect) → Effect
 trafficEffect g p r ps act =
     cond (not (isSet (g .up) p)) (send (error p 6))
     (cond (eqb (r .ids) 1)
-    (cond (firstRefused g p ps .found) (send (error2 p (firstRefused g p ps .id))) (act (ownersNamed g ps)))
-    (cond (some (asesOf g p)) (act (asesOf g p)) (send (error p 6))))
+    (cond (firstRefused g p ps .found) (partEffect g p (firstRefused g p ps .id) (ownersGood g p ps) act) (act [] (ownersGood g p ps)))
+    (cond (some (asesOf g p)) (act [] (asesOf g p)) (send (error p 6))))

@@ -12,36 +12,6 @@ use Rattle.lookup.specs.Links.{indexOf, known}
 use Rattle.ranges.specs.Named.{isRefused, isOwnedBy, nothing, refusedIn, someOf}
 use Rattle.ranges.specs.declared.Refused.{Refused}
 
--- the tags of identifiers and of ranges (Rule 2.11)
-abbrev pub isIds : ℕ → Bool
-isIds t = eqb t 0x1 || eqb t 0x8
-
--- the first one that is unknown, or of an AS without p: parameters as received, in each its entries, in each range upwards
-unfoldable pub firstRefused : Gateway → ℕ → List Par → Refused
-firstRefused g p [] = nothing
-firstRefused g p (x ∷ ps) =
-    let r : Refused = refusedIn (isRefused (g .iid) (g .owner) (g .member) (g .links) p) (eqb (x .tag) 0x8) (x .body) in
-    cond (isIds (x .tag)) (cond (r .found) r (firstRefused g p ps)) (firstRefused g p ps)
-
--- whether AS a owns a known identifier that the message names
-unfoldable pub ownsNamed : Gateway → List Par → ℕ → Bool
-ownsNamed g [] a = false
-ownsNamed g (x ∷ ps) a =
-    (isIds (x .tag) && someOf (isOwnedBy (g .iid) (g .owner) (g .links) a) (eqb (x .tag) 0x8) (x .body)) || ownsNamed g ps a
-
--- the owners of the known ones
-unfoldable pub ownersNamed : Gateway → List Par → List Bool
-ownersNamed g ps = tabulate 16 (ownsNamed g ps)
-
--- ---- one identifier, as in class 6 (Rule 5.16)
-
-unfoldable pub isKnown : Gateway → ℕ → Bool
-isKnown g x = known (g .iid) (g .links) x
-
--- the index of its link
-unfoldable pub linkOf : Gateway → ℕ → ℕ
-linkOf g x = indexOf (g .iid) (g .links) x
-
 -- the AS that owns the link at an index
 abbrev pub ownerAt : Gateway → ℕ → ℕ
 ownerAt g l = numberAt (g .owner) l
@@ -52,3 +22,44 @@ isMember g a p = isSet (g .member) (pair a p)
 
 abbrev pub isActive : Gateway → ℕ → ℕ → Bool
 isActive g a p = isSet (g .active) (pair a p)
+
+-- ---- those of Active and Inactive
+
+-- the tags of identifiers and of ranges (Rule 2.11)
+abbrev pub isIds : ℕ → Bool
+isIds t = eqb t 0x1 || eqb t 0x8
+
+-- An identifier is refused to ASP p where it is unknown, or p is no member of the AS that owns it; any other is good.
+
+-- the first that is refused: parameters as received, in each its entries, in each range upwards
+unfoldable pub firstRefused : Gateway → ℕ → List Par → Refused
+firstRefused g p [] = nothing
+firstRefused g p (x ∷ ps) =
+    let r : Refused = refusedIn (isRefused (g .iid) (g .owner) (g .member) (g .links) p) (eqb (x .tag) 0x8) (x .body) in
+    cond (isIds (x .tag)) (cond (r .found) r (firstRefused g p ps)) (firstRefused g p ps)
+
+-- whether the message names an identifier of which f says yes
+unfoldable pub namesSome : (ℕ → Bool) → List Par → Bool
+namesSome f [] = false
+namesSome f (x ∷ ps) = (isIds (x .tag) && someOf f (eqb (x .tag) 0x8) (x .body)) || namesSome f ps
+
+-- whether AS a owns a good one: it owns a known one, and p is its member
+unfoldable pub ownsGood : Gateway → ℕ → List Par → ℕ → Bool
+ownsGood g p ps a = namesSome (isOwnedBy (g .iid) (g .owner) (g .links) a) ps && isMember g a p
+
+-- the owners of the good ones
+unfoldable pub ownersGood : Gateway → ℕ → List Par → List Bool
+ownersGood g p ps = tabulate 16 (ownsGood g p ps)
+
+-- whether the identifier of the link at place l is a good one that the message names
+unfoldable pub isNamedGood : Gateway → ℕ → List Par → ℕ → Bool
+isNamedGood g p ps l = namesSome (eqb (numberAt (g .iid) l)) ps && isMember g (ownerAt g l) p
+
+-- ---- one identifier, as in class 6 (Rule 5.16)
+
+unfoldable pub isKnown : Gateway → ℕ → Bool
+isKnown g x = known (g .iid) (g .links) x
+
+-- the index of its link
+unfoldable pub linkOf : Gateway → ℕ → ℕ
+linkOf g x = indexOf (g .iid) (g .links) x

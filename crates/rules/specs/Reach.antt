@@ -11,18 +11,18 @@ use Rattle.message.specs.declared.Reading.{Reading}
 use Rattle.gateway.specs.declared.Gateway.{Gateway}
 use Rattle.action.specs.Types.{aspUp, aspDown, aspActive, aspInactive}
 use Rattle.rules.specs.Event.{EventKind, message, lost, recovery, linkUp, linkDown, linkMessage, Event}
-use Rattle.rules.specs.Identifiers.{ownsNamed, isKnown, linkOf, ownerAt, isMember}
+use Rattle.rules.specs.Identifiers.{ownsGood, isKnown, linkOf, ownerAt, isMember}
 use Rattle.rules.specs.Rules.{isError, classTypeOf, refusal}
 
 -- the owner of a known identifier
 unfoldable pub ownsId : Gateway → ℕ → ℕ → Bool
 ownsId g x a = isKnown g x && eqb (ownerAt g (linkOf g x)) a
 
--- Rule 9.2, of a message that reads: all ASes of p, the owners of the identifiers named, the owner of the one identifier, or none
+-- Rule 9.2, of a message that reads: all ASes of p, the owners of the good identifiers named, the owner of the one identifier, or none
 unfoldable pub readReach : Gateway → ℕ → List ℕ → Reading → ℕ → Bool
 readReach g p s r a =
     cond (eqb (classTypeOf r) aspUp || eqb (classTypeOf r) aspDown) (isMember g a p)
-    (cond (eqb (classTypeOf r) aspActive || eqb (classTypeOf r) aspInactive) (cond (eqb (r .ids) 1) (ownsNamed g (walk s 8 .pars) a) (isMember g a p))
+    (cond (eqb (classTypeOf r) aspActive || eqb (classTypeOf r) aspInactive) (cond (eqb (r .ids) 1) (ownsGood g p (walk s 8 .pars) a) (isMember g a p))
     (cond (eqb (r .class) 6) (ownsId g (r .id) a) false))
 
 -- a message that does not read, or an Error, reaches none

@@ -3,6 +3,7 @@
 use mathlib.Core.Path.{_≡_}
 use mathlib.Core.List.{List, [], _∷_}
 use Prim.Native.Nat.{ℕ}
+use lib.ListN.{set}
 use Rattle.config.specs.Plan.{loadOf}
 use Rattle.gateway.specs.declared.Gateway.{Gateway}
 use Rattle.action.specs.Words.{action, linkSide}
@@ -68,11 +69,22 @@ unfoldable pub confirm : ℕ → List ℕ
 confirm n =
     1 ∷ 0 ∷ 6 ∷ 11 ∷ 0 ∷ 0 ∷ 0 ∷ 40 ∷ 0 ∷ 1 ∷ 0 ∷ 8 ∷ 0 ∷ 0 ∷ 0 ∷ 100 ∷ 3 ∷ 6 ∷ 0 ∷ 8 ∷ 0 ∷ 0 ∷ 0 ∷ 1 ∷ 3 ∷ 8 ∷ 0 ∷ 8 ∷ 0 ∷ 0 ∷ 0 ∷ 0 ∷ 3 ∷ 7 ∷ 0 ∷ 8 ∷ 0 ∷ 0 ∷ 0 ∷ n ∷ []
 
+-- M up to 116, which no link has
+unfoldable pub m116 : List ℕ
+m116 = active 1 0x64 0x74
+
+-- after Up of ASP 0, on the fresh state of a plan that says of ASP 0 that its lists are taken whole
+unfoldable pub g₇ : Gateway
+g₇ = next (loadOf (set planS 31 1) .gateway) (event (message 0 (bare 3 1)))
+
 -- all starred samples, proved from the rules
 pub record Samples : Type 0 where
   pub reader : ReaderSamples
   -- M of ASP 0: an Active Ack, and AS 0 is active
   pub takes-over : actions g₁ (event (message 0 m)) ≡ action 0 1027 0 0 ∷ action 0 1 0 65539 ∷ []
+  -- M up to 116: an Ack, Error 2 for 116, and AS 0 is active all the same; where ASP 0's lists are taken whole, the Error alone
+  pub in-part : actions g₁ (event (message 0 m116)) ≡ action 0 1027 0 0 ∷ action 0 0 116 2 ∷ action 0 1 0 65539 ∷ []
+  pub whole : actions g₇ (event (message 0 m116)) ≡ action 0 0 116 2 ∷ []
   -- Active of ASP 1: an Ack, and ASP 0 is overtaken
   pub overrides : actions g₃ (event (message 1 (bare 4 1))) ≡ action 1 1027 0 0 ∷ action 0 1 0 131074 ∷ []
   -- Down of ASP 1: an Ack, and AS 0 is pending

@@ -5,3 +5,4 @@ pub mod Batch
 pub mod Refusals
 pub mod Ran
 pub mod Many
+pub mod Parts

@@ -1,5 +1,8 @@
 // Actions as bytes (Rules 8.15, 8.16 and 8.18): the event is run, and the message of the action at a place written, or those of as many actions as go in.
+use action::ASP_ACTIVE_ACK;
+use action::ASP_INACTIVE_ACK;
 use action::Action;
+use action::MGMT_ERROR;
 use action::USER_DATA;
 use encode::Written;
 use events::m2ua_run;
@@ -7,15 +10,21 @@ use gateway::Gateway;
 use outgoing::Batch;
 use sent::Sent;
 ghost use mathlib.Core.Path.{_≡_};
+ghost use mathlib.Core.Bool.{true, cond};
 ghost use Prim.Native.Nat.{_+_, _-_, _<_, _≤_};
 ghost use lib.Dec.{leb};
 ghost use lib.ListN.{length, take, drop};
+ghost use Rattle.wire.specs.Walk.{walk};
 ghost use Rattle.put.specs.Bytes.{overlay};
+ghost use Rattle.ranges.specs.Inner.Laws.{Table};
+ghost use Rattle.servers.specs.Changed.{columnOf};
+ghost use Rattle.goods.specs.Inner.Made.{ModeFits, GoodMessage};
 ghost use Rattle.ask.specs.Happened.{happened};
 ghost use Rattle.outgoing.specs.Send.{Sends, SendsMany};
 ghost use Rattle.outgoing.specs.Inner.Kinds.{lentBy};
 ghost use Rattle.sending.specs.Inner.Part.{partOf, partMade, PutIf, Fits, lentOf, partIn, Ready};
 ghost use Rattle.sending.specs.Inner.Alike.{areAlike, repeatsIn};
+ghost use Rattle.sending.specs.Inner.Parts.{isPartIn};
 ghost use Rattle.sending.specs.Inner.Batch.{Ended};
 ghost use Rattle.sending.specs.Inner.Many.{batchOf};
 
@@ -37,6 +46,45 @@ fn received(kind: u32, msg: &[u8]) -> &[u8]
         return msg;
     }
     &msg[..0]
+}
+
+// Whether identifiers of a message were refused beside others that were not: an Error stands behind the Ack of an Active or Inactive.
+fn in_part(words: &[u32; 1544], count: usize) -> bool
+    ensures { λ r. ⌜ r ≡ isPartIn (now (words .entry)) count ⌝ }
+{
+    (1 < count)
+        & ((words[1] == ASP_ACTIVE_ACK) | (words[1] == ASP_INACTIVE_ACK))
+        & (words[5] == MGMT_ERROR)
+}
+
+// Then the Ack repeats the good ones alone: a message that names these is written into a block; its length, and else 0.
+fn good_if<'a>(
+    part: bool,
+    block: &mut [u8; 544],
+    msg: &[u8],
+    links: usize,
+    p: usize,
+    member: &'a [u8; 256],
+    iid: &'a [u32; 128],
+    owner: &'a [u8; 128],
+) -> usize
+    requires { ⌜ (length (now block) ≡ 544) × (part ≡ true → (p < 16) × Table (now iid) (now owner) links × ModeFits (walk (now msg) 8 .pars)) ⌝ }
+    ensures { λ r. ⌜ (r ≤ length (now (block .exit))) × (part ≡ true → GoodMessage (now (iid .entry)) (now (owner .entry)) links (columnOf (now (member .entry)) p) (walk (now (msg .entry)) 8 .pars) r (now (block .exit))) ⌝ }
+{
+    if part {
+        return goods::put_good(block, msg, links, asps::ases_of(member, p), iid, owner);
+    }
+    0
+}
+
+// The message whose parameters go out again: that one, or the received one.
+fn repeated<'a>(part: bool, kind: u32, msg: &'a [u8], good: &'a [u8]) -> &'a [u8]
+    ensures { λ r. ⌜ now r ≡ cond part (now (good .entry)) (lentBy kind (now (msg .entry))) ⌝ }
+{
+    if part {
+        return good;
+    }
+    received(kind, msg)
 }
 
 // How many bytes are written for an action: none where it goes to the link side.
@@ -159,7 +207,19 @@ pub extern "C" fn m2ua_order<'a>(
         links: gateway::wide(g.links),
         at: 0,
     };
-    let lent = received(kind, msg);
+    let part = (kind == ask::MESSAGE) & in_part(&words, done.count);
+    let mut block = [0u8; 544];
+    let good = good_if(
+        part,
+        &mut block,
+        msg,
+        turn.links,
+        i,
+        &g.member,
+        &g.iid,
+        &g.owner,
+    );
+    let lent = repeated(part, kind, msg, &block[..good]);
     let size = put_new(
         turn,
         lent,
@@ -391,7 +451,19 @@ pub extern "C" fn m2ua_orders<'a>(
     };
     let after = done.gateway.held.count;
     let list = sent::gone(&g.held.count, &after);
-    let lent = received(kind, msg);
+    let part = (kind == ask::MESSAGE) & in_part(&words, done.count);
+    let mut block = [0u8; 544];
+    let good = good_if(
+        part,
+        &mut block,
+        msg,
+        run.links,
+        i,
+        &g.member,
+        &g.iid,
+        &g.owner,
+    );
+    let lent = repeated(part, kind, msg, &block[..good]);
     let reached = put_many(
         run,
         &words,

@@ -102,6 +102,7 @@ withColumns g up active waiting state held =
       owner = g .owner;
       state = state;
       highspeed = g .highspeed;
+      wholelists = g .wholelists;
       held = held;
     }
 

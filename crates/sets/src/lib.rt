@@ -1,10 +1,10 @@
 // A set of ASes, as the bits of a number: AS a is bit a. (A table of flags would be kept in sixteen registers, element by element.)
 ghost use mathlib.Core.Path.{_≡_};
-ghost use mathlib.Core.Bool.{true, cond, not, _||_};
+ghost use mathlib.Core.Bool.{true, cond, not, _||_, _&&_};
 ghost use lib.ListN.{set};
 ghost use Prim.Native.Nat.{_<_};
-ghost use Rattle.laws.specs.Below.{allBelow};
-ghost use Rattle.laws.specs.Columns.{flagAt};
+ghost use Rattle.laws.specs.Below.{allBelow, anyBelow};
+ghost use Rattle.laws.specs.Columns.{flagAt, tabulate};
 ghost use Rattle.sets.specs.Inner.Bits.{flagsOf};
 
 // Whether AS a is in the set.
@@ -39,6 +39,20 @@ pub fn is_within(bits: u32, other: u32) -> bool
     ensures { λ r. ⌜ r ≡ allBelow (λ a. not (flagAt (flagsOf bits) a) || flagAt (flagsOf other) a) 16 ⌝ }
 {
     (bits | other) % 65536 == other % 65536
+}
+
+// The ASes that are in both sets.
+pub fn common(bits: u32, other: u32) -> u32
+    ensures { λ r. ⌜ flagsOf r ≡ tabulate 16 (λ a. flagAt (flagsOf bits) a && flagAt (flagsOf other) a) ⌝ }
+{
+    bits & other
+}
+
+// Whether no AS is in the set.
+pub fn is_none(bits: u32) -> bool
+    ensures { λ r. ⌜ r ≡ not (anyBelow (flagAt (flagsOf bits)) 16) ⌝ }
+{
+    bits % 65536 == 0
 }
 
 // The set as flags.

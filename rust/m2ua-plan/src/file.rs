@@ -120,8 +120,15 @@ fn row_faults(file: &[u8]) -> Vec<Fault> {
                 ),
             );
         }
-        if spare != 0 {
-            fault("ASP", row, at, format!("spare is {spare}, not 0"));
+        if spare > 1 {
+            fault(
+                "ASP",
+                row,
+                at,
+                format!(
+                    "spare {spare} is neither 0, part of a list may succeed, nor 1, whole lists"
+                ),
+            );
         }
     }
     for &(row, at) in &ases {

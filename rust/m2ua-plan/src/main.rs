@@ -9,7 +9,7 @@ usage: m2ua-plan compile TEXT [-o FILE]   a plan file from text
        m2ua-plan show FILE                a plan, as text or compiled, as canonical text
 FILE - is standard input. Exit status: 0 right, 1 the plan is refused, 2 wrong usage, or a file cannot be read or written.
 
-asp NAME id NUMBER                        an ASP and its identifier
+asp NAME id NUMBER [whole-lists]          an ASP and its identifier; its lists of links are taken all or none
 as NAME mode MODE [members ASP ..]        an AS: override, load-share or broadcast
 link ID[-ID] as NAME [high-speed]         links by interface identifier, and the AS that owns them
 # ..                                      a comment";
@@ -120,8 +120,12 @@ fn check(path: &str) -> Result<(), Failure> {
         0 => String::new(),
         n => format!(", {n} of them high-speed"),
     };
+    let whole_lists = match plan.asps.iter().filter(|asp| asp.whole_lists).count() {
+        0 => String::new(),
+        n => format!(" ({n} with whole-lists)"),
+    };
     put(format!(
-        "{path}: {} ASPs, {} ASes, {} links{high_speed}\n",
+        "{path}: {} ASPs{whole_lists}, {} ASes, {} links{high_speed}\n",
         plan.asps.len(),
         plan.ases.len(),
         plan.links.len()

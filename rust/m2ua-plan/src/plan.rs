@@ -2,11 +2,13 @@
 use m2ua::{Gateway, TrafficMode};
 use std::fmt;
 
-/// An ASP row. (Document 02 gives it options: whether a list may succeed in part, an owner, text identifiers.)
+/// An ASP row. (Document 02 gives it more: an owner, text identifiers.)
 #[derive(Clone, Debug, PartialEq, Eq)]
 pub struct Asp {
     pub name: String,
     pub id: u32,
+    /// Identifiers that it lists are taken all or none; else part of a list may succeed.
+    pub whole_lists: bool,
 }
 
 /// An AS row. (Document 02: a sharing rule, an owner.)
@@ -51,6 +53,7 @@ impl Plan {
                 .map(|p| Asp {
                     name: format!("asp{p}"),
                     id: g.asp_id(p).unwrap_or_default(),
+                    whole_lists: g.takes_whole_lists(p),
                 })
                 .collect(),
             ases: (0..g.ases())
@@ -72,14 +75,19 @@ impl Plan {
 
     /// The same rows, whatever the names.
     pub fn is_like(&self, other: &Plan) -> bool {
-        let ids = |p: &Plan| p.asps.iter().map(|a| a.id).collect::<Vec<_>>();
+        let asps = |p: &Plan| {
+            p.asps
+                .iter()
+                .map(|a| (a.id, a.whole_lists))
+                .collect::<Vec<_>>()
+        };
         let ases = |p: &Plan| {
             p.ases
                 .iter()
                 .map(|a| (a.mode, a.members.clone()))
                 .collect::<Vec<_>>()
         };
-        ids(self) == ids(other) && ases(self) == ases(other) && self.links == other.links
+        asps(self) == asps(other) && ases(self) == ases(other) && self.links == other.links
     }
 
     /// The plan file (Rules 4.1 to 4.3): contents, ASP rows, AS rows, link rows.
@@ -88,7 +96,7 @@ impl Plan {
             self.asps
                 .iter()
                 .enumerate()
-                .flat_map(|(p, asp)| [asp.id, self.mask(p) << 16])
+                .flat_map(|(p, asp)| [asp.id, self.mask(p) << 16 | u32::from(asp.whole_lists)])
                 .collect::<Vec<u32>>(),
             self.ases.iter().map(|r#as| r#as.mode.number()).collect(),
             self.links
@@ -118,7 +126,8 @@ impl fmt::Display for Plan {
     /// Canonical text: rows in their order, links of one AS and one kind that follow one another as a range.
     fn fmt(&self, f: &mut fmt::Formatter<'_>) -> fmt::Result {
         for asp in &self.asps {
-            writeln!(f, "asp {} id {}", asp.name, asp.id)?;
+            let lists = if asp.whole_lists { " whole-lists" } else { "" };
+            writeln!(f, "asp {} id {}{lists}", asp.name, asp.id)?;
         }
         for r#as in &self.ases {
             write!(f, "as {} mode {}", r#as.name, r#as.mode)?;

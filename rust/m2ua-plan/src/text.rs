@@ -3,7 +3,7 @@
 //! ```text
 //! # what follows a '#' is a comment
 //! asp left  id 7
-//! asp right id 8
+//! asp right id 8 whole-lists
 //! as east mode override members left right
 //! link 100-115 as east
 //! link 200 as east high-speed
@@ -61,7 +61,7 @@ const WORDS: [&str; 16] = [
     "name",
     "onset",
     "abate",
-    "partial",
+    "whole-lists",
     "text",
     "plan",
 ];
@@ -95,7 +95,10 @@ impl<'a> Statement<'a> {
     fn single(&self, name: &str, what: &str) -> Result<&'a str, Problem> {
         match self.option(name) {
             Some([word]) => Ok(word),
-            Some(_) => Err(self.problem(format!("'{name}' takes one word: {what}"))),
+            Some([_, more, ..]) => Err(self.problem(format!(
+                "'{name}' takes one word: {what}; and '{more}' follows it"
+            ))),
+            Some([]) => Err(self.problem(format!("'{name}' takes one word: {what}"))),
             None => Err(self.problem(format!("'{name}' is missing: {what}"))),
         }
     }
@@ -115,7 +118,7 @@ impl<'a> Statement<'a> {
 /// Statements and their options: what follows the subject.
 fn options_of(word: &str) -> Option<&'static [&'static str]> {
     match word {
-        "asp" => Some(&["id"]),
+        "asp" => Some(&["id", "whole-lists"]),
         "as" => Some(&["mode", "members"]),
         "link" => Some(&["as", "high-speed"]),
         _ => None,
@@ -271,9 +274,15 @@ impl<T> Named<T> {
 
 /// The rows as they were said: members and owners still by name.
 struct Said {
-    asps: Named<u32>,
+    asps: Named<SaidAsp>,
     ases: Named<(TrafficMode, Vec<String>)>,
     links: Vec<SaidLink>,
+}
+
+/// An ASP's identifier, and whether its lists are taken whole.
+struct SaidAsp {
+    id: u32,
+    whole_lists: bool,
 }
 
 /// A line of links, both ends, with the name of their owner.
@@ -304,7 +313,8 @@ fn add(said: &mut Said, s: &Statement<'_>) -> Result<(), Problem> {
             let word = s.single("id", "the ASP identifier, a number")?;
             let id = number(word)
                 .ok_or_else(|| s.problem(format!("id '{word}' is no number up to 4294967295")))?;
-            said.asps.add(s, id)
+            let whole_lists = s.given("whole-lists")?;
+            said.asps.add(s, SaidAsp { id, whole_lists })
         }
         "as" => {
             let members = s
@@ -331,10 +341,10 @@ fn add(said: &mut Said, s: &Statement<'_>) -> Result<(), Problem> {
 
 fn asps_of(said: &Said, problems: &mut Vec<Problem>) -> Vec<Asp> {
     said.asps.check_count("asp", sys::MAX_ASPS, problems);
-    for (i, (name, line, id)) in said.asps.rows.iter().enumerate() {
+    for (i, (name, line, SaidAsp { id, .. })) in said.asps.rows.iter().enumerate() {
         if let Some((other, at, _)) = said.asps.rows[..i]
             .iter()
-            .find(|(_, _, before)| before == id)
+            .find(|(_, _, before)| before.id == *id)
         {
             problems.push(Problem::new(
                 *line,
@@ -346,9 +356,10 @@ fn asps_of(said: &Said, problems: &mut Vec<Problem>) -> Vec<Asp> {
     said.asps
         .rows
         .iter()
-        .map(|(name, _, id)| Asp {
+        .map(|(name, _, asp)| Asp {
             name: name.clone(),
-            id: *id,
+            id: asp.id,
+            whole_lists: asp.whole_lists,
         })
         .collect()
 }

@@ -103,6 +103,55 @@ fn high_speed_links_are_shown_and_counted() {
 }
 
 #[test]
+fn whole_lists_are_shown_and_counted() {
+    let text = b"asp a id 7\nasp b whole-lists id 8\nas x mode broadcast members a b\n";
+    let compiled = run(&["compile", "-"], text);
+    assert_eq!(compiled.status.code(), Some(0));
+    assert_eq!(
+        said(&run(&["show", "-"], &compiled.stdout)),
+        (
+            0,
+            "asp asp0 id 7\nasp asp1 id 8 whole-lists\nas as0 mode broadcast members asp0 asp1\n"
+                .into(),
+            "".into()
+        )
+    );
+    for file in [&text[..], &compiled.stdout] {
+        assert_eq!(
+            said(&run(&["check", "-"], file)),
+            (
+                0,
+                "-: 2 ASPs (1 with whole-lists), 1 ASes, 0 links\n".into(),
+                "".into()
+            )
+        );
+    }
+    // a spare that there is not
+    let mut file = compiled.stdout;
+    file[31] = 2;
+    assert_eq!(
+        said(&run(&["check", "-"], &file)),
+        (
+            1,
+            "".into(),
+            "-: ASP row 0 (byte 24): spare 2 is neither 0, part of a list may succeed, nor 1, whole lists (202)\n"
+                .into()
+        )
+    );
+    assert_eq!(
+        said(&run(
+            &["compile", "-"],
+            b"asp a id 7 whole\nas x mode override\n"
+        )),
+        (
+            1,
+            "".into(),
+            "-: line 1: asp a: 'id' takes one word: the ASP identifier, a number; and 'whole' follows it\n".into()
+        )
+    );
+}
+
+#[test]
 fn refused_plans_are_status_1() {
     assert_eq!(
         said(&run(&["compile", "-"], b"asp a id 7\n")),

@@ -151,14 +151,14 @@ fn a_wrong_row_is_202() {
         only_fault(&with(28, 0x0009_0000)),
         "ASP row 0 (byte 24): mask 0x0009 has a bit for AS 3, and the plan has 3 (202)"
     );
-    assert_eq!(
-        only_fault(&with(28, 0x0001_0001)),
-        "ASP row 0 (byte 24): spare is 1, not 0 (202)"
-    );
-    assert_eq!(
-        only_fault(&with(28, 0x0001_0100)),
-        "ASP row 0 (byte 24): spare is 256, not 0 (202)"
-    );
+    for spare in [2, 3, 255, 256, 257, 0xffff] {
+        assert_eq!(
+            only_fault(&with(28, 0x0001_0000 | spare)),
+            format!("ASP row 0 (byte 24): spare {spare} is neither 0, part of a list may succeed, nor 1, whole lists (202)")
+        );
+    }
+    assert_eq!(refusal(&with(28, 0x0001_0001)), 0);
+    assert_eq!(refusal(&with(36, 0x0001_0001)), 0);
     assert_eq!(
         only_fault(&with(48, 0)),
         "AS row 0 (byte 48): traffic mode 0 is not 1, 2 or 3 (202)"
@@ -236,6 +236,48 @@ fn kinds_of_links_both_ways() {
 }
 
 #[test]
+fn whole_lists_both_ways() {
+    let tail = "as as0 mode override members asp0 asp1\n";
+    let of = |asps: &str| compile(&format!("{asps}{tail}")).unwrap();
+    // the second words of both ASPs' rows, behind 24 bytes of contents
+    let words = |asps: &str| (of(asps)[28..32].to_vec(), of(asps)[36..40].to_vec());
+    let (part, whole) = (vec![0, 1, 0, 0], vec![0, 1, 0, 1]);
+    for (asps, expected) in [
+        ("asp asp0 id 7\nasp asp1 id 8\n", (&part, &part)),
+        (
+            "asp asp0 id 7 whole-lists\nasp asp1 id 8\n",
+            (&whole, &part),
+        ),
+        (
+            "asp asp0 id 7\nasp asp1 id 8 whole-lists\n",
+            (&part, &whole),
+        ),
+        (
+            "asp asp0 id 7 whole-lists\nasp asp1 id 8 whole-lists\n",
+            (&whole, &whole),
+        ),
+    ] {
+        let found = words(asps);
+        assert_eq!((&found.0, &found.1), expected, "{asps}");
+        assert_eq!(show(&of(asps)).unwrap(), format!("{asps}{tail}"));
+        assert_eq!(
+            parse(&format!("{asps}{tail}")).unwrap().to_string(),
+            format!("{asps}{tail}")
+        );
+    }
+    // in either order
+    assert_eq!(
+        of("asp asp0 whole-lists id 7 # as before\nasp asp1 id 8\n"),
+        of("asp asp0 id 7 whole-lists\nasp asp1 id 8\n")
+    );
+    // with it and without are two plans
+    let other = TEXT.replace("id 8", "id 8 whole-lists");
+    assert!(!parse(TEXT).unwrap().is_like(&parse(&other).unwrap()));
+    assert_ne!(compile(TEXT).unwrap(), compile(&other).unwrap());
+    assert_eq!(show(&compile(&other).unwrap()).unwrap(), other);
+}
+
+#[test]
 fn the_plans_of_the_examples() {
     let sample = compile(include_str!("../../../examples/plans/sample.txt")).unwrap();
     let high_speed = compile(include_str!("../../../examples/plans/high-speed.txt")).unwrap();
@@ -253,6 +295,7 @@ fn the_plans_of_the_examples() {
         show(&sample)
             .unwrap()
             .replace("link 200 as as1\n", "link 200 as as1 high-speed\n")
+            .replace("asp1 id 8\n", "asp1 id 8 whole-lists\n")
     );
 }
 
@@ -294,7 +337,7 @@ fn a_refused_text_names_line_row_and_reason() {
     );
     assert_eq!(
         with("asp b id 1 2"),
-        ["line 3: asp b: 'id' takes one word: the ASP identifier, a number"]
+        ["line 3: asp b: 'id' takes one word: the ASP identifier, a number; and '2' follows it"]
     );
     assert_eq!(
         with("asp b id 4294967296"),
@@ -323,11 +366,51 @@ fn a_refused_text_names_line_row_and_reason() {
     );
     assert_eq!(
         with("asp b id 1 owner B"),
-        ["line 3: asp b: 'owner' is no option of asp here: id"]
+        ["line 3: asp b: 'owner' is no option of asp here: id, whole-lists"]
     );
     assert_eq!(
         with("asp b 1"),
-        ["line 3: asp b: '1' where an option is expected: id"]
+        ["line 3: asp b: '1' where an option is expected: id, whole-lists"]
+    );
+    assert_eq!(
+        with("asp b whole-list id 1"),
+        ["line 3: asp b: 'whole-list' where an option is expected: id, whole-lists"]
+    );
+    assert_eq!(
+        with("asp b id 1 whole-list"),
+        ["line 3: asp b: 'id' takes one word: the ASP identifier, a number; and 'whole-list' follows it"]
+    );
+    assert_eq!(
+        with("asp b id 1 wholelists"),
+        ["line 3: asp b: 'id' takes one word: the ASP identifier, a number; and 'wholelists' follows it"]
+    );
+    assert_eq!(
+        with("asp b id 1 whole-lists yes"),
+        ["line 3: asp b: 'whole-lists' takes no word, and 'yes' follows"]
+    );
+    assert_eq!(
+        with("asp b whole-lists 1 id 1"),
+        ["line 3: asp b: 'whole-lists' takes no word, and '1' follows"]
+    );
+    assert_eq!(
+        with("asp b whole-lists id 1 whole-lists"),
+        ["line 3: asp b: 'whole-lists' is given twice"]
+    );
+    assert_eq!(
+        with("asp b whole-lists"),
+        ["line 3: asp b: 'id' is missing: the ASP identifier, a number"]
+    );
+    assert_eq!(
+        with("asp whole-lists id 1"),
+        ["line 3: asp whole-lists: this is a word of the language and no name"]
+    );
+    assert_eq!(
+        with("as y mode override members a whole-lists"),
+        ["line 3: as y: 'whole-lists' is no option of as here: mode, members"]
+    );
+    assert_eq!(
+        with("link 1 as x whole-lists"),
+        ["line 3: link 1: 'whole-lists' is no option of link here: as, high-speed"]
     );
     assert_eq!(
         with("as y"),
@@ -362,6 +445,10 @@ fn a_refused_text_names_line_row_and_reason() {
         ["line 3: link 1: 'as' takes one word: the AS that owns the link"]
     );
     assert_eq!(
+        with("link 1 as x highspeed"),
+        ["line 3: link 1: 'as' takes one word: the AS that owns the link; and 'highspeed' follows it"]
+    );
+    assert_eq!(
         with("link 1 as x high-speed high-speed"),
         ["line 3: link 1: 'high-speed' is given twice"]
     );
@@ -387,7 +474,7 @@ fn a_refused_text_names_line_row_and_reason() {
     );
     assert_eq!(
         with("asp b id 1 high-speed"),
-        ["line 3: asp b: 'high-speed' is no option of asp here: id"]
+        ["line 3: asp b: 'high-speed' is no option of asp here: id, whole-lists"]
     );
     assert_eq!(
         with("as y mode override members a high-speed"),

@@ -105,10 +105,14 @@ impl Runner {
                     0 => String::new(),
                     n => format!(", {n} of them high-speed"),
                 };
+                let whole_lists = match (0..g.asps()).filter(|&p| g.takes_whole_lists(p)).count() {
+                    0 => String::new(),
+                    n => format!(" ({n} with whole-lists)"),
+                };
                 self.step(
                     What::Note,
                     format!(
-                        "plan: {} ASPs, {} ASes, {} links{high_speed}",
+                        "plan: {} ASPs{whole_lists}, {} ASes, {} links{high_speed}",
                         g.asps(),
                         g.ases(),
                         g.links()

@@ -226,3 +226,33 @@ fn without_a_plan_every_event_is_refused() {
         ]
     );
 }
+
+#[test]
+fn lists_that_succeed_in_part() {
+    // two ASPs, the second with whole lists; links 100 and 101
+    let plan = "plan 000000180000000200000028000000010000002c00000002000000070001000000000008000100010000000200000064\
+                000000000000006500000000";
+    let list = "01000401000000140008000c0000006500000066";
+    let script = format!(
+        "{plan}\nmsg 0 1544 0100030100000008\nmsg 1 1544 0100030100000008\nmsg 0 1544 {list}\nmsg 1 1544 {list}\n"
+    );
+    let t = trace::run(&script::parse(&script).unwrap());
+    assert_eq!(
+        t.steps[0].label,
+        "plan: 2 ASPs (1 with whole-lists), 1 ASes, 2 links"
+    );
+    let labels: Vec<&str> = t.steps.iter().skip(7).map(|s| s.label.as_str()).collect();
+    assert_eq!(
+        labels,
+        [
+            "ASP Active, with identifiers",
+            "ASP Active Ack",
+            "Error 2 (invalid interface identifier 102)",
+            "Notify, AS 0 active",
+            "Notify, AS 0 active",
+            "AS 0 is active",
+            "ASP Active, with identifiers",
+            "Error 2 (invalid interface identifier 102)",
+        ]
+    );
+}

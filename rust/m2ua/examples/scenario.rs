@@ -1,6 +1,6 @@
-//! A small host: it loads a plan, lets two ASPs take turns, a link come up, units go both ways, an ASP fetch what a high-speed link has not sent, an association break, units wait
-//! until the other ASP takes over, and the recovery time run out. What a host sends, which units wait, and which timers it starts, is printed. (examples/c/scenario.c is the same
-//! in C; tools/hosts compares what both print.)
+//! A small host: it loads a plan, lets two ASPs take turns, a link come up, units go both ways, an ASP fetch what a high-speed link has not sent, a list of links succeed in part,
+//! an association break, units wait until the other ASP takes over, and the recovery time run out. What a host sends, which units wait, and which timers it starts, is printed.
+//! (examples/c/scenario.c is the same in C; tools/hosts compares what both print.)
 //! Usage: scenario PLAN, with examples/plans/high-speed.txt compiled; or scenario words.
 use m2ua::{
     parameter, protocol_data, read, sys, write, Addressee, Event, Gateway, Hold, MessageType,
@@ -263,6 +263,41 @@ fn retrieval(host: &mut Host, up: &[u8], active: &[u8]) -> Result<(), Refusal> {
     )
 }
 
+/// Links 114 to 116, of which the plan has two. Part of what left lists may succeed; what right lists is taken all or none.
+fn lists(host: &mut Host, active: &[u8]) -> Result<(), Refusal> {
+    let three = [(
+        sys::TAG_INTERFACE_ID_RANGE,
+        &[0, 0, 0, 114, 0, 0, 0, 116][..],
+    )];
+    let whole = |asp| u32::from(host.gateway.takes_whole_lists(asp));
+    println!(
+        "lists taken whole: of left {}, of right {}",
+        whole(0),
+        whole(1)
+    );
+    host.happens(
+        "left takes links 114 to 116 back, of which there are two",
+        Event::Message {
+            asp: 0,
+            message: &message(MessageType::Active, &three)?,
+        },
+    )?;
+    host.happens(
+        "right takes over again",
+        Event::Message {
+            asp: 1,
+            message: active,
+        },
+    )?;
+    host.happens(
+        "right gives up links 114 to 116, or none",
+        Event::Message {
+            asp: 1,
+            message: &message(MessageType::Inactive, &three)?,
+        },
+    )
+}
+
 fn scenario(host: &mut Host) -> Result<(), Refusal> {
     use MessageType::*;
     let (link100, link200) = (
@@ -375,6 +410,7 @@ fn scenario(host: &mut Host) -> Result<(), Refusal> {
             message: &up[..3],
         },
     )?;
+    lists(host, &active)?;
     host.happens("the association of right is lost", Event::Lost { asp: 1 })?;
     host.happens(
         "a unit comes in on link 100 and waits",

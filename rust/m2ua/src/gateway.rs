@@ -221,6 +221,34 @@ impl Gateway {
         (asp < self.asps()).then(|| self.state.aspid[asp])
     }
 
+    /// Whether identifiers that an ASP lists are taken all or none: an Active or Inactive with one that it cannot have is answered by Error 2 alone. Without that, part of a list
+    /// may succeed: the Ack says for which links, and Error 2 follows it with the first identifier that was bad (Rules 7.8, 8.11).
+    ///
+    /// ```
+    /// use m2ua::{sys, write, Event, Gateway, Hold, MessageType, Orders, Parameter};
+    ///
+    /// // Two ASPs with identifiers 7 and 8 in one AS, load-share; the second's lists are taken whole; a link with identifier 100.
+    /// let plan = [
+    ///     0, 0, 0, 24, 0, 0, 0, 2, 0, 0, 0, 40, 0, 0, 0, 1, 0, 0, 0, 44, 0, 0, 0, 1, 0, 0, 0, 7, 0, 1, 0, 0, 0, 0, 0, 8, 0, 1, 0, 1, 0, 0, 0, 2, 0, 0, 0, 100, 0, 0, 0, 0,
+    /// ];
+    /// let (mut gateway, mut hold, mut orders) = (Gateway::load(&plan)?, Hold::new(), Orders::new());
+    /// assert_eq!([0, 1, 2].map(|asp| gateway.takes_whole_lists(asp)), [false, true, false]);
+    /// let up = write(MessageType::Up, &[])?;
+    /// // Links 100 and 101, of which there is one.
+    /// let active = write(MessageType::Active, &[Parameter::new(sys::TAG_INTERFACE_ID, &[0, 0, 0, 100, 0, 0, 0, 101])])?;
+    /// for (asp, answer) in [(0, "to ASP 0: ASP Active Ack"), (1, "to ASP 1: Error 2 (invalid interface identifier 101)")] {
+    ///     for message in [&up, &active] {
+    ///         gateway = gateway.event(&Event::Message { asp, message }, &mut hold, &mut orders)?;
+    ///     }
+    ///     assert_eq!(orders.get(0).unwrap().to_string(), answer);
+    ///     assert_eq!(gateway.is_active(0, asp), asp == 0);
+    /// }
+    /// # Ok::<(), m2ua::Refusal>(())
+    /// ```
+    pub fn takes_whole_lists(&self, asp: usize) -> bool {
+        self.state.wholelists.get(asp) == Some(&1)
+    }
+
     /// The traffic mode of an AS.
     pub fn mode(&self, r#as: usize) -> Option<TrafficMode> {
         TrafficMode::of((*self.state.mode.get(r#as)?).into())

@@ -10,7 +10,7 @@
 //! // One ASP with identifier 7 in one AS, override; one link with identifier 100.
 //! let plan = [
 //!     0, 0, 0, 24, 0, 0, 0, 1, 0, 0, 0, 32, 0, 0, 0, 1, 0, 0, 0, 36, 0, 0, 0, 1, // where the rows are, and how many
-//!     0, 0, 0, 7, 0, 1, 0, 0, // an ASP: identifier, its ASes as bits, spare
+//!     0, 0, 0, 7, 0, 1, 0, 0, // an ASP: identifier, its ASes as bits, whether its lists are taken whole
 //!     0, 0, 0, 1, // an AS: mode
 //!     0, 0, 0, 100, 0, 0, 0, 0, // a link: identifier, kind, owner
 //! ];

@@ -3,7 +3,7 @@
 #![allow(unsafe_code)]
 use std::mem::{offset_of, size_of};
 
-pub const ABI: u32 = 3;
+pub const ABI: u32 = 4;
 
 // Limits.
 pub const MAX_ASPS: usize = 16;
@@ -252,6 +252,7 @@ pub struct Gateway {
     pub owner: [u8; 128],
     pub state: [u8; 128],
     pub highspeed: [u8; 128],
+    pub wholelists: [u8; 16],
     pub held: Units,
 }
 
@@ -540,7 +541,7 @@ const _: () = assert!(offset_of!(Batch, length) == 16);
 const _: () = assert!(size_of::<DataAt>() == 16);
 const _: () = assert!(offset_of!(DataAt, start) == 0);
 const _: () = assert!(offset_of!(DataAt, length) == 8);
-const _: () = assert!(size_of::<Gateway>() == 3332);
+const _: () = assert!(size_of::<Gateway>() == 3348);
 const _: () = assert!(offset_of!(Gateway, asps) == 0);
 const _: () = assert!(offset_of!(Gateway, ases) == 1);
 const _: () = assert!(offset_of!(Gateway, links) == 2);
@@ -555,11 +556,12 @@ const _: () = assert!(offset_of!(Gateway, iid) == 628);
 const _: () = assert!(offset_of!(Gateway, owner) == 1140);
 const _: () = assert!(offset_of!(Gateway, state) == 1268);
 const _: () = assert!(offset_of!(Gateway, highspeed) == 1396);
-const _: () = assert!(offset_of!(Gateway, held) == 1524);
-const _: () = assert!(size_of::<Loaded>() == 3336);
+const _: () = assert!(offset_of!(Gateway, wholelists) == 1524);
+const _: () = assert!(offset_of!(Gateway, held) == 1540);
+const _: () = assert!(size_of::<Loaded>() == 3352);
 const _: () = assert!(offset_of!(Loaded, code) == 0);
 const _: () = assert!(offset_of!(Loaded, gateway) == 4);
-const _: () = assert!(size_of::<Outcome>() == 3352);
+const _: () = assert!(size_of::<Outcome>() == 3368);
 const _: () = assert!(offset_of!(Outcome, refusal) == 0);
 const _: () = assert!(offset_of!(Outcome, count) == 8);
 const _: () = assert!(offset_of!(Outcome, gateway) == 16);

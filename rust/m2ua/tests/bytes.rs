@@ -327,4 +327,30 @@ fn the_most_orders_and_the_most_bytes() {
         }
     }
     assert!((0..16).all(|a| g.held(a).count() == 8 && next.held(a).count() == 0));
+    one_more_by_a_bad_one(&g, &mut hold, &messages);
+}
+
+/// The same state and an Active of all 128 links and one that there is not: beside the Ack, which lists the good ones, an Error, and that is the most that there is.
+fn one_more_by_a_bad_one(g: &Gateway, hold: &mut Hold, others: &[Vec<u8>]) {
+    let range = [0, 0, 0, 0, 0, 0, 0, 128];
+    let range = [Parameter::new(sys::TAG_INTERFACE_ID_RANGE, &range)];
+    let message = write(MessageType::Active, &range).unwrap();
+    let event = Event::Message {
+        asp: 1,
+        message: &message,
+    };
+    let mut orders = Orders::new();
+    sent(g, &event, hold, &mut orders);
+    assert_eq!(orders.len(), sys::MAX_ORDERS);
+    let all: Vec<u8> = (0..128).flat_map(u32::to_be_bytes).collect();
+    let ids = |value| Parameter::new(sys::TAG_INTERFACE_ID, value);
+    let ack = write(MessageType::ActiveAck, &[ids(&all)]).unwrap();
+    let code = Parameter::new(sys::TAG_ERROR_CODE, &[0, 0, 0, 2]);
+    let error = write(MessageType::Error, &[code, ids(&[0, 0, 0, 128])]).unwrap();
+    let messages: Vec<_> = g
+        .messages(&event, hold)
+        .map(|m| m.unwrap().unwrap())
+        .collect();
+    assert_eq!(messages[..2], [ack, error]);
+    assert_eq!(messages[2..], others[1..]);
 }

@@ -8,8 +8,14 @@ const M: [u8; 28] = [
     1, 0, 4, 1, 0, 0, 0, 28, 0, 11, 0, 8, 0, 0, 0, 1, 0, 8, 0, 12, 0, 0, 0, 100, 0, 0, 0, 115,
 ];
 
-/// A plan file of ASPs (identifier, mask), modes, links (identifier, kind and owner in one word).
+/// A plan file of ASPs (identifier, mask), modes, links (identifier, kind and owner in one word). Part of a list may succeed.
 fn plan(asps: &[(u32, u16)], modes: &[u32], links: &[(u32, u32)]) -> Vec<u8> {
+    let words = |&(id, mask): &(u32, u16)| (id, u32::from(mask) << 16);
+    plan_of(&asps.iter().map(words).collect::<Vec<_>>(), modes, links)
+}
+
+/// The same of ASPs with mask and spare in one word.
+fn plan_of(asps: &[(u32, u32)], modes: &[u32], links: &[(u32, u32)]) -> Vec<u8> {
     let at = [
         24,
         24 + 8 * asps.len(),
@@ -19,10 +25,7 @@ fn plan(asps: &[(u32, u16)], modes: &[u32], links: &[(u32, u32)]) -> Vec<u8> {
     for (offset, count) in at.iter().zip([asps.len(), modes.len(), links.len()]) {
         words.extend([*offset as u32, count as u32]);
     }
-    words.extend(
-        asps.iter()
-            .flat_map(|&(id, mask)| [id, u32::from(mask) << 16]),
-    );
+    words.extend(asps.iter().flat_map(|&(id, word)| [id, word]));
     words.extend(modes);
     words.extend(links.iter().flat_map(|&(id, owner)| [id, owner]));
     words.iter().flat_map(|w| w.to_be_bytes()).collect()
@@ -83,7 +86,17 @@ fn the_samples_of_events() {
             asp: 0,
             message: &to_116,
         },
-        &[(0, 0, 116, 2)],
+        &[(0, 1027, 0, 0), (0, 0, 116, 2), (0, 1, 0, 65539)],
+    );
+    let inactive = bare(MessageType::Inactive);
+    takes(
+        &mut g,
+        &mut hold,
+        Event::Message {
+            asp: 0,
+            message: &inactive,
+        },
+        &[(0, 1028, 0, 0), (0, 1, 0, 65540)],
     );
     takes(
         &mut g,
@@ -877,6 +890,156 @@ fn kinds_of_links_in_plans_and_states() {
     for (place, kind) in [(0, 2), (16, 255), (17, 1), (127, 1)] {
         let mut raw = *plan_s().raw();
         raw.highspeed[place] = kind;
+        assert_eq!(Gateway::from_raw(raw).unwrap_err().code(), 105);
+    }
+}
+
+/// ASPs 0 and 1 in AS 0 (override, links 100 to 102) and AS 1 (load-share, links 200 and 201), ASP 2 in AS 2 (broadcast, link 103); the lists of ASP 1 are taken whole. All are up.
+fn plan_with_whole_lists() -> (Gateway, Hold) {
+    let asps = [(7, 3 << 16), (8, 3 << 16 | 1), (9, 4 << 16)];
+    let links = [(100, 0), (101, 0), (102, 0), (103, 2), (200, 1), (201, 1)];
+    let mut g = Gateway::load(&plan_of(&asps, &[1, 2, 3], &links)).unwrap();
+    let (mut hold, up) = (Hold::new(), bare(MessageType::Up));
+    for asp in 0..3 {
+        let message = &up;
+        let event = Event::Message { asp, message };
+        g = g.event(&event, &mut hold, &mut Orders::new()).unwrap();
+    }
+    (g, hold)
+}
+
+/// A message that names identifiers and ranges, with a mode unless it is 0.
+fn naming(message: MessageType, mode: u32, ids: &[u32], ranges: &[(u32, u32)]) -> Vec<u8> {
+    let bytes = |words: &[u32]| -> Vec<u8> { words.iter().flat_map(|w| w.to_be_bytes()).collect() };
+    let ends: Vec<u32> = ranges.iter().flat_map(|&(a, b)| [a, b]).collect();
+    let values = [bytes(&[mode]), bytes(ids), bytes(&ends)];
+    let tags = [
+        sys::TAG_TRAFFIC_MODE,
+        sys::TAG_INTERFACE_ID,
+        sys::TAG_INTERFACE_ID_RANGE,
+    ];
+    let given = [mode != 0, !ids.is_empty(), !ranges.is_empty()];
+    let all = (0..3).filter(|&i| given[i]);
+    let all: Vec<Parameter> = all.map(|i| Parameter::new(tags[i], &values[i])).collect();
+    write(message, &all).unwrap()
+}
+
+/// Lists of which a part is good for ASPs 0 and 1: identifiers, ranges, mode; the good ones; the first bad one.
+type Part = (
+    &'static [u32],
+    &'static [(u32, u32)],
+    u32,
+    &'static [u32],
+    u32,
+);
+
+const ALL: &[u32] = &[100, 101, 102, 200, 201];
+const PARTS: [Part; 5] = [
+    (&[102, 99, 100], &[], 0, &[100, 102], 99),
+    (&[103, 100, 100], &[], 1, &[100], 103),
+    (&[], &[(101, 104)], 1, &[101, 102], 103),
+    (&[102], &[(100, 100), (101, u32::MAX)], 0, ALL, 103),
+    (&[201], &[(0, u32::MAX)], 0, ALL, 0),
+];
+
+/// An Active, or an Inactive of an ASP that is active everywhere, of such a list: the Ack and the Error as bytes, and the orders. Gives the state after it.
+fn in_part(g: &Gateway, hold: &mut Hold, kind: MessageType, part: &Part) -> Gateway {
+    let (ids, ranges, mode, good, bad) = *part;
+    let (ack, mode, told) = match kind {
+        MessageType::Active => (MessageType::ActiveAck, mode, 65539),
+        _ => (MessageType::InactiveAck, 0, 65540),
+    };
+    let message = &naming(kind, mode, ids, ranges);
+    let event = Event::Message { asp: 0, message };
+    // the good ones ascending, each once, behind the mode
+    let listed = naming(ack, mode, good, &[]);
+    assert_eq!(g.order(&event, hold, 0).unwrap(), listed);
+    let error = [1, 0, 0, 0, 0, 0, 0, 24, 0, 12, 0, 8, 0, 0, 0, 2, 0, 1, 0, 8];
+    let error = [&error[..], &bad.to_be_bytes()].concat();
+    assert_eq!(g.order(&event, hold, 1).unwrap(), error);
+    let mut orders = vec![(0, ack.word(), 0, 0), (0, 0, bad, 2)];
+    for a in 0..if good == ALL { 2 } else { 1 } {
+        orders.extend([(0, 1, a, told), (1, 1, a, told)]);
+    }
+    let mut next = *g;
+    takes(&mut next, hold, event, &orders);
+    next
+}
+
+#[test]
+fn part_of_a_list_may_succeed() {
+    let (before, mut hold) = plan_with_whole_lists();
+    for part in &PARTS {
+        let g = in_part(&before, &mut hold, MessageType::Active, part);
+        let both = part.3 == ALL;
+        assert_eq!((g.is_active(0, 0), g.is_active(1, 0)), (true, both));
+        let g = in_part(&g, &mut hold, MessageType::Inactive, part);
+        assert!(!g.is_active(0, 0) && !g.is_active(1, 0));
+    }
+}
+
+#[test]
+fn lists_taken_whole() {
+    let (before, mut hold) = plan_with_whole_lists();
+    let whole: Vec<usize> = (0..20).filter(|&p| before.takes_whole_lists(p)).collect();
+    assert_eq!(whole, [1]);
+    assert!(!before.takes_whole_lists(usize::MAX));
+    for (ids, ranges, mode, _, bad) in PARTS {
+        for (kind, mode) in [(MessageType::Active, mode), (MessageType::Inactive, 0)] {
+            let message = &naming(kind, mode, ids, ranges);
+            let mut g = before;
+            let event = Event::Message { asp: 1, message };
+            takes(&mut g, &mut hold, event, &[(1, 0, bad, 2)]);
+            assert_eq!(g, before);
+        }
+    }
+}
+
+#[test]
+fn modes_of_lists_that_succeed_in_part() {
+    use MessageType::Active;
+    let (before, mut hold) = plan_with_whole_lists();
+    for (asp, mode, ids, order) in [
+        // another mode than a good one's AS: Error 5 alone, whatever else is wrong
+        (0, 2, &[100, 103][..], (0, 0, 0, 5)),
+        (0, 1, &[99, 100, 200], (0, 0, 0, 5)),
+        (0, 3, &[103, 100], (0, 0, 0, 5)),
+        // none good: Error 2 alone, whatever the mode
+        (0, 1, &[103, 99], (0, 0, 103, 2)),
+        (0, 2, &[99], (0, 0, 99, 2)),
+        // lists taken whole: what is bad comes first
+        (1, 2, &[100, 103], (1, 0, 103, 2)),
+        (1, 2, &[100], (1, 0, 0, 5)),
+    ] {
+        let message = &naming(Active, mode, ids, &[]);
+        let mut g = before;
+        takes(&mut g, &mut hold, Event::Message { asp, message }, &[order]);
+        assert_eq!(g, before);
+    }
+}
+
+#[test]
+fn whole_lists_in_plans_and_states() {
+    let loaded =
+        |word| Gateway::load(&plan_of(&[(7, word)], &[1], &[(100, 0)])).map_err(Refusal::code);
+    for (word, whole) in [(0, false), (1, true), (1 << 16, false), (1 << 16 | 1, true)] {
+        let g = loaded(word).unwrap();
+        assert_eq!(
+            (g.takes_whole_lists(0), g.is_member(0, 0)),
+            (whole, word >> 16 == 1)
+        );
+    }
+    for spare in [2, 3, 255, 256, 257, 0x8000, 0x8001, 0xffff] {
+        assert_eq!(loaded(spare).unwrap_err(), 202, "{spare:#x}");
+        assert_eq!(loaded(1 << 16 | spare).unwrap_err(), 202, "{spare:#x}");
+    }
+    // in a state: 0 or 1, and 1 for an ASP of the plan alone
+    let mut raw = *plan_s().raw();
+    raw.wholelists[2] = 1;
+    assert!(Gateway::from_raw(raw).unwrap().takes_whole_lists(2));
+    for (asp, mark) in [(0, 2), (2, 255), (3, 1), (15, 1)] {
+        let mut raw = *plan_s().raw();
+        raw.wholelists[asp] = mark;
         assert_eq!(Gateway::from_raw(raw).unwrap_err().code(), 105);
     }
 }

@@ -1,11 +1,11 @@
-//! Lines of the kinds `event`, `bytes` and `ranges`: long histories, each over
-//! one plan.
+//! Lines of the kinds `event`, `bytes`, `ranges` and `partly`: long histories,
+//! each over one plan.
 
 use super::hex::put_bytes;
 use super::message::{self, Message, Piece, MESSAGES};
 use super::plans::{self, Plan};
 use super::rng::Rng;
-use super::{malformed, orders, range_plans, ranges, reading, retrievals, scenes, Kind};
+use super::{malformed, orders, partly, range_plans, ranges, reading, retrievals, scenes, Kind};
 use crate::events::{bits, Event};
 use crate::gateway::{Each, Gateway, HOLD_BYTES, IDLE, IN_SERVICE, STARTING, STOPPING};
 use crate::script::{put_number, Session};
@@ -89,27 +89,32 @@ pub struct History {
     first: bool,
     /// Whether the links of this plan are still to be brought into service.
     opening: bool,
-    /// Whether `bytes` lines are made.
-    bytes: bool,
-    /// Whether most events name ranges.
-    ranges: bool,
+    kind: Kind,
     results: Vec<u8>,
 }
 
 impl History {
     pub fn new(kind: Kind) -> Self {
-        let bytes = kind == Kind::Bytes;
         History {
             session: Session::new(),
             queue: VecDeque::new(),
             // A few events on the state of zeros come first.
-            left: if bytes { 15 } else { 3 },
+            left: if kind == Kind::Bytes { 15 } else { 3 },
             first: true,
             opening: false,
-            bytes,
-            ranges: kind == Kind::Ranges,
+            kind,
             results: Vec::new(),
         }
+    }
+
+    /// Whether most events are an Active or Inactive of identifiers.
+    fn lists(&self) -> bool {
+        matches!(self.kind, Kind::Ranges | Kind::Partly)
+    }
+
+    /// Whether all goes by orders as bytes.
+    fn bytes(&self) -> bool {
+        self.kind == Kind::Bytes
     }
 
     pub fn line(&mut self, rng: &mut Rng, line: &mut Vec<u8>) {
@@ -141,30 +146,30 @@ impl History {
             return plans::put(&plans::any(rng), line);
         }
         // The first plan has the most orders there can be.
-        let plan = if self.ranges {
-            self.range_plan(rng)
+        let plan = if self.lists() {
+            self.list_plan(rng)
         } else if self.first || rng.one_in(8) {
             self.storm(rng)
         } else {
             let plan = any_plan(rng);
-            let lines = scenes::opening(rng, plan.asps.len(), self.bytes);
+            let lines = scenes::opening(rng, plan.asps.len(), self.bytes());
             self.queue.extend(lines);
             plan
         };
         self.first = false;
-        self.opening = !self.ranges;
+        self.opening = !self.lists();
         self.left = self.length(rng, plan.links.is_empty());
         plans::put(&plan.encode(), line);
     }
 
     /// How long a plan stays. Of `bytes` an event has several lines, of `ranges`
-    /// one plan says little, and plans should vary; but now and then one stays
-    /// for long.
+    /// and `partly` one plan says little, and plans should vary; but now and then
+    /// one stays for long.
     fn length(&self, rng: &mut Rng, no_links: bool) -> u64 {
-        let most = match self.bytes {
-            _ if self.ranges => 100,
-            true => 250,
-            false => 400,
+        let most = match self.kind {
+            Kind::Ranges | Kind::Partly => 100,
+            Kind::Bytes => 250,
+            _ => 400,
         };
         match rng.below(8) {
             _ if no_links => rng.range(most / 10, most / 4),
@@ -173,9 +178,12 @@ impl History {
         }
     }
 
-    /// A plan made for ranges; most ASPs come up, and some of them active.
-    fn range_plan(&mut self, rng: &mut Rng) -> Plan {
-        let plan = range_plans::plan(rng);
+    /// A plan made for lists; most ASPs come up, and some of them active.
+    fn list_plan(&mut self, rng: &mut Rng) -> Plan {
+        let plan = match self.kind {
+            Kind::Partly => partly::plan(rng),
+            _ => range_plans::plan(rng),
+        };
         let mut lines = scenes::opening(rng, plan.asps.len(), false);
         let active = rng.below(plan.asps.len() as u64 + 1) as usize;
         lines.truncate(plan.asps.len() + active);
@@ -201,7 +209,7 @@ impl History {
                 link.owner = i as u16 % 16;
             }
         }
-        let lines = scenes::storm(rng, &plan, full, self.bytes);
+        let lines = scenes::storm(rng, &plan, full, self.bytes());
         self.queue.extend(lines);
         plan
     }
@@ -213,7 +221,7 @@ impl History {
             1..=4 => line.extend_from_slice(rng.pick(&MALFORMED).as_bytes()),
             5 => reading::line(rng, line),
             6..=30 => line.extend_from_slice(b"state"),
-            31..=35 if self.bytes => {
+            31..=35 if self.bytes() => {
                 line.extend_from_slice(rng.pick(&orders::MALFORMED).as_bytes())
             }
             36..=43 => line.extend(scenes::look(rng, gateway)),
@@ -237,10 +245,10 @@ impl History {
         if let Some(first) = self.queue.pop_front() {
             return line.extend_from_slice(&first);
         }
-        let event = match self.bytes {
-            _ if self.ranges => Made::for_ranges(rng, &gateway),
-            true => Made::for_bytes(rng, &gateway),
-            false => Made::any(rng, &gateway),
+        let event = match self.kind {
+            Kind::Ranges | Kind::Partly => Made::for_lists(rng, &gateway, self.kind),
+            Kind::Bytes => Made::for_bytes(rng, &gateway),
+            _ => Made::any(rng, &gateway),
         };
         let list = match rng.below(60) {
             0 => 1543,
@@ -250,8 +258,11 @@ impl History {
         };
         match rng.below(10) {
             0 => line.extend_from_slice(b"reach "),
-            1 if self.ranges => line.extend_from_slice(b"reach "),
-            1..=6 if self.bytes => return self.all_bytes(rng, &gateway, &event, list, line),
+            1 if self.lists() => line.extend_from_slice(b"reach "),
+            1..=6 if self.bytes() => return self.all_bytes(rng, &gateway, &event, list, line),
+            2 | 3 if self.kind == Kind::Partly => {
+                return self.all_bytes(rng, &gateway, &event, list, line)
+            }
             _ => {}
         }
         event.put(list, line);
@@ -263,9 +274,10 @@ impl History {
     /// Now and then several lines that belong together.
     fn scene(&mut self, rng: &mut Rng, gateway: &Gateway) {
         match rng.below(100) {
-            1..=3 if self.ranges => {}
+            1..=3 if self.kind == Kind::Ranges => {}
+            2 | 3 if self.kind == Kind::Partly => {}
             0..=3 => self.queue.extend(scenes::pending(rng, gateway)),
-            4..=30 if !self.ranges && scenes::many_idle(gateway) => {
+            4..=30 if !self.lists() && scenes::many_idle(gateway) => {
                 self.queue.extend(scenes::service(rng, gateway))
             }
             _ => {}
@@ -387,11 +399,12 @@ impl Made {
         made
     }
 
-    /// Mostly an Active or Inactive of ranges.
-    fn for_ranges(rng: &mut Rng, gateway: &Gateway) -> Made {
-        let made = match rng.one_in(6) {
-            true => None,
-            false => ranges::event(rng, gateway),
+    /// Mostly an Active or Inactive of identifiers.
+    fn for_lists(rng: &mut Rng, gateway: &Gateway, kind: Kind) -> Made {
+        let made = match kind {
+            _ if rng.one_in(6) => None,
+            Kind::Partly => partly::event(rng, gateway),
+            _ => ranges::event(rng, gateway),
         };
         made.unwrap_or_else(|| Made::any(rng, gateway))
     }

@@ -6,6 +6,7 @@ mod histories;
 mod malformed;
 mod message;
 mod orders;
+mod partly;
 mod plans;
 mod range_plans;
 mod ranges;
@@ -34,13 +35,17 @@ pub enum Kind {
     /// Histories heavy in Active and Inactive with ranges, on plans made for
     /// them.
     Ranges,
+    /// The same with lists that are good in part, and with many lines of
+    /// `bytes`.
+    Partly,
     /// Malformed lines of every sort, also with bytes that are no text.
     Bad,
 }
 
 impl Kind {
-    pub const NAMES: [&'static str; 7] =
-        ["read", "write", "plan", "event", "bytes", "ranges", "bad"];
+    pub const NAMES: [&'static str; 8] = [
+        "read", "write", "plan", "event", "bytes", "ranges", "partly", "bad",
+    ];
 
     pub fn named(name: &str) -> Option<Kind> {
         match name {
@@ -50,6 +55,7 @@ impl Kind {
             "event" => Some(Kind::Event),
             "bytes" => Some(Kind::Bytes),
             "ranges" => Some(Kind::Ranges),
+            "partly" => Some(Kind::Partly),
             "bad" => Some(Kind::Bad),
             _ => None,
         }
@@ -72,7 +78,9 @@ pub fn generate(
             Kind::Read => reading::line(&mut rng, &mut line),
             Kind::Write => writing::line(&mut rng, &mut line),
             Kind::Plan => plans::line(&mut rng, &mut line),
-            Kind::Event | Kind::Bytes | Kind::Ranges => history.line(&mut rng, &mut line),
+            Kind::Event | Kind::Bytes | Kind::Ranges | Kind::Partly => {
+                history.line(&mut rng, &mut line)
+            }
             Kind::Bad => malformed::any_line(&mut rng, &mut line),
         }
         take(&line)?;

@@ -3,6 +3,7 @@
 use super::rng::Rng;
 use crate::events::{Event, DATA, LIST_WORDS};
 use crate::gateway::Gateway;
+use crate::naming::Marks;
 use crate::script::put_number;
 use crate::wire::*;
 
@@ -69,7 +70,7 @@ pub fn places(rng: &mut Rng, orders: &[[u32; 4]]) -> Vec<u32> {
 /// refused.
 pub fn all(gateway: &Gateway, event: Event, hold: usize) -> Vec<[u32; 4]> {
     let mut list = [0; LIST_WORDS];
-    let (_, count) = gateway.orders(event, hold, &mut list);
+    let (_, count) = gateway.orders(event, hold, &mut list, &mut Marks::new());
     list.as_chunks::<4>().0[..count as usize].to_vec()
 }
 

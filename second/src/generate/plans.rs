@@ -77,7 +77,7 @@ pub fn valid(rng: &mut Rng, asps: usize, ases: usize, links: usize) -> Plan {
         if rng.one_in(6) {
             mask = rng.pick(&[0, all, all, 1]);
         }
-        (*id, mask & all, 0)
+        (*id, mask & all, rng.one_in(5) as u16)
     });
     let asps = asps.collect();
     let modes = (0..ases).map(|_| rng.range(1, 3) as u32).collect();
@@ -151,6 +151,9 @@ fn any_size(rng: &mut Rng) -> (usize, usize, usize) {
 /// Kinds of a link, two good ones and others.
 const KINDS: [u16; 12] = [0, 1, 1, 2, 2, 2, 3, 255, 256, 257, 0x8000, 0xffff];
 
+/// Spares of an ASP, two good ones and others.
+const SPARES: [u16; 12] = [0, 1, 1, 2, 2, 3, 255, 256, 257, 0x8000, 0x8001, 0xffff];
+
 /// An owner about the last AS, or far beyond it.
 fn owner_near(rng: &mut Rng, ases: u16) -> u16 {
     rng.pick(&[ases, ases - 1, ases + 1, 16, 255, 256, u16::MAX])
@@ -162,11 +165,11 @@ fn damage_row(rng: &mut Rng, plan: &mut Plan) {
     let p = rng.below(plan.asps.len() as u64) as usize;
     let a = rng.below(ases as u64) as usize;
     let links = plan.links.len();
-    match rng.below(13) {
+    match rng.below(14) {
         0 => plan.modes[a] = rng.pick(&[0, 4, 255, 256, 257, 0x0100_0001, u32::MAX]),
         1 => plan.modes[a] = rng.pick(&[1, 3]),
         2 => plan.asps[p].1 |= rng.pick(&[1u32 << ases.min(15), 1 << 15]) as u16,
-        3 => plan.asps[p].2 = rng.pick(&[1, 255, 256, 0x8000, 0xffff]),
+        3 => plan.asps[p].2 = rng.pick(&SPARES),
         4 => {
             let other = rng.below(plan.asps.len() as u64) as usize;
             plan.asps[p].0 = plan.asps[other].0;
@@ -197,6 +200,7 @@ fn damage_row(rng: &mut Rng, plan: &mut Plan) {
                 plan.links[at].owner = owner_near(rng, ases as u16);
             }
         }
+        12 => plan.asps[p].2 = rng.pick(&SPARES),
         _ => plan.asps[p].1 = 0,
     }
 }

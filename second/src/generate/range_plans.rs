@@ -27,7 +27,9 @@ pub fn plan(rng: &mut Rng) -> Plan {
     let modes = (0..ases).map(|_| same.unwrap_or(rng.range(1, 3) as u32));
     Plan {
         modes: modes.collect(),
-        asps: (0..asps).map(|p| (p as u32, mask(rng, ases), 0)).collect(),
+        asps: (0..asps)
+            .map(|p| (p as u32, mask(rng, ases), rng.one_in(8) as u16))
+            .collect(),
         links,
     }
 }

@@ -10,10 +10,10 @@ use crate::gateway::{Each, Gateway};
 use crate::wire::*;
 
 /// First and last place of links whose identifiers have no gap.
-type Run = (usize, usize);
+pub type Run = (usize, usize);
 
 /// An ASP, mostly one that is up.
-fn sender(rng: &mut Rng, gateway: &Gateway) -> u32 {
+pub fn sender(rng: &mut Rng, gateway: &Gateway) -> u32 {
     let up: Vec<usize> = Each(gateway.up_set()).collect();
     match up[..] {
         [] => index(rng, gateway.asps),
@@ -53,9 +53,9 @@ pub fn event(rng: &mut Rng, gateway: &Gateway) -> Option<Made> {
 }
 
 /// Active or Inactive: mostly what changes something.
-fn kind(rng: &mut Rng, gateway: &Gateway, p: usize, pieces: &[Piece]) -> u8 {
+pub fn kind(rng: &mut Rng, gateway: &Gateway, p: usize, pieces: &[Piece]) -> u8 {
     let message = Message::new(4, 1, pieces.to_vec()).encode();
-    let owners = gateway.owners_of_known(&message);
+    let owners = gateway.named_ases(p, &message).ases;
     let (mut active, mut not) = (false, false);
     for a in bits(owners) {
         active |= gateway.is_active(a, p);
@@ -80,7 +80,7 @@ fn mode(rng: &mut Rng, gateway: &Gateway, p: usize, message: &Message) -> u32 {
 }
 
 /// All runs of links that pass a test, as long as they can be.
-fn runs(gateway: &Gateway, test: impl Fn(usize) -> bool) -> Vec<Run> {
+pub fn runs(gateway: &Gateway, test: impl Fn(usize) -> bool) -> Vec<Run> {
     let ids = gateway.link_ids();
     let mut runs: Vec<Run> = Vec::new();
     for place in (0..ids.len()).filter(|place| test(*place)) {
@@ -93,7 +93,7 @@ fn runs(gateway: &Gateway, test: impl Fn(usize) -> bool) -> Vec<Run> {
 }
 
 /// A part of a run.
-fn part(rng: &mut Rng, (first, last): Run) -> Run {
+pub fn part(rng: &mut Rng, (first, last): Run) -> Run {
     let a = rng.range(first as u64, last as u64) as usize;
     let b = rng.range(first as u64, last as u64) as usize;
     (a.min(b), a.max(b))
@@ -167,7 +167,7 @@ fn shaped(rng: &mut Rng, runs: &[Run], count: usize) -> Vec<Run> {
 
 /// A range that is refused, mostly: with an identifier that is missing, or of an
 /// AS without p.
-fn refused(rng: &mut Rng, gateway: &Gateway, p: u32) -> (u32, u32) {
+pub fn refused(rng: &mut Rng, gateway: &Gateway, p: u32) -> (u32, u32) {
     let ids = gateway.link_ids();
     let all = runs(gateway, |_| true);
     let at = rng.below(all.len() as u64) as usize;
@@ -200,7 +200,7 @@ fn refused(rng: &mut Rng, gateway: &Gateway, p: u32) -> (u32, u32) {
 
 /// A known range with a link of an AS without p: at its start, its end, or
 /// inside.
-fn foreign(rng: &mut Rng, gateway: &Gateway, p: u32) -> Option<(u32, u32)> {
+pub fn foreign(rng: &mut Rng, gateway: &Gateway, p: u32) -> Option<(u32, u32)> {
     let ids = gateway.link_ids();
     let others = (0..ids.len()).filter(|link| !serves(gateway, p, *link));
     let others: Vec<usize> = others.collect();
@@ -235,14 +235,21 @@ fn many(rng: &mut Rng, most: u64) -> usize {
 
 /// Parameters being filled, within the longest message; what does not go in is
 /// left out.
-struct Draft {
-    pieces: Vec<Piece>,
+pub struct Draft {
+    pub pieces: Vec<Piece>,
     room: usize,
 }
 
 impl Draft {
+    pub fn new(rng: &mut Rng) -> Self {
+        Draft {
+            pieces: Vec::new(),
+            room: if rng.one_in(2) { 2040 } else { 2020 },
+        }
+    }
+
     /// An item under a tag: behind the last one, or in a parameter of its own.
-    fn put(&mut self, tag: u16, item: &[u8], apart: bool) {
+    pub fn put(&mut self, tag: u16, item: &[u8], apart: bool) {
         let fits = |piece: &&mut Piece| piece.tag == tag && !apart;
         let last = self.pieces.last_mut().filter(fits);
         let bytes = item.len() + if last.is_some() { 0 } else { 4 };
@@ -256,7 +263,7 @@ impl Draft {
         }
     }
 
-    fn range(&mut self, (start, stop): (u32, u32), apart: bool) {
+    pub fn range(&mut self, (start, stop): (u32, u32), apart: bool) {
         let item = [start.to_be_bytes(), stop.to_be_bytes()].concat();
         self.put(INTERFACE_RANGE, &item, apart);
     }
@@ -264,10 +271,7 @@ impl Draft {
 
 /// What a message names: ranges, single identifiers, or both.
 fn named(rng: &mut Rng, gateway: &Gateway, p: u32) -> Vec<Piece> {
-    let mut draft = Draft {
-        pieces: Vec::new(),
-        room: if rng.one_in(2) { 2040 } else { 2020 },
-    };
+    let mut draft = Draft::new(rng);
     // Mostly in one parameter, else in some, or each in its own.
     let apart = rng.pick(&[0, 0, 0, 4, 1]);
     let split = |rng: &mut Rng| apart != 0 && rng.one_in(apart);

@@ -257,11 +257,26 @@ pub fn storm(rng: &mut Rng, plan: &Plan, full: bool, bytes: bool) -> Lines {
         lines.extend(fill_up(rng, plan));
         lines.push(b"state".to_vec());
     }
-    let next = rng.below(16) as u32;
-    let back = bare(next, 4, 1);
+    let back = comeback(rng, plan, full);
     lines.extend(with_bytes(rng, back, bytes));
     lines.push(b"state".to_vec());
     lines
+}
+
+/// An Active of some ASP: without identifiers; or with a link of each AS, and
+/// one that there is not, by one whose lists may succeed in part.
+fn comeback(rng: &mut Rng, plan: &Plan, full: bool) -> Vec<u8> {
+    let asps = plan.asps.iter().zip(0..).filter(|(asp, _)| asp.2 == 0);
+    let asps: Vec<u32> = asps.map(|(_, p)| p).collect();
+    if !full || asps.is_empty() || rng.one_in(3) {
+        return bare(rng.below(16) as u32, 4, 1);
+    }
+    let mut ids: Vec<u32> = plan.links[..16].iter().map(|link| link.id).collect();
+    ids.push(plan.links[15].id.wrapping_sub(1_000_000));
+    rng.shuffle(&mut ids);
+    let ids = ids.iter().flat_map(|id| id.to_be_bytes()).collect();
+    let message = Message::new(4, 1, vec![Piece::new(INTERFACE_ID, ids)]);
+    line_of(Made::Message(rng.pick(&asps), message.encode()))
 }
 
 /// Eight units for each of 16 ASes, and some too many.
@@ -288,7 +303,9 @@ fn fill_up(rng: &mut Rng, plan: &Plan) -> Lines {
 fn with_bytes(rng: &mut Rng, event: Vec<u8>, bytes: bool) -> Lines {
     let mut lines = Vec::new();
     if bytes {
-        for place in [0, 1, 2, 8, 9, 24, 25, 128, 256, 257, 258, 383, 384, 385] {
+        for place in [
+            0, 1, 2, 8, 9, 24, 25, 128, 256, 257, 258, 383, 384, 385, 386,
+        ] {
             lines.push(some_bytes(rng, place, &event));
         }
     }

@@ -12,15 +12,15 @@ use Rattle.message.specs.Meaning.{readingOf}
 use Rattle.message.specs.declared.Reading.{Reading}
 use Rattle.gateway.specs.declared.Gateway.{Gateway}
 use Rattle.action.specs.Types.{aspUp, aspDown, aspActive, aspInactive}
-use Rattle.rules.specs.Identifiers.{ownsNamed, isMember}
+use Rattle.rules.specs.Identifiers.{ownsGood, isMember}
 use Rattle.rules.specs.Rules.{isError, classTypeOf}
 use Rattle.rules.specs.Reach.{ownsId, readReach, messageReach}
 use Rattle.decide.specs.Inner.Other.{typeIn, typed}
 use Rattle.links.specs.Inner.Side.{code-is}
 
--- Active and Inactive: with identifiers the owners of the known ones, without any the ASes of p
+-- Active and Inactive: with identifiers the owners of the good ones, without any the ASes of p
 unfoldable pub namedReach : Gateway → ℕ → List ℕ → ℕ → ℕ → Bool
-namedReach g p s ids a = cond (eqb ids 1) (ownsNamed g (walk s 8 .pars) a) (isMember g a p)
+namedReach g p s ids a = cond (eqb ids 1) (ownsGood g p (walk s 8 .pars) a) (isMember g a p)
 
 -- neither Up, Down, Active nor Inactive: class 6 reaches the owner of its identifier; wrong says that it is an Error
 unfoldable pub otherReach : Gateway → Bool → Reading → ℕ → Bool

@@ -1,12 +1,12 @@
--- `config::masks_ok`: the masks passed name no AS beyond the plan's, and the spares are zero. Assumes nothing.
+-- `config::masks_ok`: the masks passed name no AS beyond the plan's, and the rules for lists are known ones. Assumes nothing.
 use Prim.Native.Nat.{_≤_, _-_}
 use mathlib.Core.Path.{_≡_, sym}
 use mathlib.Core.Bool.{_&&_}
 use native.Mathlib.Omega.{arith}
 use borrow.Author.Needs.{needs}
-use lib.Dec.{eqb}
+use lib.Dec.{eqb, ltb}
 use lib.ListN.{length}
-use Rattle.config.specs.Plan.{bitsFrom, high, low}
+use Rattle.config.specs.Plan.{bitsFrom, high, low, listRules}
 use Rattle.laws.specs.Below.{allBelow}
 use Rattle.laws.specs.Inner.Below.{all-none, all-more, at-end}
 use Rattle.config.specs.Inner.Tables.{wordOf, RowsIn}
@@ -14,7 +14,7 @@ use Rattle.config.proofs.masks_ok.Statement.{statement}
 use Rattle.config.proofs.masks_ok.Tie as tie
 
 abbrev Inv-loop : tie.InvT-loop
-Inv-loop s at asps ases ok₀ p₀ ok p = (ok ≡ allBelow (λ i. eqb (bitsFrom (high (wordOf s at 8 i)) ases) 0 && eqb (low (wordOf s at 8 i)) 0) p) × (p ≤ asps) × RowsIn (length s) at 8 asps × (ases ≤ 16)
+Inv-loop s at asps ases ok₀ p₀ ok p = (ok ≡ allBelow (λ i. eqb (bitsFrom (high (wordOf s at 8 i)) ases) 0 && ltb (low (wordOf s at 8 i)) listRules) p) × (p ≤ asps) × RowsIn (length s) at 8 asps × (ases ≤ 16)
 
 abbrev μ-loop : tie.MeasureT-loop
 μ-loop s at asps ases ok₀ p₀ ok p = asps - p

@@ -10,15 +10,16 @@ use lib.Dec.{eqb, leb, ltb}
 use lib.ListN.{replicate, getD-replicate}
 use lib.Pow.{shr-shr, shr-le}
 use borrow.Author.Tests.{eqb-true, le-leb, lt-ltb, le-ltb}
+use Rattle.laws.specs.Below.{allBelow}
 use Rattle.laws.specs.Inner.Below.{all-at, all-of}
 use Rattle.laws.specs.Columns.{numberAt}
 use Rattle.laws.specs.Inner.Columns.{getD-tabulate}
 use Rattle.laws.specs.Inner.Every.{count-not}
-use Rattle.gateway.specs.Sound.{pair, countsIn, blankFrom, flagIf, flagWithin, soundAsps, memberAt, activeAt, soundRow, activeIn, modeAt, waitingAt, overrideAt, soundAs, soundAses, allUnder, soundLinks, soundKinds, isSound}
+use Rattle.gateway.specs.Sound.{pair, countsIn, blankFrom, flagIf, flagWithin, soundAsps, memberAt, activeAt, soundRow, activeIn, modeAt, waitingAt, overrideAt, soundAs, soundAses, allUnder, soundLinks, soundKinds, soundLists, isSound}
 use Rattle.gateway.specs.Inner.Laws.{whole}
 use Rattle.gateway.specs.Inner.Sound.{no-units-sound}
 use Rattle.gateway.specs.declared.Gateway.{Gateway}
-use Rattle.config.specs.Plan.{count, layoutOk, bit, bitsFrom, modesOk, masksOk, rowsOk, members, fresh, refused, accepted, built, loadOf, aspIds, masks, spares, modes, linkIds, owners, kinds}
+use Rattle.config.specs.Plan.{count, layoutOk, bit, bitsFrom, modesOk, masksOk, rowsOk, members, fresh, refused, accepted, built, loadOf, aspIds, masks, lists, modes, linkIds, owners, kinds}
 use Rattle.config.specs.Inner.Laws.{Layout, layout, Rows, rows, column-blank, under-small}
 
 -- a place beyond the count holds zero
@@ -54,9 +55,18 @@ small-flag x h = go (ℕ-discrete x 0)
     go (yes z) = rw z
     go (no z) = let e : x ≡ 1 = omega arith in rw e
 
+-- a column of numbers below 2, with zeros beyond them, is one of flags
+fresh-flags : (c : List ℕ) (n end : ℕ) → allUnder c 2 n ≡ true → blankFrom c n end ≡ true → allBelow (flagWithin c n) end ≡ true
+unfolding flagWithin
+fresh-flags c n end u h = all-of _ end (λ i b. go i b (decLt i n))
+  where
+    go : (i : ℕ) → i < end → Dec (i < n) → flagIf (numberAt c i) (ltb i n) ≡ true
+    go i b (yes s) = rw (lt-ltb i n s) (small-flag (numberAt c i) (under-small c 2 n u i s))
+    go i b (no s) = rw (blank-at c n end h i b (omega arith))
+
 -- ---- table by table, for counts within limits, rows in order and zeros beyond them
 
-module _ (n m k : ℕ) (aspid mask spare mode iid owner kind : List ℕ) (r : Rows n m k aspid mask spare mode iid owner kind) where
+module _ (n m k : ℕ) (aspid mask list mode iid owner kind : List ℕ) (r : Rows n m k aspid mask list mode iid owner kind) where
   fresh-asps : blankFrom aspid n 16 ≡ true → soundAsps aspid (replicate 16 0) n ≡ true
   unfolding soundAsps flagWithin
   fresh-asps h = rw (r .differ, h) (all-of _ 16 (λ q b. rw (zero-at 16 q b)))
@@ -117,14 +127,6 @@ module _ (n m k : ℕ) (aspid mask spare mode iid owner kind : List ℕ) (r : Ro
   unfolding soundLinks
   fresh-links b h g = rw (r .order, r .owned, all-idle b, h, g, blank-zero k 128)
 
-  fresh-kinds : blankFrom kind k 128 ≡ true → soundKinds kind k ≡ true
-  unfolding soundKinds flagWithin
-  fresh-kinds h = all-of _ 128 (λ l b. go l b (decLt l k))
-    where
-      go : (l : ℕ) → l < 128 → Dec (l < k) → flagIf (numberAt kind l) (ltb l k) ≡ true
-      go l b (yes s) = rw (lt-ltb l k s) (small-flag (numberAt kind l) (under-small kind 2 k (r .sorted) l s))
-      go l b (no s) = rw (blank-at kind k 128 h l b (omega arith))
-
 -- ---- the whole
 
 counts-in : (s : List ℕ) → Layout s → (countsIn (count s 0) (count s 1) (count s 2) && eqb 0 0) ≡ true
@@ -139,24 +141,25 @@ counts-in s l =
     )
 
 abbrev pub rowsOf : List ℕ → Bool
-rowsOf s = rowsOk (count s 0) (count s 1) (count s 2) (aspIds s) (masks s) (spares s) (modes s) (linkIds s) (owners s) (kinds s)
+rowsOf s = rowsOk (count s 0) (count s 1) (count s 2) (aspIds s) (masks s) (lists s) (modes s) (linkIds s) (owners s) (kinds s)
 
 abbrev pub freshOf : List ℕ → Gateway
-freshOf s = fresh (count s 0) (count s 1) (count s 2) (aspIds s) (masks s) (modes s) (linkIds s) (owners s) (kinds s)
+freshOf s = fresh (count s 0) (count s 1) (count s 2) (aspIds s) (masks s) (lists s) (modes s) (linkIds s) (owners s) (kinds s)
 
 pub fresh-sound : (s : List ℕ) → layoutOk s ≡ true → rowsOf s ≡ true → isSound (freshOf s) ≡ true
-unfolding fresh soundAses aspIds masks modes linkIds owners kinds
+unfolding fresh soundAses soundKinds soundLists aspIds masks lists modes linkIds owners kinds
 fresh-sound s h g =
     let l = layout s h in
     let n = count s 0 in
     let m = count s 1 in
     let k = count s 2 in
-    let r = rows n m k (aspIds s) (masks s) (spares s) (modes s) (linkIds s) (owners s) (kinds s) g in
+    let r = rows n m k (aspIds s) (masks s) (lists s) (modes s) (linkIds s) (owners s) (kinds s) g in
     whole (freshOf s) (counts-in s l)
-    (fresh-asps n m k (aspIds s) (masks s) (spares s) (modes s) (linkIds s) (owners s) (kinds s) r (column-blank 16 n _))
-    (all-of _ 16 (fresh-as n m k (aspIds s) (masks s) (spares s) (modes s) (linkIds s) (owners s) (kinds s) r (column-blank 16 n _) (column-blank 16 m _)))
-    (fresh-links n m k (aspIds s) (masks s) (spares s) (modes s) (linkIds s) (owners s) (kinds s) r (l .links) (column-blank 128 k _) (column-blank 128 k _))
-    (fresh-kinds n m k (aspIds s) (masks s) (spares s) (modes s) (linkIds s) (owners s) (kinds s) r (column-blank 128 k _))
+    (fresh-asps n m k (aspIds s) (masks s) (lists s) (modes s) (linkIds s) (owners s) (kinds s) r (column-blank 16 n _))
+    (all-of _ 16 (fresh-as n m k (aspIds s) (masks s) (lists s) (modes s) (linkIds s) (owners s) (kinds s) r (column-blank 16 n _) (column-blank 16 m _)))
+    (fresh-links n m k (aspIds s) (masks s) (lists s) (modes s) (linkIds s) (owners s) (kinds s) r (l .links) (column-blank 128 k _) (column-blank 128 k _))
+    (fresh-flags (kinds s) k 128 (r .sorted) (column-blank 128 k _))
+    (fresh-flags (lists s) n 16 (r .ruled) (column-blank 16 n _))
     (no-units-sound (freshOf s .waiting) (freshOf s .iid) (freshOf s .owner) (freshOf s .links))
 
 -- a loaded plan gives a sound state

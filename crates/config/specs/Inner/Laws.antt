@@ -14,7 +14,7 @@ use Rattle.laws.specs.Columns.{numberAt}
 use Rattle.laws.specs.Inner.Columns.{getD-tabulate}
 use Rattle.laws.specs.Inner.Every.{and-left, and-right}
 use Rattle.gateway.specs.Sound.{blankFrom, allUnder, differs, ascends}
-use Rattle.config.specs.Plan.{offset, count, follow, layoutOk, column, modesOk, masksOk, sparesOk, linkKinds, rowsOk}
+use Rattle.config.specs.Plan.{offset, count, follow, layoutOk, column, modesOk, masksOk, linkKinds, listRules, rowsOk}
 
 -- the counts are within their limits, and each body starts where the one before it ends
 pub record Layout (s : List ℕ) : Type 0 where
@@ -87,21 +87,21 @@ column-blank places n f = all-of _ places (λ i b. rw (getD-tabulate places (λ 
     go i false = refl
 
 -- the rows, condition by condition
-pub record Rows (asps ases links : ℕ) (aspid mask spare mode iid owner kind : List ℕ) : Type 0 where
+pub record Rows (asps ases links : ℕ) (aspid mask list mode iid owner kind : List ℕ) : Type 0 where
   pub traffic : modesOk mode ases ≡ true
   pub inside : masksOk mask asps ases ≡ true
-  pub zero : sparesOk spare asps ≡ true
+  pub ruled : allUnder list listRules asps ≡ true
   pub differ : allBelow (differs aspid) asps ≡ true
   pub order : ascends iid links ≡ true
   pub owned : allUnder owner ases links ≡ true
   pub sorted : allUnder kind linkKinds links ≡ true
 
-pub rows : (asps ases links : ℕ) (aspid mask spare mode iid owner kind : List ℕ) → rowsOk asps ases links aspid mask spare mode iid owner kind ≡ true → Rows asps ases links aspid mask spare mode iid owner kind
+pub rows : (asps ases links : ℕ) (aspid mask list mode iid owner kind : List ℕ) → rowsOk asps ases links aspid mask list mode iid owner kind ≡ true → Rows asps ases links aspid mask list mode iid owner kind
 unfolding rowsOk
-rows asps ases links aspid mask spare mode iid owner kind h =
+rows asps ases links aspid mask list mode iid owner kind h =
     let a = modesOk mode ases in
     let b = masksOk mask asps ases in
-    let c = sparesOk spare asps in
+    let c = allUnder list listRules asps in
     let d = allBelow (differs aspid) asps in
     let e = ascends iid links in
     let f = allUnder owner ases links in
@@ -112,7 +112,7 @@ rows asps ases links aspid mask spare mode iid owner kind h =
     record {
       traffic = and-left a (b && c) l;
       inside = and-left b c (and-right a (b && c) l);
-      zero = and-right b c (and-right a (b && c) l);
+      ruled = and-right b c (and-right a (b && c) l);
       differ = and-left d (e && (f && g)) r;
       order = and-left e (f && g) t;
       owned = and-left f g (and-right e (f && g) t);

@@ -16,7 +16,7 @@ use Rattle.gateway.specs.Sound.{zeros}
 use Rattle.gateway.specs.declared.Gateway.{Gateway}
 use Rattle.config.specs.declared.Loaded.{Loaded}
 use Rattle.config.specs.declared.Places.{Places}
-use Rattle.config.specs.Plan.{offset, count, layoutOk, column, aspWords, asWords, linkWords, high, low, bit, members, linkKinds, rowsOk, fresh, refused, accepted, built, loadOf, aspIds, masks, spares, modes, linkIds, owners, kinds}
+use Rattle.config.specs.Plan.{offset, count, layoutOk, column, aspWords, asWords, linkWords, high, low, bit, members, linkKinds, listRules, rowsOk, fresh, refused, accepted, built, loadOf, aspIds, masks, lists, modes, linkIds, owners, kinds}
 use Rattle.config.specs.Inner.Laws.{layout, rows}
 use Rattle.config.specs.Inner.Tables.{wordOf, byteOf, Same, Bytes, column-zero, word-byte, low-byte, high-byte, same-bytes, mode-bytes, under-bytes}
 
@@ -38,12 +38,12 @@ pub record Inside (t : Places) (long : ℕ) : Type 0 where
   pub second : t .y ≤ 4096
   pub third : t .z ≤ 4096
 
--- masks and spares of the rows there
+-- masks and rules for lists of the rows there
 abbrev masksAt : List ℕ → Places → List ℕ
 masksAt s t = column 16 (t .asps) (λ p. high (wordOf s (t .x + 4) 8 p))
 
-abbrev sparesAt : List ℕ → Places → List ℕ
-sparesAt s t = column 16 (t .asps) (λ p. low (wordOf s (t .x + 4) 8 p))
+abbrev listsAt : List ℕ → Places → List ℕ
+listsAt s t = column 16 (t .asps) (λ p. low (wordOf s (t .x + 4) 8 p))
 
 -- owners and kinds
 abbrev ownersAt : List ℕ → Places → List ℕ
@@ -55,17 +55,18 @@ kindsAt s t = column 128 (t .links) (λ l. high (wordOf s (t .z + 4) 8 l))
 -- whether the rows there are in order, and the state that they give
 unfoldable pub rowsAt : List ℕ → Places → Bool
 rowsAt s t =
-    rowsOk (t .asps) (t .ases) (t .links) (aspWords s (t .x) (t .asps)) (masksAt s t) (sparesAt s t)
+    rowsOk (t .asps) (t .ases) (t .links) (aspWords s (t .x) (t .asps)) (masksAt s t) (listsAt s t)
     (asWords s (t .y) (t .ases)) (linkWords s (t .z) (t .links)) (ownersAt s t) (kindsAt s t)
 
 unfoldable pub stateAt : List ℕ → Places → Gateway
 stateAt s t =
-    fresh (t .asps) (t .ases) (t .links) (aspWords s (t .x) (t .asps)) (masksAt s t) (asWords s (t .y) (t .ases))
+    fresh (t .asps) (t .ases) (t .links) (aspWords s (t .x) (t .asps)) (masksAt s t) (listsAt s t) (asWords s (t .y) (t .ases))
     (linkWords s (t .z) (t .links)) (ownersAt s t) (kindsAt s t)
 
--- modes, owners and kinds there are bytes: the last of a word, and those of its halves
+-- modes, rules for lists, owners and kinds there are bytes: the last of a word, and those of its halves
 pub record AllBytes (s : List ℕ) (t : Places) : Type 0 where
   pub modes : Same (byteOf s (t .y + 3) 4) (wordOf s (t .y) 4) (t .ases)
+  pub lists : Same (byteOf s (t .x + 7) 8) (λ p. low (wordOf s (t .x + 4) 8 p)) (t .asps)
   pub owners : Same (byteOf s (t .z + 7) 8) (λ l. low (wordOf s (t .z + 4) 8 l)) (t .links)
   pub kinds : Same (byteOf s (t .z + 5) 8) (λ l. high (wordOf s (t .z + 4) 8 l)) (t .links)
 
@@ -117,7 +118,7 @@ inside-nowhere long =
 
 bytes-nowhere : (s : List ℕ) → AllBytes s nowhere
 unfolding nowhere
-bytes-nowhere s = record { modes = λ i b. absurd (omega arith); owners = λ i b. absurd (omega arith); kinds = λ i b. absurd (omega arith) }
+bytes-nowhere s = record { modes = λ i b. absurd (omega arith); lists = λ i b. absurd (omega arith); owners = λ i b. absurd (omega arith); kinds = λ i b. absurd (omega arith) }
 
 bytes-of : (s : List ℕ) (t : Places) → Bytes s → Inside t (length s) → rowsAt s t ≡ true → AllBytes s t
 unfolding rowsAt
@@ -125,8 +126,9 @@ bytes-of s t z i h =
     let r = rows _ _ _ _ _ _ _ _ _ _ h in
     record {
       modes = same-bytes s (t .ases) (t .y) 3 4 (t .y + 3) (λ x. x) refl (word-byte s) (mode-bytes (t .ases) (wordOf s (t .y) 4) (i .ases) (r .traffic));
-      owners = same-bytes s (t .links) (t .z + 4) 3 8 (t .z + 7) low (omega arith) (low-byte s z) (under-bytes (t .links) (t .ases) (λ l. low (wordOf s (t .z + 4) 8 l)) (i .links) (i .ases) (r .owned));
-      kinds = same-bytes s (t .links) (t .z + 4) 1 8 (t .z + 5) high (omega arith) (high-byte s z) (under-bytes (t .links) linkKinds (λ l. high (wordOf s (t .z + 4) 8 l)) (i .links) (omega arith) (r .sorted));
+      lists = same-bytes s (t .asps) (t .x + 4) 3 8 (t .x + 7) low (omega arith) (low-byte s z) (under-bytes 16 (t .asps) listRules (λ p. low (wordOf s (t .x + 4) 8 p)) (i .asps) (omega arith) (r .ruled));
+      owners = same-bytes s (t .links) (t .z + 4) 3 8 (t .z + 7) low (omega arith) (low-byte s z) (under-bytes 128 (t .links) (t .ases) (λ l. low (wordOf s (t .z + 4) 8 l)) (i .links) (i .ases) (r .owned));
+      kinds = same-bytes s (t .links) (t .z + 4) 1 8 (t .z + 5) high (omega arith) (high-byte s z) (under-bytes 128 (t .links) linkKinds (λ l. high (wordOf s (t .z + 4) 8 l)) (i .links) (omega arith) (r .sorted));
     }
 
 -- what is taken over lies within the file, and is bytes
@@ -163,11 +165,17 @@ no-members f =
 state-nowhere : (s : List ℕ) → stateAt s nowhere ≡ zeros
 unfolding stateAt fresh nowhere zeros
 state-nowhere s =
-    rw (column-zero 16 (λ p. be 4 s (0 + 8 * p)), no-members (λ p. high (be 4 s (0 + 4 + 8 * p))), column-zero 16 (λ a. be 4 s (0 + 4 * a)), column-zero 128 (λ l. be 4 s (0 + 8 * l)), column-zero 128 (λ l. low (be 4 s (0 + 4 + 8 * l))), column-zero 128 (λ l. high (be 4 s (0 + 4 + 8 * l))))
+    rw (column-zero 16 (λ p. be 4 s (0 + 8 * p)), no-members (λ p. high (be 4 s (0 + 4 + 8 * p))), column-zero 16 (λ p. low (be 4 s (0 + 4 + 8 * p))), column-zero 16 (λ a. be 4 s (0 + 4 * a)), column-zero 128 (λ l. be 4 s (0 + 8 * l)), column-zero 128 (λ l. low (be 4 s (0 + 4 + 8 * l))), column-zero 128 (λ l. high (be 4 s (0 + 4 + 8 * l))))
+
+-- the state of columns is that of the rows where they are the rows'
+pub of-rows : (code asps ases links : ℕ) {aspid mask list mode iid owner kind aspid′ mask′ list′ mode′ iid′ owner′ kind′ : List ℕ}
+    → aspid ≡ aspid′ → mask ≡ mask′ → list ≡ list′ → mode ≡ mode′ → iid ≡ iid′ → owner ≡ owner′ → kind ≡ kind′
+    → made code (fresh asps ases links aspid mask list mode iid owner kind) ≡ made code (fresh asps ases links aspid′ mask′ list′ mode′ iid′ owner′ kind′)
+of-rows code asps ases links p q r s t u v = rw (p, q, r, s, t, u, v)
 
 -- the answer is that of the rules
 pub answer : (s : List ℕ) → made (codeOf s) (stateAt s (takenOf s (codeOf s))) ≡ loadOf s
-unfolding loadOf built codeOf takenOf stateAt rowsAt placesOf aspIds masks spares modes linkIds owners kinds
+unfolding loadOf built codeOf takenOf stateAt rowsAt placesOf aspIds masks lists modes linkIds owners kinds
 answer s = go (layoutOk s) (rowsAt s (placesOf s))
   where
     go : (u v : Bool) → made (cond u (cond v 0 202) 201) (stateAt s (takenOf s (cond u (cond v 0 202) 201))) ≡ cond u (cond v (accepted (stateAt s (placesOf s))) (refused 202)) (refused 201)

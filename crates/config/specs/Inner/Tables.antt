@@ -18,7 +18,7 @@ use Rattle.laws.specs.Columns.{numberAt}
 use Rattle.laws.specs.Inner.Columns.{is-tabulate, HalfCol}
 use Rattle.wire.specs.Number.{be}
 use Rattle.gateway.specs.Sound.{ascends, allUnder}
-use Rattle.config.specs.Plan.{high, low, column, bitsFrom, modesOk, masksOk, sparesOk, linkKinds}
+use Rattle.config.specs.Plan.{high, low, column, bitsFrom, modesOk, masksOk, linkKinds, listRules}
 use Rattle.config.specs.Inner.Laws.{column-at, mode-small, under-small}
 
 -- the word of row i, if that of the first row stands at a position
@@ -71,11 +71,17 @@ pub modes-read : (n : ℕ) (f : ℕ → ℕ) → n ≤ 16 → allBelow (λ i. le
 unfolding modesOk
 modes-read n f b = all-ext _ _ n (λ i l. rw (column-at 16 n f i l b))
 
-pub masks-read : (n m : ℕ) (f : ℕ → ℕ) → n ≤ 16 → allBelow (λ p. eqb (bitsFrom (high (f p)) m) 0 && eqb (low (f p)) 0) n ≡ (masksOk (column 16 n (λ p. high (f p))) n m && sparesOk (column 16 n (λ p. low (f p))) n)
-unfolding masksOk sparesOk
+under-read : (places n m : ℕ) (f : ℕ → ℕ) → n ≤ places → allBelow (λ i. ltb (f i) m) n ≡ allUnder (column places n f) m n
+unfolding allUnder
+under-read places n m f b = all-ext (λ i. ltb (f i) m) (λ i. ltb (numberAt (column places n f) i) m) n (λ i h. rw (column-at places n f i h b))
+
+pub masks-read : (n m : ℕ) (f : ℕ → ℕ) → n ≤ 16
+    → allBelow (λ p. eqb (bitsFrom (high (f p)) m) 0 && ltb (low (f p)) listRules) n
+    ≡ (masksOk (column 16 n (λ p. high (f p))) n m && allUnder (column 16 n (λ p. low (f p))) listRules n)
+unfolding masksOk
 masks-read n m f b =
-    all-two (λ p. eqb (bitsFrom (high (f p)) m) 0) (λ p. eqb (low (f p)) 0) n
-    ∙ rw (all-ext (λ p. eqb (bitsFrom (high (f p)) m) 0) (λ p. eqb (bitsFrom (numberAt (column 16 n (λ p. high (f p))) p) m) 0) n (λ p l. rw (column-at 16 n (λ p. high (f p)) p l b)), all-ext (λ p. eqb (low (f p)) 0) (λ p. eqb (numberAt (column 16 n (λ p. low (f p))) p) 0) n (λ p l. rw (column-at 16 n (λ p. low (f p)) p l b)))
+    all-two (λ p. eqb (bitsFrom (high (f p)) m) 0) (λ p. ltb (low (f p)) listRules) n
+    ∙ rw (all-ext (λ p. eqb (bitsFrom (high (f p)) m) 0) (λ p. eqb (bitsFrom (numberAt (column 16 n (λ p. high (f p))) p) m) 0) n (λ p l. rw (column-at 16 n (λ p. high (f p)) p l b)), under-read 16 n listRules (λ p. low (f p)) b)
 
 pub floor-none : (f : ℕ → ℕ) → floorOf f 0 ≡ 0
 unfolding floorOf
@@ -105,15 +111,11 @@ ids-read (suc k) f b =
     rw (e, sym (add-one k))
     (floors f k ∙ all-ext (λ l. ltb (f l) (f (l + 1))) (λ l. ltb (numberAt (column 128 (k + 1) f) l) (numberAt (column 128 (k + 1) f) (l + 1))) k (λ l h. rw (column-at 128 (k + 1) f l (omega arith) (omega arith), column-at 128 (k + 1) f (l + 1) (omega arith) (omega arith))))
 
-under-read : (n m : ℕ) (f : ℕ → ℕ) → n ≤ 128 → allBelow (λ l. ltb (f l) m) n ≡ allUnder (column 128 n f) m n
-unfolding allUnder
-under-read n m f b = all-ext (λ l. ltb (f l) m) (λ l. ltb (numberAt (column 128 n f) l) m) n (λ l h. rw (column-at 128 n f l h b))
-
 pub links-read : (n m : ℕ) (f g : ℕ → ℕ) → n ≤ 128
     → (allBelow (λ l. leb (floorOf f l) (f l) && ltb (low (g l)) m) n && allBelow (λ l. ltb (high (g l)) linkKinds) n)
     ≡ (ascends (column 128 n f) n && (allUnder (column 128 n (λ l. low (g l))) m n && allUnder (column 128 n (λ l. high (g l))) linkKinds n))
 links-read n m f g b =
-    rw (all-two (λ l. leb (floorOf f l) (f l)) (λ l. ltb (low (g l)) m) n, ids-read n f b, under-read n m (λ l. low (g l)) b, under-read n linkKinds (λ l. high (g l)) b)
+    rw (all-two (λ l. leb (floorOf f l) (f l)) (λ l. ltb (low (g l)) m) n, ids-read n f b, under-read 128 n m (λ l. low (g l)) b, under-read 128 n linkKinds (λ l. high (g l)) b)
     (assoc (ascends (column 128 n f) n) (allUnder (column 128 n (λ l. low (g l))) m n) (allUnder (column 128 n (λ l. high (g l))) linkKinds n))
   where
     assoc : (u v w : Bool) → ((u && v) && w) ≡ (u && (v && w))
@@ -160,9 +162,9 @@ pub same-bytes : (s : List ℕ) (n at k row from : ℕ) (h : ℕ → ℕ) → fr
     → AllIn (λ i. h (wordOf s at row i)) n 256 → Same (byteOf s from row) (λ i. h (wordOf s at row i)) n
 same-bytes s n at k row from h e z b i l = ap (λ j. getD s j 0) (omega (arith, e)) ∙ z (at + row * i) (b i l)
 
--- the modes, owners and kinds of good rows are bytes
+-- the modes of good rows are bytes, and so are rules, owners and kinds
 pub mode-bytes : (n : ℕ) (f : ℕ → ℕ) → n ≤ 16 → modesOk (column 16 n f) n ≡ true → AllIn f n 256
 mode-bytes n f b h i l = omega (arith, column-at 16 n f i l b, mode-small (column 16 n f) n h i l)
 
-pub under-bytes : (n m : ℕ) (f : ℕ → ℕ) → n ≤ 128 → m ≤ 16 → allUnder (column 128 n f) m n ≡ true → AllIn f n 256
-under-bytes n m f b k h i l = omega (arith, column-at 128 n f i l b, under-small (column 128 n f) m n h i l)
+pub under-bytes : (places n m : ℕ) (f : ℕ → ℕ) → n ≤ places → m ≤ 16 → allUnder (column places n f) m n ≡ true → AllIn f n 256
+under-bytes places n m f b k h i l = omega (arith, column-at places n f i l b, under-small (column places n f) m n h i l)

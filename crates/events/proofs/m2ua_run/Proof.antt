@@ -33,7 +33,7 @@ abbrev start : tie.After-asked → tie.Start
 start c = c .before .before .before .before
 
 abbrev to-asked-from : tie.After-sound-of → tie.After-asked
-to-asked-from c = c .before .before .before .before .before .before .before .before .before .before .before .before .before .before .before .before .before .before
+to-asked-from c = c .before .before .before .before .before .before .before .before .before .before .before .before .before .before .before .before .before .before .before
 
 abbrev to-sound : tie.After-refused → tie.After-sound-of
 to-sound c = c .before .before .before .before
@@ -42,7 +42,7 @@ abbrev to-asked : tie.After-refused → tie.After-asked
 to-asked c = to-asked-from (to-sound c)
 
 abbrev to-wide : tie.After-decided → tie.After-wide
-to-wide c = c .before .before .before .before .before .before .before .before .before .before .before .before .before
+to-wide c = c .before .before .before .before .before .before .before .before .before .before .before .before .before .before
 
 abbrev to-refused : tie.After-decided → tie.After-refused
 to-refused c = to-wide c .before .before .before
@@ -110,7 +110,7 @@ module _ (c : tie.After-decided) where
       let g = first-one .args .g in
       let w = to-wide c .wide .ensures in
       decided
-      (c .decided .ensures .on g (record { links-is = sym w; aspid-is = refl; up-is = refl; member-is = refl; active-is = refl; mode-is = refl; waiting-is = refl; count-is = refl; iid-is = refl; owner-is = refl; state-is = refl; highspeed-is = refl }))
+      (c .decided .ensures .on g (record { links-is = sym w; aspid-is = refl; up-is = refl; member-is = refl; active-is = refl; mode-is = refl; waiting-is = refl; count-is = refl; iid-is = refl; owner-is = refl; state-is = refl; highspeed-is = refl; wholelists-is = refl }))
       (to-asked (to-refused c) .asked .ensures .effect g)
 
   takes : 4 < c .decided .result .what → Taken (c .decided .result) (numberAt (first-one .args .g .held .count) (c .decided .result .link)) (first-one .args .kind) (first-one .args .i) (first-one .args .msg .now)
@@ -118,7 +118,7 @@ module _ (c : tie.After-decided) where
 
 decided-requires : tie.Need-decided-requires
 decided-requires c κs =
-    let e = c .before .before .before .before .before .before .before .before .before .before .before .before in
+    let e = c .before .before .before .before .before .before .before .before .before .before .before .before .before in
     let r = e .before .before .before in
     let z = e .before .if1 .left in
     let w = e .wide .ensures in

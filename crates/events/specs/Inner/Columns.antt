@@ -6,7 +6,7 @@ use mathlib.Core.List.{List}
 use Rattle.gateway.specs.declared.Gateway.{Gateway}
 
 -- the state g has these columns
-pub record AskColumns (links : ℕ) (aspid up member active mode waiting count iid owner state highspeed : List ℕ) (g : Gateway) : Type 0 where
+pub record AskColumns (links : ℕ) (aspid up member active mode waiting count iid owner state highspeed wholelists : List ℕ) (g : Gateway) : Type 0 where
   pub links-is : g .links ≡ links
   pub aspid-is : g .aspid ≡ aspid
   pub up-is : g .up ≡ up
@@ -19,3 +19,4 @@ pub record AskColumns (links : ℕ) (aspid up member active mode waiting count i
   pub owner-is : g .owner ≡ owner
   pub state-is : g .state ≡ state
   pub highspeed-is : g .highspeed ≡ highspeed
+  pub wholelists-is : g .wholelists ≡ wholelists

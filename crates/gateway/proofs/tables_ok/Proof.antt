@@ -14,8 +14,11 @@ ases-ok-requires c κs = c .before .before .before .places .ensures
 flags-within-requires : tie.Need-flags-within-requires
 flags-within-requires c κs = (c .before .before .before .before .before .before .before .places .ensures, search needs, search needs)
 
+flags-within-requires-2 : tie.Need-flags-within-requires-2
+flags-within-requires-2 c κs = (c .before .before .before .before .before .before .before .before .before .before .places .ensures, search needs, search needs)
+
 returns : tie.Need-returns
-returns c = joined _ _ _ _ _ _ _ (c .before .before .before .before .before .before .before .before .before .counts-ok .ensures) refl (c .before .before .before .before .before .before .asps-ok .ensures) (c .before .before .before .before .ases-ok .ensures) (c .before .before .before .links-ok .ensures) (c .flags-within .ensures)
+returns c = joined _ _ _ _ _ _ _ _ (c .before .before .before .before .before .before .before .before .before .before .before .before .counts-ok .ensures) refl (c .before .before .before .before .before .before .before .before .before .asps-ok .ensures) (c .before .before .before .before .before .before .before .ases-ok .ensures) (c .before .before .before .before .before .before .links-ok .ensures) (c .before .before .before .flags-within .ensures) (c .flags-within2 .ensures)
 
 pub tables-ok-spec : {M : Type 1} → statement M
-tables-ok-spec = tie.close (tie.spec (search needs) (search needs) asps-ok-requires ases-ok-requires (search needs) flags-within-requires returns)
+tables-ok-spec = tie.close (tie.spec (search needs) (search needs) asps-ok-requires ases-ok-requires (search needs) flags-within-requires flags-within-requires-2 returns)

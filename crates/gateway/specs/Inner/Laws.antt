@@ -12,7 +12,7 @@ use Rattle.laws.specs.Below.{allBelow}
 use Rattle.laws.specs.Columns.{numberAt, isSet}
 use Rattle.laws.specs.Inner.Every.{and-left, and-right}
 use Rattle.gateway.specs.declared.Gateway.{Gateway}
-use Rattle.gateway.specs.Sound.{pair, countsIn, blankFrom, flagIf, flagWithin, soundAsps, memberAt, activeAt, soundRow, activeIn, modeAt, waitingAt, overrideAt, soundAs, soundAses, ascends, allUnder, soundLinks, soundKinds, soundTables, soundUnits, isSound, zeros}
+use Rattle.gateway.specs.Sound.{pair, countsIn, blankFrom, flagIf, flagWithin, soundAsps, memberAt, activeAt, soundRow, activeIn, modeAt, waitingAt, overrideAt, soundAs, soundAses, ascends, allUnder, soundLinks, soundKinds, soundLists, soundTables, soundUnits, isSound, zeros}
 use Rattle.gateway.specs.Laws.{Limits}
 
 pub limits : (n m k : ℕ) → countsIn n m k ≡ true → Limits n m k
@@ -37,6 +37,7 @@ pub record Parts (g : Gateway) : Type 0 where
   pub inAses : soundAses (g .up) (g .member) (g .active) (g .mode) (g .waiting) (g .asps) (g .ases) ≡ true
   pub inLinks : soundLinks (g .iid) (g .owner) (g .state) (g .ases) (g .links) ≡ true
   pub inKinds : soundKinds (g .highspeed) (g .links) ≡ true
+  pub inLists : soundLists (g .wholelists) (g .asps) ≡ true
   pub inUnits : soundUnits (g .held) (g .waiting) (g .iid) (g .owner) (g .links) ≡ true
 
 module _ (g : Gateway) where
@@ -58,6 +59,9 @@ module _ (g : Gateway) where
   abbrev kindsOf : Bool
   kindsOf = soundKinds (g .highspeed) (g .links)
 
+  abbrev listsOf : Bool
+  listsOf = soundLists (g .wholelists) (g .asps)
+
   abbrev unitsIn : Bool
   unitsIn = soundUnits (g .held) (g .waiting) (g .iid) (g .owner) (g .links)
 
@@ -65,32 +69,34 @@ module _ (g : Gateway) where
   unfolding isSound soundTables
   parts i =
       let h = and-left (soundTables g) unitsIn i in
-      let c = and-left (countsOf && spareOf) (aspsOf && (asesOf && (linksOf && kindsOf))) h in
-      let r = and-right (countsOf && spareOf) (aspsOf && (asesOf && (linksOf && kindsOf))) h in
-      let s = and-right aspsOf (asesOf && (linksOf && kindsOf)) r in
-      let l = and-right asesOf (linksOf && kindsOf) s in
+      let c = and-left (countsOf && spareOf) (aspsOf && (asesOf && (linksOf && (kindsOf && listsOf)))) h in
+      let r = and-right (countsOf && spareOf) (aspsOf && (asesOf && (linksOf && (kindsOf && listsOf)))) h in
+      let s = and-right aspsOf (asesOf && (linksOf && (kindsOf && listsOf))) r in
+      let l = and-right asesOf (linksOf && (kindsOf && listsOf)) s in
+      let f = and-right linksOf (kindsOf && listsOf) l in
       record {
         counts = limits (g .asps) (g .ases) (g .links) (and-left countsOf spareOf c);
         counted = c;
-        inAsps = and-left aspsOf (asesOf && (linksOf && kindsOf)) r;
-        inAses = and-left asesOf (linksOf && kindsOf) s;
-        inLinks = and-left linksOf kindsOf l;
-        inKinds = and-right linksOf kindsOf l;
+        inAsps = and-left aspsOf (asesOf && (linksOf && (kindsOf && listsOf))) r;
+        inAses = and-left asesOf (linksOf && (kindsOf && listsOf)) s;
+        inLinks = and-left linksOf (kindsOf && listsOf) l;
+        inKinds = and-left kindsOf listsOf f;
+        inLists = and-right kindsOf listsOf f;
         inUnits = and-right (soundTables g) unitsIn i;
       }
 
   -- the same together
-  pub whole : (countsOf && spareOf) ≡ true → aspsOf ≡ true → asesOf ≡ true → linksOf ≡ true → kindsOf ≡ true → unitsIn ≡ true → isSound g ≡ true
+  pub whole : (countsOf && spareOf) ≡ true → aspsOf ≡ true → asesOf ≡ true → linksOf ≡ true → kindsOf ≡ true → listsOf ≡ true → unitsIn ≡ true → isSound g ≡ true
   unfolding isSound soundTables
-  whole p q r s k t = rw (p, q, r, s, k, t)
+  whole p q r s k w t = rw (p, q, r, s, k, w, t)
 
   -- groups that were tested for counts within the tables
-  pub joined : (c e x y z k : Bool) → c ≡ countsOf → e ≡ spareOf → (g .asps ≤ 16 → x ≡ aspsOf) → (g .ases ≤ 16 → y ≡ asesOf) → (g .links ≤ 128 → z ≡ linksOf) → k ≡ allBelow (flagWithin (g .highspeed) (g .links)) 128 → ((c && e) && (x && (y && (z && k)))) ≡ soundTables g
-  unfolding soundTables soundKinds
-  joined true e x y z k h s p q r t =
+  pub joined : (c e x y z k w : Bool) → c ≡ countsOf → e ≡ spareOf → (g .asps ≤ 16 → x ≡ aspsOf) → (g .ases ≤ 16 → y ≡ asesOf) → (g .links ≤ 128 → z ≡ linksOf) → k ≡ allBelow (flagWithin (g .highspeed) (g .links)) 128 → w ≡ allBelow (flagWithin (g .wholelists) (g .asps)) 16 → ((c && e) && (x && (y && (z && (k && w))))) ≡ soundTables g
+  unfolding soundTables soundKinds soundLists
+  joined true e x y z k w h s p q r t u =
       let l = limits (g .asps) (g .ases) (g .links) (sym h) in
-      rw (← h, s, p (l .asps), q (l .ases), r (l .links), t)
-  joined false e x y z k h s p q r t = rw (← h)
+      rw (← h, s, p (l .asps), q (l .ases), r (l .links), t, u)
+  joined false e x y z k w h s p q r t u = rw (← h)
 
 -- identifiers strictly ascending, from each to the next and so from any to any later
 pub ascends-next : (c : List ℕ) (n : ℕ) → ascends c n ≡ true → (l : ℕ) → l + 1 < n → numberAt c l < numberAt c (l + 1)

@@ -14,8 +14,8 @@ use Rattle.gateway.specs.declared.Units.{Units}
 use Rattle.gateway.specs.Sound.{soundTables, noUnits, sized, unitsOk, blankAt, allUnits, soundUnits}
 
 -- the state of the columns that it lends
-abbrev pub gatewayOf : ℕ → ℕ → ℕ → ℕ → List ℕ → List ℕ → List ℕ → List ℕ → List ℕ → List ℕ → List ℕ → List ℕ → List ℕ → List ℕ → Units → Gateway
-gatewayOf asps ases links spare aspid up member active mode waiting iid owner state highspeed held =
+abbrev pub gatewayOf : ℕ → ℕ → ℕ → ℕ → List ℕ → List ℕ → List ℕ → List ℕ → List ℕ → List ℕ → List ℕ → List ℕ → List ℕ → List ℕ → List ℕ → Units → Gateway
+gatewayOf asps ases links spare aspid up member active mode waiting iid owner state highspeed wholelists held =
     record {
       asps = asps;
       ases = ases;
@@ -31,13 +31,14 @@ gatewayOf asps ases links spare aspid up member active mode waiting iid owner st
       owner = owner;
       state = state;
       highspeed = highspeed;
+      wholelists = wholelists;
       held = held;
     }
 
 -- its tables
-abbrev pub soundTablesOf : ℕ → ℕ → ℕ → ℕ → List ℕ → List ℕ → List ℕ → List ℕ → List ℕ → List ℕ → List ℕ → List ℕ → List ℕ → List ℕ → Bool
-soundTablesOf asps ases links spare aspid up member active mode waiting iid owner state highspeed =
-    soundTables (gatewayOf asps ases links spare aspid up member active mode waiting iid owner state highspeed noUnits)
+abbrev pub soundTablesOf : ℕ → ℕ → ℕ → ℕ → List ℕ → List ℕ → List ℕ → List ℕ → List ℕ → List ℕ → List ℕ → List ℕ → List ℕ → List ℕ → List ℕ → Bool
+soundTablesOf asps ases links spare aspid up member active mode waiting iid owner state highspeed wholelists =
+    soundTables (gatewayOf asps ases links spare aspid up member active mode waiting iid owner state highspeed wholelists noUnits)
 
 -- the units of the columns that a state lends
 abbrev pub unitsOf : List ℕ → List ℕ → List ℕ → List ℕ → List ℕ → List ℕ → Units

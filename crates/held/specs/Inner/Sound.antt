@@ -10,10 +10,10 @@ use Rattle.gateway.specs.Sound.{isLinkOf, isSound}
 use Rattle.gateway.specs.Inner.Sound.{gatewayOf, unitsOf}
 
 -- the state of the columns that it lends
-abbrev pub isSoundOf : ℕ → ℕ → ℕ → ℕ → List ℕ → List ℕ → List ℕ → List ℕ → List ℕ → List ℕ → List ℕ → List ℕ → List ℕ
+abbrev pub isSoundOf : ℕ → ℕ → ℕ → ℕ → List ℕ → List ℕ → List ℕ → List ℕ → List ℕ → List ℕ → List ℕ → List ℕ → List ℕ → List ℕ
     → List ℕ → List ℕ → List ℕ → List ℕ → List ℕ → List ℕ → List ℕ → Bool
-isSoundOf asps ases links spare aspid up member active mode waiting iid owner state highspeed count tag length marked id correlation =
-    isSound (gatewayOf asps ases links spare aspid up member active mode waiting iid owner state highspeed (unitsOf count tag length marked id correlation))
+isSoundOf asps ases links spare aspid up member active mode waiting iid owner state highspeed wholelists count tag length marked id correlation =
+    isSound (gatewayOf asps ases links spare aspid up member active mode waiting iid owner state highspeed wholelists (unitsOf count tag length marked id correlation))
 
 -- n places of three columns, or of two, are zero
 abbrev pub narrowAt : List ℕ → List ℕ → List ℕ → ℕ → ℕ → Bool

@@ -202,7 +202,7 @@ module _ (g : Gateway) (k : Change) (named : List Bool) (h : isSound g ≡ true)
       whole (withChange g k named) (parts g h .counted) asps-kept
       (all-of (soundAs (upAfter k (g .up)) (g .member) (withChange g k named .active) (g .mode) (withChange g k named .waiting) (g .asps) (g .ases)) 16
       (λ a b. tested (upAfter k (g .up)) (g .member) (withChange g k named .active) (g .mode) (withChange g k named .waiting) (g .asps) (g .ases) a (after-as a b)))
-      (parts g h .inLinks) (parts g h .inKinds)
+      (parts g h .inLinks) (parts g h .inKinds) (parts g h .inLists)
       (units-changed g k named (parts g h .inUnits))
 
 -- ---- kind by kind
@@ -259,7 +259,7 @@ links-kept iid owner state ases links l v b w h =
     go i (no z) e = rw (getD-set-other state l i v 0 (λ y. omega arith)) e
 
 pub keeps-link : (g : Gateway) (l v : ℕ) → isSound g ≡ true → l < g .links → v < 4 → isSound (withLink g l v) ≡ true
-keeps-link g l v h b w = whole (withLink g l v) (parts g h .counted) (parts g h .inAsps) (parts g h .inAses) (links-kept (g .iid) (g .owner) (g .state) (g .ases) (g .links) l v b w (parts g h .inLinks)) (parts g h .inKinds) (parts g h .inUnits)
+keeps-link g l v h b w = whole (withLink g l v) (parts g h .counted) (parts g h .inAsps) (parts g h .inAses) (links-kept (g .iid) (g .owner) (g .state) (g .ases) (g .links) l v b w (parts g h .inLinks)) (parts g h .inKinds) (parts g h .inLists) (parts g h .inUnits)
 
 -- ---- a unit more
 
@@ -267,5 +267,5 @@ pub keeps-unit : (g : Gateway) (a : ℕ) (x : Arrival) → isSound g ≡ true �
 keeps-unit g a x h b w room good =
     let z = parts g h in
     let s = sizes (g .held) (g .waiting) (g .iid) (g .owner) (g .links) (z .inUnits) in
-    whole (withUnit g a x) (z .counted) (z .inAsps) (z .inAses) (z .inLinks) (z .inKinds)
+    whole (withUnit g a x) (z .counted) (z .inAsps) (z .inAses) (z .inLinks) (z .inKinds) (z .inLists)
     (units-joined (g .held) (withUnit g a x .held) (g .waiting) (g .iid) (g .owner) (g .links) a x b w room good (joined-with (g .held) a x s b room) (sized-with (g .held) a x s) (z .inUnits))

@@ -1,7 +1,7 @@
 -- The entries of a value in order: the first that refuses, and the ASes that they name.
 -- Assumes nothing.
 use Prim.Native.Nat.{ℕ, zero, suc, _+_, _*_, _-_, _<_, _≤_}
-use mathlib.Core.Path.{_≡_, refl, _∙_, sym}
+use mathlib.Core.Path.{_≡_, refl, ap, _∙_, sym, subst}
 use mathlib.Core.Bool.{Bool, true, false, _||_}
 use mathlib.Core.List.{List}
 use native.Mathlib.Omega.{arith}
@@ -21,24 +21,8 @@ use Rattle.lookup.specs.Inner.Links.{index-own}
 use Rattle.ranges.specs.declared.Refused.{Refused}
 use Rattle.ranges.specs.Named.{ownerOf, isOwnedBy, nothing, refusing, firstIn, someIn, firstOf, width, startAt, stopAt, entries, refusedEntry, someEntry, refusedIn, someOf}
 use Rattle.ranges.specs.Inner.Laws.{Table}
-use Rattle.ranges.specs.Inner.Refused.{good-none, good-more, refuses-at, none-refused, not-found}
-
--- ---- the first answer that refuses
-
-module _ (f : ℕ → Refused) where
-  pub first-none : firstOf f 0 ≡ nothing
-  unfolding firstOf
-  first-none = refl
-
-  module _ (i : ℕ) (h : firstOf f i ≡ nothing) where
-    first-more : f i ≡ nothing → firstOf f (i + 1) ≡ nothing
-    unfolding firstOf
-    first-more e = rw (add-one, h) e
-
-    first-found : f i .found ≡ true → (k : ℕ) → firstOf f (i + 1 + k) ≡ f i
-    unfolding firstOf
-    first-found e zero = rw (add-zero, add-one, h)
-    first-found e (suc k) = rw (add-suc (i + 1) k, first-found e k, e)
+use Rattle.ranges.specs.Inner.Refused.{not-found}
+use Rattle.ranges.specs.Inner.Names.{earlier, earlier-again, earlier-nothing, Plain, plain-earlier}
 
 -- ---- an entry: it lies within the value, and an identifier alone ends where it starts
 
@@ -73,20 +57,14 @@ flags-none good pairs s old e = is-tabulate false old 16 (λ a. flagAt old a || 
 
 -- entry i, from start to stop
 module _ (pairs : Bool) (s : List ℕ) (i start stop : ℕ) (p : start ≡ startAt pairs s i) (q : stop ≡ stopAt pairs s i) where
-  module _ (bad : ℕ → Bool) (h : firstOf (refusedEntry bad pairs s) i ≡ nothing) (r : Refused) (e : r ≡ firstIn bad start stop) where
-    entry-is : r ≡ refusedEntry bad pairs s i
-    unfolding refusedEntry
-    entry-is = e ∙ rw (p, q)
-
-    pub entry-good : r .found ≡ false → firstOf (refusedEntry bad pairs s) (i + 1) ≡ nothing
-    unfolding refusedEntry
-    entry-good f = first-more (refusedEntry bad pairs s) i h (not-found bad (startAt pairs s i) (stopAt pairs s i) (rw entry-is at f))
-
-    pub entry-refused : r .found ≡ true → i < entries pairs s → r ≡ refusedIn bad pairs s
-    unfolding refusedIn
-    entry-refused f b =
-        let z : i + 1 + (entries pairs s - (i + 1)) ≡ entries pairs s = omega arith in
-        entry-is ∙ sym (rw z at (first-found (refusedEntry bad pairs s) i h (rw entry-is at f) (entries pairs s - (i + 1))))
+  -- what was refused before, or the entry's first
+  pub refused-more : (bad : ℕ → Bool) (old r next : Refused) → r ≡ earlier old (firstOf (refusedEntry bad pairs s) i) → next ≡ earlier r (firstIn bad start stop) → next ≡ earlier old (firstOf (refusedEntry bad pairs s) (i + 1))
+  unfolding firstOf refusedEntry earlier
+  refused-more bad old r next h e =
+      rw add-one
+      (e
+      ∙ (λ y. earlier (h y) (firstIn bad (p y) (q y)))
+      ∙ earlier-again old (firstOf (refusedEntry bad pairs s) i) (refusedEntry bad pairs s i))
 
   pub flags-more : (good : ℕ → ℕ → Bool) (old r next : List Bool) → r ≡ Flags good pairs s old i → next ≡ tabulate 16 (λ a. flagAt r a || someIn (good a) start stop) → next ≡ Flags good pairs s old (i + 1)
   unfolding Flags someEntry
@@ -97,39 +75,30 @@ module _ (pairs : Bool) (s : List ℕ) (i start stop : ℕ) (p : start ≡ start
 
 -- past the last entry
 module _ (pairs : Bool) (s : List ℕ) (i : ℕ) (e : i ≡ entries pairs s) where
-  pub entries-good : (bad : ℕ → Bool) → firstOf (refusedEntry bad pairs s) i ≡ nothing → nothing ≡ refusedIn bad pairs s
+  pub refused-end : (bad : ℕ → Bool) (old r : Refused) → r ≡ earlier old (firstOf (refusedEntry bad pairs s) i) → r ≡ earlier old (refusedIn bad pairs s)
   unfolding refusedIn
-  entries-good bad h = rw e at (sym h)
+  refused-end bad old r h = h ∙ rw e
 
   pub flags-end : (good : ℕ → ℕ → Bool) (old r : List Bool) → r ≡ Flags good pairs s old i → r ≡ tabulate 16 (λ a. flagAt old a || someOf (good a) pairs s)
   unfolding Flags someOf
   flags-end good old r h = h ∙ rw e
 
--- ---- an identifier alone is a range of one
+-- ---- before the first entry, and where nothing was found
 
-pub alone-refused : (bad : ℕ → Bool) (x : ℕ) → bad x ≡ true → refusing x ≡ firstIn bad x x
-alone-refused bad x e = refuses-at bad x x (omega arith) (good-none bad x) x (omega arith) e
+module _ (bad : ℕ → Bool) (pairs : Bool) (s : List ℕ) where
+  plain-first : (i : ℕ) → Plain (firstOf (refusedEntry bad pairs s) i)
+  unfolding firstOf refusedEntry earlier
+  plain-first zero = λ e. refl
+  plain-first (suc i) = plain-earlier (firstOf (refusedEntry bad pairs s) i) (refusedEntry bad pairs s i) (not-found bad (startAt pairs s i) (stopAt pairs s i))
 
-pub alone-good : (bad : ℕ → Bool) (x : ℕ) → bad x ≡ false → nothing ≡ firstIn bad x x
-alone-good bad x e = none-refused bad x x x refl (good-more bad x x (omega arith) (good-none bad x) e)
+  pub plain-in : Plain (refusedIn bad pairs s)
+  unfolding refusedIn
+  plain-in = plain-first (entries pairs s)
 
-alone-some : (good : ℕ → Bool) (x : ℕ) → someIn good x x ≡ good x
-unfolding someIn anyBelow
-alone-some good x =
-    let z : x + 1 - x ≡ 1 = omega arith in
-    let y : x + 0 ≡ x = omega arith in
-    rw (z, y)
+  module _ (old : Refused) where
+    pub refused-none : Plain old → old ≡ earlier old (firstOf (refusedEntry bad pairs s) 0)
+    unfolding firstOf
+    refused-none h = sym (earlier-nothing old h)
 
--- where it stands at l, it adds the flag of the owner o
-pub alone-marked : (iid owner : List ℕ) (links : ℕ) → Table iid owner links → (l x o : ℕ) → l < links → numberAt iid l ≡ x → o ≡ numberAt owner l → (r : List Bool) → length r ≡ 16 → set r o true ≡ tabulate 16 (λ a. flagAt r a || someIn (isOwnedBy iid owner links a) x x)
-unfolding isOwnedBy ownerOf known
-alone-marked iid owner links t l x o b z k r n =
-    is-tabulate false (set r o true) 16 (λ a. flagAt r a || someIn (isOwnedBy iid owner links a) x x) (length-set r o true ∙ n)
-    (λ a c. rw (alone-some (isOwnedBy iid owner links a) x, owned a) (go a c (ℕ-discrete a o)))
-  where
-    owned : (a : ℕ) → isOwnedBy iid owner links a x ≡ eqb o a
-    owned a = let i : indexOf iid links x ≡ l = rw z at (index-own iid links (t .order) l b) in rw (i, lt-ltb l links b, k)
-
-    go : (a : ℕ) → a < 16 → Dec (a ≡ o) → flagAt (set r o true) a ≡ (flagAt r a || eqb o a)
-    go a c (yes e) = rw (e, eq-eqb o o refl) (getD-set-same r o true false (omega (arith, n)) ∙ or-true (flagAt r o))
-    go a c (no e) = getD-set-other r o a true false e ∙ rw (ne-eqb o a (λ w. e (sym w))) (or-none (flagAt r a))
+    pub refused-plain : (i : ℕ) (r : Refused) → r ≡ earlier old (firstOf (refusedEntry bad pairs s) i) → Plain r
+    refused-plain i r e = subst Plain (sym e) (plain-earlier old (firstOf (refusedEntry bad pairs s) i) (plain-first i))

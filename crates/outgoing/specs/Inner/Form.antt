@@ -19,9 +19,10 @@ use Rattle.select.specs.declared.Which.the-variants.{Nothing, All, Mode, Ids, H
 use Rattle.gateway.specs.declared.Gateway.{Gateway}
 use Rattle.action.specs.declared.Action.{Action}
 use Rattle.action.specs.Types.{mgmtError, mgmtNotify, beatAck, aspUpAck, aspDownAck, aspActiveAck, aspInactiveAck, userData, dataAck}
-use Rattle.rules.specs.Event.{EventKind, message, lost, recovery, linkUp, linkDown, linkMessage, messageOf}
+use Rattle.rules.specs.Event.{EventKind, message, lost, recovery, linkUp, linkDown, linkMessage}
 use Rattle.rules.specs.Sent.{isPassed}
-use Rattle.outgoing.specs.Message.{numberPar, idsOf, idsPar, errorPars, notifyPars, trafficAckPars, beatAckPars, linkPars, heldBody, unitPars, replyPars, sentPars}
+use Rattle.outgoing.specs.Message.{numberPar, listPar, idsOf, idsPar, errorPars, notifyPars, trafficAckPars, beatAckPars, linkPars, heldBody, unitPars, replyPars, sentPars}
+use Rattle.outgoing.specs.Inner.Stands.{isTrafficAck, StandsFor, stands-none, Lends}
 use Rattle.outgoing.specs.declared.Form.{Form}
 use Rattle.outgoing.specs.declared.Unit.{Unit}
 
@@ -39,7 +40,7 @@ unfoldable pub idsIn : List ℕ → List ℕ → ℕ → ℕ → List ℕ
 idsIn iid owner n a = concatBelow (idAt iid owner a) n
 
 unfoldable pub idsParIn : List ℕ → List ℕ → ℕ → ℕ → List Par
-idsParIn iid owner n a = cond (eqb (length (idsIn iid owner n a)) 0) [] (par 0x1 (idsIn iid owner n a) ∷ [])
+idsParIn iid owner n a = listPar (idsIn iid owner n a)
 
 -- the data of a unit, whose body is lent, and the second number
 unfoldable pub heldPars : List ℕ → Form → List Par
@@ -198,8 +199,8 @@ pub form-passed : (g : Gateway) (ps : List Par) (body : List ℕ) (o : Action) (
 unfolding formOf
 form-passed g ps body o u = copying-pars (g .iid) (g .owner) (g .links) ps body (o .classtype) All Nothing ∙ none-after ps (only (picks All) ps) ∙ only-all ps
 
--- each answer of the gateway, by its message; i is the index of the unit that it sends
-module _ (g : Gateway) (h : List ℕ) (ps : List Par) (i : ℕ) (o : Action) where
+-- each answer of the gateway, by its message; i is the index of the unit that it sends, and the parameters ps that are lent stand for those received, rs
+module _ (g : Gateway) (h : List ℕ) (rs ps : List Par) (i : ℕ) (o : Action) (w : StandsFor g rs ps o) where
   abbrev on : Form → List Par
   on f = formPars (g .iid) (g .owner) (g .links) ps (heldBody g h i) f
 
@@ -214,13 +215,12 @@ module _ (g : Gateway) (h : List ℕ) (ps : List Par) (i : ℕ) (o : Action) whe
   none-is : on (copying (o .classtype) Nothing Nothing) ≡ []
   none-is = copying-pars (g .iid) (g .owner) (g .links) ps (heldBody g h i) (o .classtype) Nothing Nothing ∙ none-twice ps
 
-  beat-is : on (copying (o .classtype) Heartbeat Nothing) ≡ beatAckPars ps
+  beat-is : eqb (o .classtype) beatAck ≡ true → on (copying (o .classtype) Heartbeat Nothing) ≡ beatAckPars rs
   unfolding beatAckPars
-  beat-is = copying-pars (g .iid) (g .owner) (g .links) ps (heldBody g h i) (o .classtype) Heartbeat Nothing ∙ none-after ps (only (picks Heartbeat) ps)
+  beat-is e = copying-pars (g .iid) (g .owner) (g .links) ps (heldBody g h i) (o .classtype) Heartbeat Nothing ∙ none-after ps (only (picks Heartbeat) ps) ∙ w .beats e
 
-  traffic-is : on (copying (o .classtype) Mode Ids) ≡ trafficAckPars ps
-  unfolding trafficAckPars
-  traffic-is = copying-pars (g .iid) (g .owner) (g .links) ps (heldBody g h i) (o .classtype) Mode Ids
+  traffic-is : isTrafficAck (o .classtype) ≡ true → on (copying (o .classtype) Mode Ids) ≡ trafficAckPars g (o .to) rs
+  traffic-is e = copying-pars (g .iid) (g .owner) (g .links) ps (heldBody g h i) (o .classtype) Mode Ids ∙ w .traffics e
 
   unit-is : on (releasing (o .classtype) (o .subject) (unitOf g i)) ≡ unitPars g h i o
   unfolding unitPars unitOf
@@ -230,11 +230,11 @@ module _ (g : Gateway) (h : List ℕ) (ps : List Par) (i : ℕ) (o : Action) whe
   unfolding linkPars
   link-is = saying-pars (g .iid) (g .owner) (g .links) ps (heldBody g h i) (o .classtype) 0x1 (o .subject) (eqb (o .classtype) dataAck) 0x13 (o .value)
 
-  pub form-reply : formPars (g .iid) (g .owner) (g .links) ps (heldBody g h i) (formOf false o (unitOf g i)) ≡ replyPars g h ps i o
+  pub form-reply : formPars (g .iid) (g .owner) (g .links) ps (heldBody g h i) (formOf false o (unitOf g i)) ≡ replyPars g h rs i o
   unfolding formOf replyPars
-  form-reply = go (eqb (o .classtype) mgmtError) (eqb (o .classtype) mgmtNotify) (eqb (o .classtype) aspUpAck || eqb (o .classtype) aspDownAck) (eqb (o .classtype) beatAck) (eqb (o .classtype) aspActiveAck || eqb (o .classtype) aspInactiveAck) (eqb (o .classtype) userData)
+  form-reply = go (eqb (o .classtype) mgmtError) (eqb (o .classtype) mgmtNotify) (eqb (o .classtype) aspUpAck || eqb (o .classtype) aspDownAck) (eqb (o .classtype) beatAck) (isTrafficAck (o .classtype)) (eqb (o .classtype) userData) refl refl
     where
-      go : (e n u b a d : Bool)
+      go : (e n u b a d : Bool) → eqb (o .classtype) beatAck ≡ b → isTrafficAck (o .classtype) ≡ a
           → on
           (cond e (saying (o .classtype) 0xc (o .value) (eqb (o .value) 2) 0x1 (o .subject))
           (cond n (listing (o .classtype) 0xd (o .value) (o .subject))
@@ -243,14 +243,14 @@ module _ (g : Gateway) (h : List ℕ) (ps : List Par) (i : ℕ) (o : Action) whe
           (cond a (copying (o .classtype) Mode Ids)
           (cond d (releasing (o .classtype) (o .subject) (unitOf g i))
           (saying (o .classtype) 0x1 (o .subject) (eqb (o .classtype) dataAck) 0x13 (o .value))))))))
-          ≡ cond e (errorPars o) (cond n (notifyPars g o) (cond u [] (cond b (beatAckPars ps) (cond a (trafficAckPars ps) (cond d (unitPars g h i o) (linkPars o))))))
-      go true n u b a d = error-is
-      go false true u b a d = notify-is
-      go false false true b a d = none-is
-      go false false false true a d = beat-is
-      go false false false false true d = traffic-is
-      go false false false false false true = unit-is
-      go false false false false false false = link-is
+          ≡ cond e (errorPars o) (cond n (notifyPars g o) (cond u [] (cond b (beatAckPars rs) (cond a (trafficAckPars g (o .to) rs) (cond d (unitPars g h i o) (linkPars o))))))
+      go true n u b a d x y = error-is
+      go false true u b a d x y = notify-is
+      go false false true b a d x y = none-is
+      go false false false true a d x y = beat-is x
+      go false false false false true d x y = traffic-is y
+      go false false false false false true x y = unit-is
+      go false false false false false false x y = link-is
 
 -- ---- each form that an action may have, and what it depends on
 
@@ -300,23 +300,23 @@ module _ (passed : Bool) (o : Action) (h : (eqb (o .classtype) userData && not p
   unfolding formPars saidPars heldPars
   other-pars iid owner n ps b c u = rw (no-unit u)
 
--- ---- of an event: the message whose parameters are repeated
+-- ---- of an event: the message lent
 
 pub no-pars : walk [] 8 .pars ≡ []
 unfolding walk walkF stepAt
 no-pars = refl
 
-module _ (g : Gateway) (h : List ℕ) (i : ℕ) (o : Action) where
-  no-message : replyPars g h [] i o ≡ formPars (g .iid) (g .owner) (g .links) (walk [] 8 .pars) (heldBody g h i) (formOf false o (unitOf g i))
-  no-message = rw no-pars (sym (form-reply g h [] i o))
+module _ (g : Gateway) (h : List ℕ) (i : ℕ) (o : Action) (x : List ℕ) where
+  no-message : x ≡ [] → replyPars g h [] i o ≡ formPars (g .iid) (g .owner) (g .links) (walk x 8 .pars) (heldBody g h i) (formOf false o (unitOf g i))
+  no-message e = rw (e, no-pars) (sym (form-reply g h [] [] i o (stands-none g o)))
 
-  pub sent-form : (k : EventKind) → sentPars g h k i o ≡ formPars (g .iid) (g .owner) (g .links) (walk (messageOf k) 8 .pars) (heldBody g h i) (formOf (isPassed k) o (unitOf g i))
-  sent-form (message p s) = sym (form-reply g h (walk s 8 .pars) i o)
-  sent-form (lost p) = no-message
-  sent-form (recovery a) = no-message
-  sent-form (linkUp l) = no-message
-  sent-form (linkDown l) = no-message
-  sent-form (linkMessage s) = sym (form-passed g (walk s 8 .pars) (heldBody g h i) o (unitOf g i))
+  pub sent-form : (k : EventKind) → Lends g k x o → sentPars g h k i o ≡ formPars (g .iid) (g .owner) (g .links) (walk x 8 .pars) (heldBody g h i) (formOf (isPassed k) o (unitOf g i))
+  sent-form (message p s) w = sym (form-reply g h (walk s 8 .pars) (walk x 8 .pars) i o w)
+  sent-form (lost p) e = no-message e
+  sent-form (recovery a) e = no-message e
+  sent-form (linkUp l) e = no-message e
+  sent-form (linkDown l) e = no-message e
+  sent-form (linkMessage s) e = rw e (sym (form-passed g (walk s 8 .pars) (heldBody g h i) o (unitOf g i)))
 
 -- the class of a form is the action's, whose classes are below 256
 pub form-class : (ct : ℕ) → ct < 65536 → classOf ct ≡ ct / 256

@@ -1,7 +1,7 @@
 -- What one pass over identifiers finds (Rule 7.8).
 -- Assumes nothing.
-use mathlib.Core.Path.{_≡_, ap, _∙_, sym}
-use mathlib.Core.Bool.{Bool, true, false, false≢true}
+use mathlib.Core.Path.{_≡_, refl, ap, _∙_, sym}
+use mathlib.Core.Bool.{Bool, true, false, cond, false≢true}
 use mathlib.Core.List.{List}
 use Prim.Native.Nat.{ℕ}
 use Rattle.sets.specs.Inner.Bits.{flagsOf}
@@ -9,18 +9,60 @@ use Rattle.ranges.specs.declared.Refused.{Refused}
 use Rattle.ranges.specs.declared.Named.{Named}
 use Rattle.ranges.specs.Named.{nothing, refusing}
 
--- the first refused identifier, and where there is none the owners' flags
+-- the one found before, if there is one, else the next
+unfoldable pub earlier : Refused → Refused → Refused
+earlier old next = cond (old .found) old next
+
+pub earlier-found : (old next : Refused) → old .found ≡ true → earlier old next ≡ old
+unfolding earlier
+earlier-found old next e = rw e
+
+pub earlier-none : (old next : Refused) → old .found ≡ false → earlier old next ≡ next
+unfolding earlier
+earlier-none old next e = rw e
+
+-- of one more that is refused: the first is one
+pub earlier-refusing : (old : Refused) (x : ℕ) → refusing (cond (old .found) (old .id) x) ≡ earlier old (refusing x)
+unfolding earlier
+earlier-refusing old x = go (old .found) refl
+  where
+    go : (u : Bool) → old .found ≡ u → refusing (cond u (old .id) x) ≡ cond u old (refusing x)
+    go true e = λ i. record { found = sym e i; id = old .id }
+    go false e = refl
+
+pub earlier-again : (x y z : Refused) → earlier (earlier x y) z ≡ earlier x (earlier y z)
+unfolding earlier
+earlier-again x y z = go (x .found) refl
+  where
+    go : (u : Bool) → x .found ≡ u → earlier (earlier x y) z ≡ earlier x (earlier y z)
+    go true e = rw e
+    go false e = rw e
+
+-- where nothing is found, the identifier is 0
+abbrev pub Plain : Refused → Type 0
+Plain x = x .found ≡ false → x ≡ nothing
+
+pub plain-earlier : (x y : Refused) → Plain y → Plain (earlier x y)
+unfolding earlier
+plain-earlier x y h = go (x .found) refl
+  where
+    go : (u : Bool) → x .found ≡ u → Plain (cond u x y)
+    go true e f = absurd (false≢true (sym f ∙ e))
+    go false e f = h f
+
+pub earlier-nothing : (x : Refused) → Plain x → earlier x nothing ≡ x
+unfolding earlier
+earlier-nothing x h = go (x .found) refl
+  where
+    go : (u : Bool) → x .found ≡ u → cond u x nothing ≡ x
+    go true e = refl
+    go false e = sym (h e)
+
+-- the first refused identifier, and the owners' flags
 pub record Names (r : Named) (first : Refused) (owners : List Bool) : Type 0 where
   pub refused : r .refused ≡ first
-  pub set : r .refused .found ≡ false → flagsOf (r .set) ≡ owners
+  pub set : flagsOf (r .set) ≡ owners
 
-module _ {r : Named} {first : Refused} {owners : List Bool} where
-  pub names-found : r .refused .found ≡ true → r .refused ≡ first → Names r first owners
-  names-found f e = record { refused = e; set = λ h. absurd (false≢true (sym h ∙ f)) }
-
-  pub names-refused : (x : ℕ) → r .refused ≡ refusing x → refusing x ≡ first → Names r first owners
-  names-refused x e f = names-found (ap (λ z. z .found) e) (e ∙ f)
-
-  -- what is handed back holds both
-  pub names-both : {f : Refused} {s : ℕ} → r .refused ≡ f → f ≡ first → r .set ≡ s → flagsOf s ≡ owners → Names r first owners
-  names-both e f g h = record { refused = e ∙ f; set = λ z. ap flagsOf g ∙ h }
+-- what is handed back holds both
+pub names-both : {r : Named} {first f : Refused} {owners : List Bool} {s : ℕ} → r .refused ≡ f → f ≡ first → r .set ≡ s → flagsOf s ≡ owners → Names r first owners
+names-both e f g h = record { refused = e ∙ f; set = ap flagsOf g ∙ h }

@@ -1,13 +1,13 @@
 -- Ranks, from one identifier to the next.
 -- Assumes nothing.
-use Prim.Native.Nat.{ℕ, _+_, _<_, _≤_}
+use Prim.Native.Nat.{ℕ, _+_, _-_, _<_, _≤_}
 use mathlib.Core.Path.{_≡_}
 use mathlib.Core.Bool.{true, false, _&&_}
 use mathlib.Core.List.{List}
 use native.Mathlib.Omega.{arith}
 use native.Mathlib.Decide.{decLt}
-use lib.Dec.{eqb, ltb}
-use borrow.Author.Tests.{eq-eqb, lt-ltb, ltb-true, eqb-true}
+use lib.Dec.{eqb, leb, ltb}
+use borrow.Author.Tests.{eq-eqb, lt-ltb, ltb-true, leb-true, eqb-true}
 use Rattle.laws.specs.Columns.{numberAt}
 use Rattle.laws.specs.Inner.Every.{and-left, and-right, and-both, clash}
 use Rattle.gateway.specs.Sound.{ascends}
@@ -61,3 +61,28 @@ module _ (iid : List ℕ) (links : ℕ) (h : ascends iid links ≡ true) (x : �
 
   pub past-not : (l : ℕ) → l ≡ rank iid links x → (ltb l links && eqb (numberAt iid l) x) ≡ false → l ≡ rank iid links (x + 1)
   past-not l e n = rank-same l e (λ b z. clash (ltb l links && eqb (numberAt iid l) x) n (and-both (ltb l links) (eqb (numberAt iid l) x) (lt-ltb l links b) (eq-eqb (numberAt iid l) x z)))
+
+  -- all of them, where the last is below x
+  pub rank-end : 0 < links → numberAt iid (links - 1) < x → links ≡ rank iid links x
+  rank-end some low = go (decLt (rank iid links x) links)
+    where
+      last : (l : ℕ) → l < links → numberAt iid l ≤ numberAt iid (links - 1)
+      last l b = at (decLt l (links - 1))
+        where
+          at : Dec (l < links - 1) → numberAt iid l ≤ numberAt iid (links - 1)
+          at (yes q) = let w = ascends-any iid links h l (links - 1) q (omega arith) in omega arith
+          at (no q) = let z : l ≡ links - 1 = omega arith in rw z (omega arith)
+
+      go : Dec (rank iid links x < links) → links ≡ rank iid links x
+      go (yes q) =
+          let r = rank iid links x in
+          let w : ⊥ = omega (arith, rank-from iid links h x r q (omega arith), last r q, low) in
+          absurd w
+      go (no q) = omega (arith, rank-most iid links h x)
+
+-- the same, where the last is not above x
+pub past-all : (iid : List ℕ) (links : ℕ) → ascends iid links ≡ true → (x : ℕ) → (ltb 0 links && leb (numberAt iid (links - 1)) x) ≡ true → (links ≡ rank iid links (x + 1)) × (links ≤ links)
+past-all iid links h x e =
+    let some = ltb-true 0 links (and-left (ltb 0 links) (leb (numberAt iid (links - 1)) x) e) in
+    let low = leb-true (numberAt iid (links - 1)) x (and-right (ltb 0 links) (leb (numberAt iid (links - 1)) x) e) in
+    (rank-end iid links h (x + 1) some (omega arith), omega arith)

@@ -16,9 +16,9 @@ use Rattle.gateway.specs.declared.Gateway.{Gateway}
 use Rattle.lookup.specs.Links.{indexOf, known}
 use Rattle.servers.specs.Changed.{columnOf}
 use Rattle.ranges.specs.Named.{isOwnedBy, ownerOf}
-use Rattle.traffic.specs.Inner.Named.{ownersPars, owners-is}
+use Rattle.traffic.specs.Inner.Named.{goodPars, good-is}
 use Rattle.rules.specs.Event.{Event}
-use Rattle.rules.specs.Identifiers.{isKnown, linkOf, isMember, ownsNamed, ownersNamed}
+use Rattle.rules.specs.Identifiers.{isKnown, linkOf, isMember, ownsGood, ownersGood}
 use Rattle.rules.specs.Rules.{refusal}
 use Rattle.rules.specs.Reach.{ownsId, kindReach, reach}
 use Rattle.ask.specs.Inner.Reach.{namedReach, otherReach}
@@ -33,9 +33,9 @@ use Rattle.reach.specs.Reached.{reached}
 unfoldable pub ownerRow : ℕ → List ℕ → List ℕ → ℕ → List Bool
 ownerRow links iid owner x = tabulate 16 (λ a. isOwnedBy iid owner links a x)
 
--- Active and Inactive: with identifiers the owners of the known ones, without any the ASes of p
+-- Active and Inactive: with identifiers the ASes of p that own a known one, without any all of them
 unfoldable pub namedRow : ℕ → List ℕ → List ℕ → List ℕ → ℕ → List ℕ → ℕ → List Bool
-namedRow links member iid owner p s ids = cond (eqb ids 1) (ownersPars (isOwnedBy iid owner links) (walk s 8 .pars)) (columnOf member p)
+namedRow links member iid owner p s ids = cond (eqb ids 1) (goodPars (isOwnedBy iid owner links) (columnOf member p) (walk s 8 .pars)) (columnOf member p)
 
 -- any other message of an ASP; wrong says that it is an Error
 unfoldable pub otherRow : ℕ → List ℕ → List ℕ → Bool → Reading → List Bool
@@ -88,13 +88,17 @@ module _ (g : Gateway) where
   unfolding ownerRow isOwnedBy ownerOf ownsId isKnown linkOf
   owner-row x = refl
 
+  all-of : (p : ℕ) → columnOf (g .member) p ≡ tabulate 16 (λ a. isMember g a p)
+  unfolding columnOf
+  all-of p = refl
+
   named-row : (p : ℕ) (s : List ℕ) (ids : ℕ) → namedRow (g .links) (g .member) (g .iid) (g .owner) p s ids ≡ tabulate 16 (namedReach g p s ids)
-  unfolding namedRow namedReach ownersNamed columnOf
+  unfolding namedRow namedReach ownersGood
   named-row p s ids = go (eqb ids 1)
     where
-      go : (u : Bool) → cond u (ownersPars (isOwnedBy (g .iid) (g .owner) (g .links)) (walk s 8 .pars)) (columnOf (g .member) p) ≡ tabulate 16 (λ a. cond u (ownsNamed g (walk s 8 .pars) a) (isMember g a p))
-      go true = sym (owners-is g (walk s 8 .pars))
-      go false = refl
+      go : (u : Bool) → cond u (goodPars (isOwnedBy (g .iid) (g .owner) (g .links)) (columnOf (g .member) p) (walk s 8 .pars)) (columnOf (g .member) p) ≡ tabulate 16 (λ a. cond u (ownsGood g p (walk s 8 .pars) a) (isMember g a p))
+      go true = sym (good-is g p (walk s 8 .pars))
+      go false = all-of p
 
   other-row : (wrong : Bool) (r : Reading) → otherRow (g .links) (g .iid) (g .owner) wrong r ≡ tabulate 16 (otherReach g wrong r)
   unfolding otherRow otherReach

@@ -11,7 +11,7 @@ use Rattle.laws.specs.Inner.Choice.{by-cond}
 use Rattle.wire.specs.Walk.{Par}
 use Rattle.message.specs.declared.Reading.{Reading}
 use Rattle.action.specs.declared.Action.{Action}
-use Rattle.action.specs.Types.{userData, releaseConfirm, releaseIndication}
+use Rattle.action.specs.Types.{userData, aspActiveAck, aspInactiveAck, releaseConfirm, releaseIndication}
 use Rattle.action.specs.Words.{action, linkSide, toAll}
 use Rattle.gateway.specs.Inner.Laws.{counts-within}
 use Rattle.gateway.specs.Sound.{isSound}
@@ -21,7 +21,7 @@ use Rattle.server.specs.declared.Change.the-variants.{AspUp, AspDown, Deactivat
 use Rattle.server.specs.Inner.Change.{fits}
 use Rattle.rules.specs.Event.{EventKind, message, lost, recovery, linkUp, linkDown, linkMessage}
 use Rattle.rules.specs.Effect.{Effect, send, setLink, changeIn}
-use Rattle.rules.specs.Asp.{upEffect, downEffect, lostEffect, activeEffect, inactiveEffect, trafficEffect}
+use Rattle.rules.specs.Asp.{upEffect, downEffect, lostEffect, activeEffect, inactiveEffect, partEffect, trafficEffect}
 use Rattle.rules.specs.Link.{establish, release, dataEffect, linkEffect, classSixEffect, toRecipients, linkUpEffect, linkDownEffect}
 use Rattle.rules.specs.Rules.{readEffect, messageEffect, effectOf, inPlan}
 use Rattle.rules.specs.Sent.{isData}
@@ -83,20 +83,29 @@ module _ {Q : Effect → Type 0} (f : Shapes Q) where
   ruleset shapes = (by-test, none, one, two, plain, to-link, refl)
 
   module _ (g : Gateway) (p : ℕ) (b : p < 16) where
-    traffic : (r : Reading) (ps : List Par) (act : List Bool → Effect) → ((named : List Bool) → Q (act named)) → Q (trafficEffect g p r ps act)
-    unfolding trafficEffect
-    traffic r ps act h = search (shapes, h) depth 12
+    -- what is done where nothing is told beside the Ack, and where one action is
+    traffic : (r : Reading) (ps : List Par) (act : List Action → List Bool → Effect) → ((named : List Bool) → Q (act [] named)) → ((x : Action) (named : List Bool) → isData x ≡ false → Q (act (x ∷ []) named)) → Q (trafficEffect g p r ps act)
+    unfolding trafficEffect partEffect
+    traffic r ps act h k = search (shapes, h, k) depth 16
 
     on : fits (Activate p) ≡ true
     on = lt-ltb p 16 b
 
-    active : (mode : ℕ) (named : List Bool) → Q (activeEffect g p mode named)
+    active : (mode : ℕ) (named : List Bool) → Q (activeEffect g p mode [] named)
     unfolding activeEffect
     active mode named = search (shapes, f .change-one, on) depth 8
 
-    inactive : (named : List Bool) → Q (inactiveEffect p named)
+    active-part : (mode : ℕ) (x : Action) (named : List Bool) → isData x ≡ false → Q (activeEffect g p mode (x ∷ []) named)
+    unfolding activeEffect
+    active-part mode x named e = let part = f .change-two (action p aspActiveAck 0 0) x true (Activate p) named (plain p aspActiveAck 0 0 refl) e on refl in search (shapes, part) depth 8
+
+    inactive : (named : List Bool) → Q (inactiveEffect p [] named)
     unfolding inactiveEffect
     inactive named = search (shapes, f .change-one) depth 8
+
+    inactive-part : (x : Action) (named : List Bool) → isData x ≡ false → Q (inactiveEffect p (x ∷ []) named)
+    unfolding inactiveEffect
+    inactive-part x named e = f .change-two (action p aspInactiveAck 0 0) x true (Deactivate p) named (plain p aspInactiveAck 0 0 refl) e refl refl
 
     up : (r : Reading) → Q (upEffect g p r)
     unfolding upEffect
@@ -112,7 +121,7 @@ module _ {Q : Effect → Type 0} (f : Shapes Q) where
 
     read : (s : List ℕ) (r : Reading) → Q (readEffect g p s r)
     unfolding readEffect
-    read s r = search (shapes, up, down, traffic, active, inactive, six) depth 16
+    read s r = search (shapes, up, down, traffic, active, active-part, inactive, inactive-part, six) depth 16
 
     pub of-message : (s : List ℕ) → Q (messageEffect g p s)
     unfolding messageEffect

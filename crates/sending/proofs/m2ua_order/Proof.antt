@@ -1,11 +1,12 @@
 -- `sending::m2ua_order`: the event's refusal, 104, 103, or the message. Assumes nothing.
 use Prim.Native.Nat.{ℕ, _<_}
-use mathlib.Core.Path.{_≡_, refl, ap, _∙_}
+use mathlib.Core.Path.{_≡_, refl, sym, ap, _∙_}
 use mathlib.Core.Bool.{Bool, true, cond, not, _&&_}
 use mathlib.Core.List.{List}
 use native.Mathlib.Omega.{arith}
 use lib.Dec.{eqb}
 use lib.ListN.{length}
+use lib.Seq.{length-take-le}
 use Rattle.laws.specs.Columns.{numberAt}
 use Rattle.put.specs.Bytes.{overlay}
 use Rattle.gateway.specs.Inner.Laws.{counts-within}
@@ -17,12 +18,13 @@ use Rattle.sent.specs.Inner.Units.{goneList, index-small, if-small}
 use Rattle.sent.specs.Inner.Made.{heldOf}
 use Rattle.sending.specs.Inner.Part.{partFrom, PutIf, put-as, put-none, put-done, put-length}
 use Rattle.sending.specs.Inner.There.{part-small}
+use Rattle.sending.specs.Inner.Parts.{isPartIn, good-ready, lends-called}
 use Rattle.sending.specs.Inner.Ran.{Ran, Found, found, no-101, ran, part-called, long-called, part-is, sends-refused, sends-beyond, sends-side, sends-short, sends-all}
 use borrow.Author.Needs.{needs}
 use Rattle.sending.proofs.m2ua_order.Statement.{statement}
 use Rattle.sending.proofs.m2ua_order.Tie as tie
 
--- the way back: to the call of the event, to the action, to the unit
+-- the way back: to the call of the event, to the action, to the unit, to the message lent
 abbrev start : tie.After-m2ua-run → tie.Start
 start c = c .before .before .before .before .before .before
 
@@ -32,11 +34,23 @@ to-run c = c .before .before .before .before .before .before .before .before
 abbrev to-action : tie.After-unit-for → tie.After-action-at
 to-action c = c .before .before .before .before .before .before .before .before .before
 
-abbrev to-unit : tie.After-received → tie.After-unit-for
-to-unit c = c .before .before
+abbrev to-unit : tie.After-wide → tie.After-unit-for
+to-unit c = c .before
 
-abbrev to-received : tie.After-put-new → tie.After-received
-to-received c = c .before .before .before .before .before .before .before .before .before
+abbrev to-wide : tie.After-in-part → tie.After-wide
+to-wide c = c .before .before
+
+abbrev to-part : tie.After-good-if → tie.After-in-part
+to-part c = c .before .before .before .before .before .before
+
+abbrev to-good : tie.After-repeated → tie.After-good-if
+to-good c = c .before .before
+
+abbrev back : tie.After-repeated → tie.After-wide
+back c = to-wide (to-part (to-good c))
+
+abbrev to-repeated : tie.After-put-new → tie.After-repeated
+to-repeated c = c .before .before .before .before .before .before .before .before .before
 
 abbrev the-event : tie.After-m2ua-run → EventKind
 the-event c = happened (start c .args .kind) (start c .args .i) (start c .args .msg .now)
@@ -65,15 +79,35 @@ unit-small c = rw (c .unit-for .ensures) (if-small (c .before .before .before .b
 abbrev sought : tie.After-action-at → List ℕ
 sought c = partAt (start (to-run c) .args .t1) (start (to-run c) .args .hold .now) (the-event (to-run c)) (start (to-run c) .args .place)
 
-written-at : (c : tie.After-received)
-    → partFrom (start (to-run (to-action (to-unit c))) .args .t1) (start (to-run (to-action (to-unit c))) .args .hold .now) (c .before .wide .result) (c .received .result .now) (passed (to-action (to-unit c))) (to-unit c .unit-for .result) (to-action (to-unit c) .action-at .result)
-    ≡ sought (to-action (to-unit c))
-written-at c = let u = to-unit c in
-    let z = start (to-run (to-action u)) .args in
-    part-called (z .t1) (z .hold .now) (z .kind) (z .i) (z .msg .now) (ran-at (to-action u)) (z .place) (to-action u .before .before .if2 .left) (c .before .wide .ensures) (c .received .ensures) (to-action u .action-at .ensures) (unit-at u)
+-- whether the good identifiers are lent
+in-part-at : (c : tie.After-in-part) → (eqb (start (to-run (to-action (to-unit (to-wide c)))) .args .kind) 0 && c .in-part .result) ≡ (eqb (start (to-run (to-action (to-unit (to-wide c)))) .args .kind) 0 && isPartIn (to-run (to-action (to-unit (to-wide c))) .m2ua-run .last .1 .1 .1 .1 .1 .1 .0) (to-run (to-action (to-unit (to-wide c))) .m2ua-run .result .count))
+in-part-at c = ap (λ (b : Bool). eqb (start (to-run (to-action (to-unit (to-wide c)))) .args .kind) 0 && b) (c .in-part .ensures)
 
-put-at : (c : tie.After-put-new) → PutIf (start (to-run (to-action (to-unit (to-received c)))) .args .out .now) 0 (sought (to-action (to-unit (to-received c)))) (c .put-new .result) (c .put-new .last .1 .1 .1 .1 .1 .1 .1 .1 .1 .0)
-put-at c = put-as (c .put-new .ensures) (written-at (to-received c)) refl refl
+written-at : (c : tie.After-repeated)
+    → partFrom (start (to-run (to-action (to-unit (back c)))) .args .t1) (start (to-run (to-action (to-unit (back c)))) .args .hold .now) (back c .wide .result) (c .repeated .result .now) (passed (to-action (to-unit (back c)))) (to-unit (back c) .unit-for .result) (to-action (to-unit (back c)) .action-at .result)
+    ≡ sought (to-action (to-unit (back c)))
+written-at c = let u = to-unit (back c) in
+    let z = start (to-run (to-action u)) .args in
+    let l = to-action u .before .before .if2 .left in
+    let t = ran-at (to-action u) in
+    part-called (z .t1) (z .hold .now) (z .kind) (z .i) (z .msg .now) t (z .place) l (c .repeated .result .now) (back c .wide .ensures)
+    (lends-called (z .t1) (z .hold .now) (z .kind) (z .i) (z .msg .now) t (back c .wide .ensures) (in-part-at (to-part (to-good c))) (c .repeated .result .now) (to-good c .good-if .ensures .1) (c .repeated .ensures) (z .place) l)
+    (to-action u .action-at .ensures) (unit-at u)
+
+put-at : (c : tie.After-put-new) → PutIf (start (to-run (to-action (to-unit (back (to-repeated c))))) .args .out .now) 0 (sought (to-action (to-unit (back (to-repeated c))))) (c .put-new .result) (c .put-new .last .1 .1 .1 .1 .1 .1 .1 .1 .1 .0)
+put-at c = put-as (c .put-new .ensures) (written-at (to-repeated c)) refl refl
+
+good-if-requires : tie.Need-good-if-requires
+good-if-requires c κs = let p = c .before .before .before .before .before in
+    let u = to-unit (to-wide p) in
+    let z = start (to-run (to-action u)) .args in
+    (search needs, good-ready (z .t1) (z .hold .now) (z .kind) (z .i) (z .msg .now) (ran-at (to-action u)) (to-wide p .wide .ensures) (in-part-at p))
+
+share-block : tie.Need-array-share-prefix-block
+share-block c = c .good-if .ensures .0
+
+count-block : tie.Need-slice-aggregate-repeated
+count-block c = sym (length-take-le _ _ (c .before .good-if .ensures .0))
 
 returns : tie.Need-returns
 returns c = let e = c .before .before .before .before in sends-refused _ _ _ _ _ _ (no-101 _ (start e .args .hold .now) (the-event e) refl (e .m2ua-run .ensures)) (c .if1 .taken)
@@ -92,11 +126,11 @@ unit-for-requires c κs = omega (arith, c .before .before .before .before .befor
 
 put-new-requires : tie.Need-put-new-requires
 put-new-requires c κs = let d = c .before .before .before .before .before .before .before .before in
-    let u = to-unit d in
+    let u = to-unit (back d) in
     let t = ran-at (to-action u) in
     let z = start (to-run (to-action u)) .args in
     record {
-      links = rw (d .before .wide .ensures) (counts-within _ (t .sound) .links);
+      links = rw (back d .wide .ensures) (counts-within _ (t .sound) .links);
       whole = t .whole;
       place = unit-small u;
       long = long-called (z .t1) (z .hold .now) (z .kind) (z .i) (z .msg .now) t (z .place) (to-action u .before .before .if2 .left) (to-action u .action-at .ensures) (unit-at u);
@@ -106,7 +140,7 @@ put-new-requires c κs = let d = c .before .before .before .before .before .befo
 
 returns-4 : tie.Need-returns-4
 returns-4 c = let d = c .before .before .before in
-    let u = to-unit (to-received d) in
+    let u = to-unit (back (to-repeated d)) in
     let f = found-at (to-action u) in
     let a = u .before .before .before .before .before .before .before .if3 .left in
     let w = put-at d in
@@ -115,7 +149,7 @@ returns-4 c = let d = c .before .before .before in
 
 returns-5 : tie.Need-returns-5
 returns-5 c = let d = c .before .before .before in
-    let u = to-unit (to-received d) in
+    let u = to-unit (back (to-repeated d)) in
     let f = found-at (to-action u) in
     let a = u .before .before .before .before .before .before .before .if3 .left in
     let w = put-at d in
@@ -127,4 +161,4 @@ m2ua-order-spec =
     tie.close
     (tie.spec
     (λ c. search needs) (λ c. search needs) (λ c κs. search needs) returns returns-2 action-at-requires returns-3 (λ c κs. search needs) unit-for-requires (λ c κs. search needs) (λ c κs. search needs)
-    put-new-requires (λ c. search needs) returns-4 (λ c. search needs) returns-5)
+    good-if-requires share-block count-block (λ c κs. search needs) put-new-requires (λ c. search needs) returns-4 (λ c. search needs) returns-5)

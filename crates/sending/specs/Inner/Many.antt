@@ -18,10 +18,10 @@ use Rattle.gateway.specs.declared.Gateway.{Gateway}
 use Rattle.rules.specs.Event.{EventKind}
 use Rattle.rules.specs.Rules.{inPlan, refusalOf, leastRoom}
 use Rattle.ask.specs.Happened.{happened}
-use Rattle.rules.specs.Sent.{actionsOn, isSent}
+use Rattle.rules.specs.Sent.{actionsOn, actionAt, isSent}
 use Rattle.outgoing.specs.Send.{partAt, parts, partLengths, endsAt, fitting, batchCode, SendsMany}
 use Rattle.outgoing.specs.declared.Batch.{Batch}
-use Rattle.outgoing.specs.Inner.Kinds.{lentBy}
+use Rattle.outgoing.specs.Inner.Stands.{Lends}
 use Rattle.sent.specs.Inner.Words.{dataIn}
 use Rattle.sent.specs.Inner.Units.{goneList, index-small}
 use Rattle.sending.specs.Inner.Part.{Lent, lentOf, partIn, Ready}
@@ -87,7 +87,7 @@ module _ (g : Gateway) (h : List ℕ) (k : EventKind) (n : ℕ) (lens out : List
 
 -- ---- what the code has lent
 
-module _ (g : Gateway) (h : List ℕ) (kind i : ℕ) (s : List ℕ) {count : ℕ} {ws : List ℕ} {after : Gateway} (t : Ran g h (happened kind i s) count ws after) {m : ℕ} {x list : List ℕ} (em : m ≡ g .links) (ex : x ≡ lentBy kind s) (el : list ≡ goneList (g .held .count) (after .held .count)) (n : ℕ) where
+module _ (g : Gateway) (h : List ℕ) (kind i : ℕ) (s : List ℕ) {count : ℕ} {ws : List ℕ} {after : Gateway} (t : Ran g h (happened kind i s) count ws after) (x : List ℕ) {m : ℕ} {list : List ℕ} (em : m ≡ g .links) (lends : (j : ℕ) → j < count → Lends g (happened kind i s) x (actionAt (actionsOn g (happened kind i s)) j)) (el : list ≡ goneList (g .held .count) (after .held .count)) (n : ℕ) where
   abbrev pub lentTo : Lent
   lentTo = lentOf (record { count = count; place = n; passed = eqb kind 5; links = m }) ws list x h (g .iid) (g .owner) (g .held .tag) (g .held .length) (g .held .marked) (g .held .correlation)
 
@@ -100,7 +100,7 @@ module _ (g : Gateway) (h : List ℕ) (kind i : ℕ) (s : List ℕ) {count : ℕ
   parts-called j = go (decLt j count)
     where
       go : Dec (j < count) → partIn lentTo j ≡ partAt g h (happened kind i s) j
-      go (yes l) = rw (lt-ltb j count l) (part-called g h kind i s t j l em ex refl (λ z. index-is j))
+      go (yes l) = rw (lt-ltb j count l) (part-called g h kind i s t j l x em (lends j l) refl (λ z. index-is j))
       go (no l) = rw (le-ltb j count (omega arith)) (sym (not-sent g h (happened kind i s) j (rw (le-ltb j (length (actionsOn g (happened kind i s))) (omega (arith, t .count-is))))))
 
   pub ready : n < count → g .links ≤ 128 → Ready lentTo

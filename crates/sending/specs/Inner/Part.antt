@@ -19,9 +19,10 @@ use Rattle.gateway.specs.declared.Gateway.{Gateway}
 use Rattle.action.specs.declared.Action.{Action}
 use Rattle.action.specs.Types.{userData}
 use Rattle.action.specs.Words.{linkSide}
-use Rattle.rules.specs.Event.{EventKind, messageOf}
+use Rattle.rules.specs.Event.{EventKind}
 use Rattle.rules.specs.Sent.{isData, isPassed}
 use Rattle.outgoing.specs.Message.{heldBody, sentPars, sentBytes}
+use Rattle.outgoing.specs.Inner.Stands.{Lends}
 use Rattle.outgoing.specs.Inner.Form.{formPars, classOf, typeOf, formOf, unitOf, sent-form, form-cases, form-class, other-form, other-pars}
 use Rattle.outgoing.specs.declared.Form.{Form}
 use Rattle.sending.specs.declared.Run.{Run}
@@ -182,15 +183,16 @@ no-data : (a b c : Bool) → b ≡ false → ((a && not b) && not c) ≡ false �
 no-data true b c e h = rw e at h
 no-data false b c e h = refl
 
--- o is an action of the event k that goes to an ASP, and u the index of the unit that it sends; the code has i, which may be another number where it sends none
-module _ (g : Gateway) (h : List ℕ) (k : EventKind) (u i : ℕ) (o : Action) (asp : eqb (o .to) linkSide ≡ false) (unit : heldOf (isPassed k) o ≡ true → i ≡ u) where
-  abbrev x : Sent
-  x = sentFrom g (isPassed k) i o
+-- o is an action of the event k that goes to an ASP, x the message lent for it, and u the index of the unit that it sends; the code has i, which may be another number
+-- where it sends none
+module _ (g : Gateway) (h : List ℕ) (k : EventKind) (x : List ℕ) (u i : ℕ) (o : Action) (lends : Lends g k x o) (asp : eqb (o .to) linkSide ≡ false) (unit : heldOf (isPassed k) o ≡ true → i ≡ u) where
+  abbrev y : Sent
+  y = sentFrom g (isPassed k) i o
 
   abbrev on : List ℕ → Form → List Par
-  on b f = formPars (g .iid) (g .owner) (g .links) (walk (messageOf k) 8 .pars) b f
+  on b f = formPars (g .iid) (g .owner) (g .links) (walk x 8 .pars) b f
 
-  shown-held : heldOf (isPassed k) o ≡ true → shown (messageOf k) h x ≡ heldBody g h i
+  shown-held : heldOf (isPassed k) o ≡ true → shown x h y ≡ heldBody g h i
   unfolding shown heldBody
   shown-held e =
       let f : i / 8 * 2184 + i % 8 * 273 ≡ i * 273 = omega arith in
@@ -201,19 +203,19 @@ module _ (g : Gateway) (h : List ℕ) (k : EventKind) (u i : ℕ) (o : Action) (
   unfolding isData
   plain e = no-data (eqb (o .classtype) userData) (eqb (o .to) linkSide) (isPassed k) asp e
 
-  pars-are : on (shown (messageOf k) h x) (formOf (isPassed k) o (unitOf g i)) ≡ sentPars g h k u o
-  pars-are = go (heldOf (isPassed k) o) refl ∙ sym (sent-form g h u o k)
+  pars-are : on (shown x h y) (formOf (isPassed k) o (unitOf g i)) ≡ sentPars g h k u o
+  pars-are = go (heldOf (isPassed k) o) refl ∙ sym (sent-form g h u o x k lends)
     where
-      go : (b : Bool) → heldOf (isPassed k) o ≡ b → on (shown (messageOf k) h x) (formOf (isPassed k) o (unitOf g i)) ≡ on (heldBody g h u) (formOf (isPassed k) o (unitOf g u))
+      go : (b : Bool) → heldOf (isPassed k) o ≡ b → on (shown x h y) (formOf (isPassed k) o (unitOf g i)) ≡ on (heldBody g h u) (formOf (isPassed k) o (unitOf g u))
       go true e = ap (λ (b : List ℕ). on b (formOf (isPassed k) o (unitOf g i))) (shown-held e) ∙ ap (λ (j : ℕ). on (heldBody g h j) (formOf (isPassed k) o (unitOf g j))) (unit e)
       go false e =
           let z = plain e in
-          other-pars (isPassed k) o z (g .iid) (g .owner) (g .links) (walk (messageOf k) 8 .pars) (shown (messageOf k) h x) (heldBody g h u) (unitOf g i)
+          other-pars (isPassed k) o z (g .iid) (g .owner) (g .links) (walk x 8 .pars) (shown x h y) (heldBody g h u) (unitOf g i)
           ∙ ap (λ (f : Form). on (heldBody g h u) f) (other-form (isPassed k) o z (unitOf g i) (unitOf g u))
 
-  pub sent-part : o .classtype < 65536 → partFrom g h (g .links) (messageOf k) (isPassed k) i o ≡ sentBytes g h k u o
+  pub sent-part : o .classtype < 65536 → partFrom g h (g .links) x (isPassed k) i o ≡ sentBytes g h k u o
   unfolding partOf sentBytes unitOf
   sent-part small =
-      let p = form-head x in
-      let c : formIn x .class ≡ o .classtype / 256 = p .0 ∙ form-class (o .classtype) small in
-      rw asp (λ y. encode (c y) (p .1 y) (pars-are y))
+      let p = form-head y in
+      let c : formIn y .class ≡ o .classtype / 256 = p .0 ∙ form-class (o .classtype) small in
+      rw asp (λ w. encode (c w) (p .1 w) (pars-are w))

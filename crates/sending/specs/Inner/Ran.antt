@@ -22,7 +22,8 @@ use Rattle.rules.specs.Inner.Accepted.{accepted}
 use Rattle.rules.specs.declared.Outcome.{Outcome}
 use Rattle.ask.specs.Happened.{happened, eventOf}
 use Rattle.action.specs.declared.Action.{Action}
-use Rattle.outgoing.specs.Inner.Kinds.{lentBy, kinds}
+use Rattle.outgoing.specs.Inner.Stands.{Lends}
+use Rattle.outgoing.specs.Inner.Kinds.{kinds}
 use Rattle.rules.specs.Sent.{actionsOn, actionAt, isSent, gone, dataBefore, unitFor}
 use Rattle.outgoing.specs.Send.{messageAt, sendCode, Sends, partAt}
 use Rattle.sent.specs.Inner.Words.{actionIn, action-in, dataIn, data-in}
@@ -80,16 +81,16 @@ module _ {g : Gateway} {h : List ℕ} {k : EventKind} {count : ℕ} {ws : List �
   unfolding unitFor
   unit-is = gone-at g after (dataIn ws j) ∙ (λ y. getD (gone g (t .state y)) (data-is y) 0)
 
--- what the code writes for the action at a place is what the rules say: it has the number of links, the message that goes out again, whether it is passed on, and the
--- unit that is sent, if one is
-pub part-called : (g : Gateway) (h : List ℕ) (kind i : ℕ) (s : List ℕ) {count : ℕ} {ws : List ℕ} {after : Gateway} → Ran g h (happened kind i s) count ws after → (j : ℕ) → j < count
-    → {m : ℕ} {x : List ℕ} {o : Action} {u : ℕ} → m ≡ g .links → x ≡ lentBy kind s → o ≡ actionIn ws j → (heldOf (eqb kind 5) o ≡ true → u ≡ numberAt (goneList (g .held .count) (after .held .count)) (dataIn ws j))
-    → partFrom g h m x (eqb kind 5) u o ≡ partAt g h (happened kind i s) j
-part-called g h kind i s t j there {m} {x} {o} {u} em ex eo eu =
+-- what the code writes for the action at a place is what the rules say: it has the number of links, the message lent for it, whether it is passed on, and the unit that
+-- is sent, if one is
+pub part-called : (g : Gateway) (h : List ℕ) (kind i : ℕ) (s : List ℕ) {count : ℕ} {ws : List ℕ} {after : Gateway} → Ran g h (happened kind i s) count ws after → (j : ℕ) → j < count → (x : List ℕ)
+    → {m : ℕ} {o : Action} {u : ℕ} → m ≡ g .links → Lends g (happened kind i s) x (actionAt (actionsOn g (happened kind i s)) j) → o ≡ actionIn ws j
+    → (heldOf (eqb kind 5) o ≡ true → u ≡ numberAt (goneList (g .held .count) (after .held .count)) (dataIn ws j)) → partFrom g h m x (eqb kind 5) u o ≡ partAt g h (happened kind i s) j
+part-called g h kind i s t j there x {m} {o} {u} em lends eo eu =
     let b = kinds kind i s in
     let e = eo ∙ action-is t j there in
-    (λ y. partFrom g h (em y) ((ex ∙ sym (b .0)) y) (sym (b .1) y) u (e y))
-    ∙ part-there g h (happened kind i s) j (t .sound) (t .planned) (below t j there) u (λ z. eu ((λ y. heldOf (sym (b .1) y) (e y)) ∙ z) ∙ unit-is t j there)
+    (λ y. partFrom g h (em y) x (sym (b .1) y) u (e y))
+    ∙ part-there g h (happened kind i s) j (t .sound) (t .planned) (below t j there) x u lends (λ z. eu ((λ y. heldOf (sym (b .1) y) (e y)) ∙ z) ∙ unit-is t j there)
 
 -- that unit has the length of a unit
 pub long-called : (g : Gateway) (h : List ℕ) (kind i : ℕ) (s : List ℕ) {count : ℕ} {ws : List ℕ} {after : Gateway} → Ran g h (happened kind i s) count ws after → (j : ℕ) → j < count

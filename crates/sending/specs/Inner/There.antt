@@ -16,11 +16,12 @@ use Rattle.gateway.specs.Sound.{isSound}
 use Rattle.gateway.specs.declared.Gateway.{Gateway}
 use Rattle.action.specs.declared.Action.{Action}
 use Rattle.action.specs.Words.{linkSide}
-use Rattle.rules.specs.Event.{EventKind, messageOf}
+use Rattle.rules.specs.Event.{EventKind}
 use Rattle.rules.specs.Rules.{inPlan}
 use Rattle.rules.specs.Sent.{actionsOn, actionAt, isSent, isData, unitFor, isPassed}
 use Rattle.releases.proofs.Releases.{every-unit}
 use Rattle.outgoing.specs.Send.{messageAt, partAt}
+use Rattle.outgoing.specs.Inner.Stands.{Lends}
 use Rattle.readable.proofs.Readable.{every-short}
 use Rattle.readable.proofs.Held.{kept}
 use Rattle.sent.specs.Inner.Made.{heldOf, Long}
@@ -65,13 +66,13 @@ module _ (g : Gateway) (h : List ℕ) (k : EventKind) (j : ℕ) where
           let f = kept g sound (unitFor g k j) (u .place) (u .held) in
           record { least = f .least; longest = f .most-bytes }
 
-      -- i is that unit, where it sends one
-      pub part-there : (i : ℕ) → (heldOf (isPassed k) o ≡ true → i ≡ unitFor g k j) → partFrom g h (g .links) (messageOf k) (isPassed k) i o ≡ partAt g h k j
+      -- x is lent for it, and i is that unit, where it sends one
+      pub part-there : (x : List ℕ) (i : ℕ) → Lends g k x o → (heldOf (isPassed k) o ≡ true → i ≡ unitFor g k j) → partFrom g h (g .links) x (isPassed k) i o ≡ partAt g h k j
       unfolding isSent messageAt
-      part-there i unit = go (eqb (o .to) linkSide) refl
+      part-there x i lends unit = go (eqb (o .to) linkSide) refl
         where
-          go : (b : Bool) → eqb (o .to) linkSide ≡ b → partFrom g h (g .links) (messageOf k) (isPassed k) i o ≡ partAt g h k j
+          go : (b : Bool) → eqb (o .to) linkSide ≡ b → partFrom g h (g .links) x (isPassed k) i o ≡ partAt g h k j
           go true e = to-side _ _ _ _ _ (sentFrom g (isPassed k) i o) e ∙ sym (not-sent (rw (lt-ltb j (length (actionsOn g k)) there, e)))
           go false e =
               let y : isSent (actionsOn g k) j ≡ true = rw (lt-ltb j (length (actionsOn g k)) there, e) in
-              sent-part g h k (unitFor g k j) i o e unit (omega (arith, class-small (o .classtype / 256) (every-short g h k j sound planned y .1))) ∙ sym (is-sent y)
+              sent-part g h k x (unitFor g k j) i o lends e unit (omega (arith, class-small (o .classtype / 256) (every-short g h k j sound planned y .1))) ∙ sym (is-sent y)

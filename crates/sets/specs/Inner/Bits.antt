@@ -3,13 +3,13 @@
 use mathlib.Core.Path.{_≡_, refl, sym, ap, ap₂, _∙_}
 use mathlib.Core.Bool.{Bool, true, false, cond, not, _||_, _&&_}
 use mathlib.Core.List.{List}
-use Prim.Native.Nat.{ℕ, zero, suc, _+_, _*_, _/_, _%_, _^_, _<_, _≤_, _-_, max}
+use Prim.Native.Nat.{ℕ, zero, suc, _+_, _*_, _/_, _%_, _^_, _<_, _≤_, _-_, max, min}
 use native.Mathlib.Nat.{max-le, mul-assoc}
 use native.Mathlib.Omega.{arith}
 use native.Mathlib.Decide.{ℕ-discrete, decLt}
 use lib.ListN.{length, getD, set, replicate, getD-replicate, length-set}
 use lib.Seq.{getD-set-same, getD-set-other}
-use lib.Bits.{bitOr, or-step, or-shr, or-zero-r, shifted-even}
+use lib.Bits.{bitAnd, bitOr, and-step, or-step, and-shr, or-shr, or-zero-r, shifted-even}
 use lib.Pow.{pow-add, pow-lt, shl-shr, shr-lt, mod-pow-add, mod-mod-pow, field}
 use lib.Dec.{eqb}
 use borrow.Author.Tests.{eq-eqb, eqb-true}
@@ -175,3 +175,31 @@ some-bits n =
     twice : (u : Bool) → u ≡ not (not u || false)
     twice true = refl
     twice false = refl
+
+-- ---- the ASes of both sets
+
+and-digit : (n m a : ℕ) → bitAnd n m / 2 ^ a % 2 ≡ min (n / 2 ^ a % 2) (m / 2 ^ a % 2)
+and-digit n m a =
+    let x = n / 2 ^ a in
+    let y = m / 2 ^ a in
+    let b : min (x % 2) (y % 2) ≤ 1 = two-digits (λ u v. min u v ≤ 1) (omega arith) (omega arith) (omega arith) (omega arith) (x % 2) (y % 2) (omega arith) (omega arith) in
+    let e : bitAnd x y % 2 ≡ min (x % 2) (y % 2) = omega (arith, and-step x y, b) in
+    rw (and-shr n m a) e
+
+bit-and : (n m a : ℕ) → bitAt (bitAnd n m) a ≡ (bitAt n a && bitAt m a)
+unfolding bitAt
+bit-and n m a =
+    ap (λ (x : ℕ). eqb x 1) (and-digit n m a)
+    ∙ two-digits (λ x y. eqb (min x y) 1 ≡ (eqb x 1 && eqb y 1)) refl refl refl refl (n / 2 ^ a % 2) (m / 2 ^ a % 2) (omega arith) (omega arith)
+
+pub flags-both : (n m : ℕ) → flagsOf (bitAnd n m) ≡ tabulate 16 (λ a. flagAt (flagsOf n) a && flagAt (flagsOf m) a)
+flags-both n m = is-tabulate false (flagsOf (bitAnd n m)) 16 (λ a. flagAt (flagsOf n) a && flagAt (flagsOf m) a) (flags-long (bitAnd n m)) (λ a b. flag-is (bitAnd n m) a b ∙ bit-and n m a ∙ sym (rw (flag-is n a b, flag-is m a b)))
+
+-- ---- none is in a set
+
+pub none-bits : (n : ℕ) → eqb (n % 65536) 0 ≡ not (anyBelow (flagAt (flagsOf n)) 16)
+none-bits n = again (eqb (n % 65536) 0) ∙ ap not (sym (some-bits n))
+  where
+    again : (u : Bool) → u ≡ not (not u)
+    again true = refl
+    again false = refl

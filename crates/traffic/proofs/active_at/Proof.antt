@@ -10,5 +10,4 @@ active-at-spec =
     (λ c κs. search needs)
     (λ c. search decisions depth 5)
     (λ c κs. search needs)
-    (λ c κs. search needs)
-    (λ c. by-no _ _ _ (c .before .before .if1 .left) (rw (c .before .to-asp .ensures) at (c .change-one .ensures))))
+    (λ c. by-no _ _ _ (c .before .if1 .left) (c .acked .ensures)))

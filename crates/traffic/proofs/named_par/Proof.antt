@@ -1,7 +1,7 @@
-use mathlib.Core.Path.{refl}
+use mathlib.Core.Path.{refl, sym}
 use borrow.Author.Needs.{needs}
 use borrow.Author.Tests.{eq-eqb, ne-eqb}
-use Rattle.ranges.specs.Inner.Names.{names-both}
+use Rattle.ranges.specs.Inner.Names.{earlier-nothing}
 use Rattle.ranges.specs.Inner.Owners.{looked-or}
 use Rattle.sets.specs.Inner.Bits.{flags-long}
 use Rattle.traffic.specs.Inner.Named.{refusedPar, withPar}
@@ -10,17 +10,17 @@ use Rattle.traffic.proofs.named_par.Tie as tie
 
 returns : tie.Need-returns
 unfolding refusedPar withPar
-returns c = let e = c .of-ids .ensures in rw (eq-eqb _ 1 (c .before .if1 .taken)) (e, λ f. looked-or _ (c .before .before .before .pre .1) (flags-long _) (e .set f))
+returns c = let e = c .of-ids .ensures in rw (eq-eqb _ 1 (c .before .if1 .taken)) (e, looked-or _ (c .before .before .before .pre .1) (flags-long _) (e .set))
 
 returns-2 : tie.Need-returns-2
 unfolding refusedPar withPar
-returns-2 c = let e = c .of-ranges .ensures in rw (ne-eqb _ 1 (c .before .before .before .if1 .left), eq-eqb _ 8 (c .before .before .if2 .taken)) (e .0, λ f. e .1)
+returns-2 c = let e = c .of-ranges .ensures in rw (ne-eqb _ 1 (c .before .before .before .if1 .left), eq-eqb _ 8 (c .before .before .if2 .taken)) (e .0, e .1)
 
 returns-3 : tie.Need-returns-3
 unfolding refusedPar withPar
-returns-3 c = rw (ne-eqb _ 1 (c .before .before .if1 .left), ne-eqb _ 8 (c .before .if2 .left)) (names-both (c .passes .ensures .0) refl (c .passes .ensures .1) refl, λ f. rw (c .passes .ensures .1) (c .before .before .before .before .pre .1))
+returns-3 c = rw (ne-eqb _ 1 (c .before .if1 .left), ne-eqb _ 8 (c .if2 .left)) (record { refused = sym (earlier-nothing _ (c .before .before .before .pre .2)); set = refl }, c .before .before .before .pre .1)
 
 pub named-par-spec : {M : Type 1} → statement M
 named-par-spec =
     tie.close
-    (tie.spec (λ c κs. search needs) returns (λ c κs. search needs) returns-2 (λ c κs. search needs) returns-3)
+    (tie.spec (λ c κs. search needs) returns (λ c κs. search needs) returns-2 returns-3)

@@ -1,7 +1,7 @@
 -- The identifiers that a message names (Rule 7.8), one parameter after the other, over what tells of one identifier whether it is refused (bad), and whether
 -- AS a owns it (good a).
 -- Assumes nothing.
-use mathlib.Core.Path.{_≡_, refl, ap, _∙_, sym}
+use mathlib.Core.Path.{_≡_, refl, ap, _∙_, sym, subst}
 use mathlib.Core.Bool.{Bool, true, false, cond, _&&_, _||_, false≢true}
 use mathlib.Core.List.{List, [], _∷_}
 use Prim.Native.Nat.{ℕ, _<_}
@@ -9,7 +9,7 @@ use lib.Dec.{eqb}
 use borrow.Author.Tests.{eqb-true}
 use lib.ListN.{length, replicate, getD-replicate}
 use Rattle.laws.specs.Columns.{flagAt, isSet, tabulate}
-use Rattle.laws.specs.Inner.Columns.{tabulate-ext, getD-tabulate, is-tabulate, length-tabulate}
+use Rattle.laws.specs.Inner.Columns.{tabulate-ext, getD-tabulate, length-tabulate}
 use Rattle.wire.specs.Walk.{Par}
 use Rattle.gateway.specs.Sound.{pair}
 use Rattle.gateway.specs.declared.Gateway.{Gateway}
@@ -19,7 +19,10 @@ use Rattle.ranges.specs.Inner.Laws.{Table}
 use Rattle.ranges.specs.Inner.Refused.{refusedBy, refused-by}
 use Rattle.ranges.specs.Named.{isRefused, isOwnedBy, nothing, refusedIn, someOf}
 use Rattle.ranges.specs.declared.Refused.{Refused}
-use Rattle.rules.specs.Identifiers.{isIds, firstRefused, ownsNamed, ownersNamed}
+use Rattle.rules.specs.Identifiers.{isIds, firstRefused, namesSome, isMember, ownsGood, ownersGood}
+use Rattle.rules.specs.Asp.{asesOf}
+use Rattle.naming.specs.Inner.Entries.{plain-in}
+use Rattle.ranges.specs.Inner.Names.{earlier, earlier-again, earlier-nothing, Plain, plain-earlier}
 
 -- the first refused identifier of one parameter
 unfoldable pub refusedPar : (ℕ → Bool) → ℕ → List ℕ → Refused
@@ -44,8 +47,9 @@ unfoldable pub ownsPars : (ℕ → Bool) → List Par → Bool
 ownsPars good [] = false
 ownsPars good (x ∷ ps) = ownsPar good (x .tag) (x .body) || ownsPars good ps
 
-unfoldable pub ownersPars : (ℕ → ℕ → Bool) → List Par → List Bool
-ownersPars good ps = tabulate 16 (λ a. ownsPars (good a) ps)
+-- the flags of those in mine
+unfoldable pub goodPars : (ℕ → ℕ → Bool) → List Bool → List Par → List Bool
+goodPars good mine ps = tabulate 16 (λ a. ownsPars (good a) ps && flagAt mine a)
 
 -- ---- they are the rules'
 
@@ -84,14 +88,16 @@ module _ (g : Gateway) where
   refused-is p (x ∷ ps) =
       rw (refused-is p ps) (refused-par (isRefused (g .iid) (g .owner) (g .member) (g .links) p) (x .tag) (x .body) (refusedPars (isRefused (g .iid) (g .owner) (g .member) (g .links) p) ps))
 
-  owns-is : (a : ℕ) (ps : List Par) → ownsNamed g ps a ≡ ownsPars (isOwnedBy (g .iid) (g .owner) (g .links) a) ps
-  unfolding ownsNamed ownsPars
-  owns-is a [] = refl
-  owns-is a (x ∷ ps) = rw (owns-is a ps, owns-par (isOwnedBy (g .iid) (g .owner) (g .links) a) (x .tag) (x .body))
+  names-is : (f : ℕ → Bool) (ps : List Par) → namesSome f ps ≡ ownsPars f ps
+  unfolding namesSome ownsPars
+  names-is f [] = refl
+  names-is f (x ∷ ps) = rw (names-is f ps, owns-par f (x .tag) (x .body))
 
-  pub owners-is : (ps : List Par) → ownersNamed g ps ≡ ownersPars (isOwnedBy (g .iid) (g .owner) (g .links)) ps
-  unfolding ownersNamed ownersPars
-  owners-is ps = tabulate-ext false 16 (ownsNamed g ps) (λ a. ownsPars (isOwnedBy (g .iid) (g .owner) (g .links) a) ps) (λ a b. owns-is a ps)
+  pub good-is : (p : ℕ) (ps : List Par) → ownersGood g p ps ≡ goodPars (isOwnedBy (g .iid) (g .owner) (g .links)) (asesOf g p) ps
+  unfolding ownersGood ownsGood goodPars columnOf
+  good-is p ps =
+      tabulate-ext false 16 (ownsGood g p ps) (λ a. ownsPars (isOwnedBy (g .iid) (g .owner) (g .links) a) ps && flagAt (asesOf g p) a)
+      (λ a b. rw (names-is (isOwnedBy (g .iid) (g .owner) (g .links) a) ps, getD-tabulate 16 (λ a. isSet (g .member) (pair a p)) a false b))
 
 -- one is refused by the flags of p's ASes where the rule refuses it
 pub refused-mine : (iid owner member : List ℕ) (links p mine : ℕ) → Table iid owner links → flagsOf mine ≡ columnOf member p → refusedBy iid owner links (flagsOf mine) ≡ isRefused iid owner member links p
@@ -101,15 +107,38 @@ refused-mine iid owner member links p mine t e =
 
 -- ---- the walk: parameters in received order
 
-module _ (bad : ℕ → Bool) (x : Par) (ps : List Par) (r : Refused) (e : r ≡ refusedPar bad (x .tag) (x .body)) where
-  -- the first that refuses decides
-  pub refused-here : r .found ≡ true → r ≡ refusedPars bad (x ∷ ps)
-  unfolding refusedPars
-  refused-here h = rw (← e, h)
+-- what was refused so far, and with the first of the rest it is that of the whole
+pub record Refusing (bad : ℕ → Bool) (ps all : List Par) (r : Refused) : Type 0 where
+  pub plain : Plain r
+  pub rest : earlier r (refusedPars bad ps) ≡ refusedPars bad all
 
-  pub refused-later : r .found ≡ false → refusedPars bad ps ≡ refusedPars bad (x ∷ ps)
-  unfolding refusedPars
-  refused-later h = rw (← e, h)
+pub refusing-none : (bad : ℕ → Bool) (all : List Par) → Refusing bad all all nothing
+unfolding earlier
+refusing-none bad all = record { plain = λ e. refl; rest = refl }
+
+plain-par : (bad : ℕ → Bool) (t : ℕ) (v : List ℕ) → Plain (refusedPar bad t v)
+unfolding refusedPar
+plain-par bad t v = go (eqb t 0x1) (eqb t 0x8)
+  where
+    go : (u w : Bool) → Plain (cond u (refusedIn bad false v) (cond w (refusedIn bad true v) nothing))
+    go true w = plain-in bad false v
+    go false true = plain-in bad true v
+    go false false = λ e. refl
+
+pub refusing-more : (bad : ℕ → Bool) (x : Par) (ps all : List Par) (r next : Refused) → Refusing bad (x ∷ ps) all r → next ≡ earlier r (refusedPar bad (x .tag) (x .body)) → Refusing bad ps all next
+unfolding refusedPars earlier
+refusing-more bad x ps all r next h e =
+    record {
+      plain = subst Plain (sym e) (plain-earlier r (refusedPar bad (x .tag) (x .body)) (plain-par bad (x .tag) (x .body)));
+      rest = ap (λ (z : Refused). earlier z (refusedPars bad ps)) e ∙ earlier-again r (refusedPar bad (x .tag) (x .body)) (refusedPars bad ps) ∙ joined;
+    }
+  where
+    joined : earlier r (earlier (refusedPar bad (x .tag) (x .body)) (refusedPars bad ps)) ≡ refusedPars bad all
+    joined = h .rest
+
+pub refusing-end : (bad : ℕ → Bool) (all : List Par) (r : Refused) → Refusing bad [] all r → r ≡ refusedPars bad all
+unfolding refusedPars
+refusing-end bad all r h = sym (earlier-nothing r (h .plain)) ∙ h .rest
 
 -- The owners of the parameters passed are set, and with those of the rest they are those of the whole.
 pub record Owners (good : ℕ → ℕ → Bool) (ps all : List Par) (set : List Bool) : Type 0 where
@@ -158,6 +187,10 @@ owners-more good x ps all set next h e =
       rest = λ a b. rw (e, at-with set good (x .tag) (x .body) a b) (or-assoc (flagAt set a) (ownsPar (good a) (x .tag) (x .body)) (ownsPars (good a) ps) ∙ h .rest a b);
     }
 
-pub owners-end : (good : ℕ → ℕ → Bool) (all : List Par) (set : List Bool) → Owners good [] all set → set ≡ ownersPars good all
-unfolding ownersPars ownsPars
-owners-end good all set h = is-tabulate false set 16 (λ a. ownsPars (good a) all) (h .long) (λ a b. or-none (flagAt set a) ∙ h .rest a b)
+-- those in mine
+pub good-end : (good : ℕ → ℕ → Bool) (all : List Par) (set mine r : List Bool) → Owners good [] all set → r ≡ tabulate 16 (λ a. flagAt set a && flagAt mine a) → r ≡ goodPars good mine all
+unfolding goodPars ownsPars
+good-end good all set mine r h e =
+    e
+    ∙ tabulate-ext false 16 (λ a. flagAt set a && flagAt mine a) (λ a. ownsPars (good a) all && flagAt mine a)
+    (λ a b. ap (λ (u : Bool). u && flagAt mine a) (or-none (flagAt set a) ∙ h .rest a b))

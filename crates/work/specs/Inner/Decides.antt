@@ -7,6 +7,7 @@ use Prim.Native.Nat.{ℕ, _<_, _≤_}
 use lib.Dec.{ltb, eqb}
 use borrow.Author.Tests.{eq-eqb, ne-eqb, lt-ltb, le-ltb}
 use Rattle.gateway.specs.declared.Gateway.{Gateway}
+use Rattle.action.specs.declared.Action.{Action}
 use Rattle.server.specs.declared.Change.{Change}
 use Rattle.server.specs.declared.Change.the-variants.{AspUp, AspDown, Deactivate, Activate, Recover}
 use Rattle.server.specs.Inner.Change.{fits}
@@ -34,9 +35,9 @@ pub record Decides (w : Decision) (d : Effect) : Type 0 where
 pub record DecidesOn (P : Gateway → Type 0) (d : Gateway → Effect) (w : Decision) : Type 0 where
   pub on : (g : Gateway) → P g → Decides w (d g)
 
--- Active where on holds, else Inactive, in the ASes named
-unfoldable pub act : Gateway → ℕ → Bool → ℕ → List Bool → Effect
-act g p on mode = λ named. cond on (activeEffect g p mode named) (inactiveEffect p named)
+-- Active where on holds, else Inactive, in the ASes named, with what is told beside the Ack
+unfoldable pub act : Gateway → ℕ → Bool → ℕ → List Action → List Bool → Effect
+act g p on mode = λ told named. cond on (activeEffect g p mode told named) (inactiveEffect p told named)
 
 pub fits-asp : (k : Change) → aspOf k < 16 → fits k ≡ true
 fits-asp (AspUp p) h = refl

@@ -1,4 +1,4 @@
--- `traffic::ases_of`: the places passed. Assumes nothing.
+-- `asps::ases_of`: the places passed. Assumes nothing.
 use Prim.Native.Nat.{_≤_, _<_, _-_, _+_, _*_}
 use mathlib.Core.Path.{_≡_, refl}
 use native.Mathlib.Omega.{arith}
@@ -7,8 +7,8 @@ use Rattle.laws.specs.Columns.{flagAt, isSet}
 use Rattle.laws.specs.Inner.Columns.{Half, half-end}
 use Rattle.servers.specs.Changed.{columnOf}
 use Rattle.sets.specs.Inner.Bits.{flagsOf, half-zero, half-if}
-use Rattle.traffic.proofs.ases_of.Statement.{statement}
-use Rattle.traffic.proofs.ases_of.Tie as tie
+use Rattle.asps.proofs.ases_of.Statement.{statement}
+use Rattle.asps.proofs.ases_of.Tie as tie
 
 abbrev Inv-loop : tie.InvT-loop
 Inv-loop member p r₀ a₀ r a = Half (λ i. isSet member (i * 16 + p)) (flagAt (flagsOf 0)) 16 a (flagsOf r) × (a ≤ 16) × (p < 16)

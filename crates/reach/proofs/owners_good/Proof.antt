@@ -1,4 +1,4 @@
-use Rattle.traffic.specs.Inner.Named.{Owners, owners-none, owners-more, owners-end}
+use Rattle.traffic.specs.Inner.Named.{Owners, owners-none, owners-more, good-end}
 use Rattle.ranges.specs.Named.{isOwnedBy}
 use Rattle.ranges.specs.Inner.Laws.{Table}
 use Rattle.ranges.specs.Inner.Owners.{Looked, looked-none}
@@ -11,14 +11,14 @@ use mathlib.Core.Path.{_≡_, sym, _∙_}
 use Prim.Native.Nat.{_-_}
 use native.Mathlib.Omega.{arith}
 use borrow.Author.Needs.{needs}
-use Rattle.reach.proofs.owners_named.Statement.{statement}
-use Rattle.reach.proofs.owners_named.Tie as tie
+use Rattle.reach.proofs.owners_good.Statement.{statement}
+use Rattle.reach.proofs.owners_good.Tie as tie
 
 abbrev Inv-loop : tie.InvT-loop
-Inv-loop s links iid owner far₀ set₀ at₀ far set at = Owners (isOwnedBy iid owner links) (walk s at .pars) (walk s 8 .pars) (flagsOf set) × Table iid owner links × Looked owner far (flagsOf set)
+Inv-loop s links iid owner mine far₀ set₀ at₀ far set at = Owners (isOwnedBy iid owner links) (walk s at .pars) (walk s 8 .pars) (flagsOf set) × Table iid owner links × Looked owner far (flagsOf set)
 
 abbrev μ-loop : tie.MeasureT-loop
-μ-loop s links iid owner far₀ set₀ at₀ far set at = length s - at
+μ-loop s links iid owner mine far₀ set₀ at₀ far set at = length s - at
 
 -- the reading is the walk's, and the parameter lies within the message
 reads-at : (c : tie.After-known-told Inv-loop μ-loop)
@@ -33,8 +33,8 @@ loop-again c =
     let e = c .owners-par .ensures in
     (owners-more _ _ _ _ _ _ (rw (pars-next _ _ _ _ _ (reads-at k)) at (i .0)) (e .0), i .1, e .1)
 
-pub owners-named-spec : {M : Type 1} → statement M
-owners-named-spec =
+pub owners-good-spec : {M : Type 1} → statement M
+owners-good-spec =
     tie.close
     (tie.spec
     Inv-loop
@@ -43,7 +43,8 @@ owners-named-spec =
     (λ c κs. search needs)
     (λ c. search needs)
     (λ c κs. search needs)
-    (λ c. c .flags-of .ensures ∙ owners-end _ _ _ (rw (pars-stop _ _ _ (sym (c .before .before .step-at .ensures)) (c .before .match .keys2)) at (c .before .before .before .loop .inv .0)))
+    (λ c κs. search needs)
+    (λ c. c .flags-of .ensures ∙ good-end _ _ _ _ _ (rw (pars-stop _ _ _ (sym (c .before .before .before .step-at .ensures)) (c .before .before .match .keys2)) at (c .before .before .before .before .loop .inv .0)) (c .before .common .ensures))
     (λ c. let k = step-next _ _ _ _ _ (reads-at c) in omega arith)
     (λ c. let k = step-next _ _ _ _ _ (reads-at c) in omega arith)
     (λ c. let k = step-next _ _ _ _ _ (reads-at c) in omega arith)

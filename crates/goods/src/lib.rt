@@ -1,0 +1,179 @@
+// The good identifiers that a message names (Rule 8.11), as flags by the places of their links: so each stands there once, and they ascend. And a message
+// that names these alone.
+use outgoing::Form;
+use select::Which;
+use wire::HEADER;
+use wire::Step;
+ghost use mathlib.Core.Path.{_≡_};
+ghost use mathlib.Core.Bool.{true, _&&_};
+ghost use Prim.Native.Nat.{_<_, _≤_};
+ghost use lib.Dec.{eqb, leb, ltb};
+ghost use lib.ListN.{length};
+ghost use Rattle.laws.specs.Columns.{numberAt};
+ghost use Rattle.wire.specs.Walk.{walk};
+ghost use Rattle.gateway.specs.Sound.{ascends};
+ghost use Rattle.sets.specs.Inner.Bits.{flagsOf};
+ghost use Rattle.ranges.specs.Named.{someOf};
+ghost use Rattle.ranges.specs.Places.{isFrom};
+ghost use Rattle.ranges.specs.Inner.Laws.{Table};
+ghost use Rattle.rules.specs.Identifiers.{isIds, namesSome};
+ghost use Rattle.goods.specs.Inner.Marks.{Marked, Adds, Covered, GoodColumn};
+ghost use Rattle.goods.specs.Inner.Made.{goodForm, ModeFits, GoodMessage};
+
+// ---- the places that are named: the mark at a place says up to where it and those behind it are
+
+// Place l and those behind it, before past, are named.
+fn mark(until: &mut [u8; 128], l: usize, past: usize)
+    requires { ⌜ (length (now until) ≡ 128) × (l < past) × (past ≤ 128) ⌝ }
+    ensures { λ _. ⌜ Marked (now (until .entry)) l past (now (until .exit)) ⌝ }
+{
+    until[l] = ranges::later(until[l], past as u8);
+}
+
+// Whether the identifier at place l is there, and not above stop.
+fn is_up_to(iid: &[u32; 128], links: usize, l: usize, stop: u32) -> bool
+    requires { ⌜ links ≤ 128 ⌝ }
+    ensures { λ r. ⌜ r ≡ (ltb l links && leb (numberAt (now (iid .entry)) l) stop) ⌝ }
+{
+    if l < links {
+        return iid[l] <= stop;
+    }
+    false
+}
+
+// Those of the identifiers from start to stop; the place behind them. `near` is where they may begin. Where none of them is known, the place where they
+// would begin says so, and the end is not searched for.
+fn mark_range(
+    until: &mut [u8; 128],
+    iid: &[u32; 128],
+    links: usize,
+    start: u32,
+    stop: u32,
+    near: usize,
+) -> usize
+    requires { ⌜ (length (now until) ≡ 128) × (links ≤ 128) × (ascends (now iid) links ≡ true) ⌝ }
+    ensures { λ _. ⌜ Adds (now (until .entry)) (now (iid .entry)) links (isFrom start stop) (now (until .exit)) ⌝ }
+{
+    if stop < start {
+        return near;
+    }
+    let first = naming::rank_near(iid, links, start, near);
+    if !is_up_to(iid, links, first, stop) {
+        return first;
+    }
+    let past = ranges::past_of(iid, links, first, start, stop);
+    mark(until, first, past);
+    past
+}
+
+// Those of the value of a parameter; pairs says that its tag is 0x8.
+fn mark_value(until: &mut [u8; 128], value: &[u8], pairs: bool, iid: &[u32; 128], links: usize)
+    requires { ⌜ (length (now until) ≡ 128) × (links ≤ 128) × (ascends (now iid) links ≡ true) ⌝ }
+    ensures { λ _. ⌜ Adds (now (until .entry)) (now (iid .entry)) links (λ x. someOf (eqb x) pairs (now (value .entry))) (now (until .exit)) ⌝ }
+{
+    let n = naming::entries_of(value, pairs);
+    let mut near: usize = 0;
+    for i in 0..n {
+        let start = naming::start_at(value, pairs, i);
+        let stop = naming::stop_at(value, pairs, i);
+        near = mark_range(until, iid, links, start, stop, near);
+    }
+}
+
+// Those of a parameter.
+fn mark_par(until: &mut [u8; 128], t: u16, v: &[u8], iid: &[u32; 128], links: usize)
+    requires { ⌜ (length (now until) ≡ 128) × (links ≤ 128) × (ascends (now iid) links ≡ true) ⌝ }
+    ensures { λ _. ⌜ Adds (now (until .entry)) (now (iid .entry)) links (λ x. isIds t && someOf (eqb x) (eqb t 0x8) (now (v .entry))) (now (until .exit)) ⌝ }
+{
+    if t == 1 {
+        mark_value(until, v, false, iid, links);
+        return;
+    }
+    if t == 8 {
+        mark_value(until, v, true, iid, links);
+    }
+}
+
+// Those of a message.
+fn marks_of(s: &[u8], iid: &[u32; 128], links: usize) -> [u8; 128]
+    requires { ⌜ (links ≤ 128) × (ascends (now iid) links ≡ true) ⌝ }
+    ensures { λ r. ⌜ Covered r (now (iid .entry)) links (λ x. namesSome (eqb x) (walk (now (s .entry)) 8 .pars)) ⌝ }
+{
+    let mut until = [0u8; 128];
+    let mut at: usize = 8;
+    loop {
+        let w = wire::step_at(s, at);
+        let Step::Param { tag, len, next } = w else {
+            return until;
+        };
+        let start = at + 4;
+        let stop = at + len as usize;
+        mark_par(&mut until, tag, &s[start..stop], iid, links);
+        at = next;
+    }
+}
+
+// ---- the good ones
+
+// 1 at the places of links that the message names and that an AS of the set mine owns, else 0.
+pub fn good_places<'a>(
+    s: &[u8],
+    links: usize,
+    mine: u32,
+    iid: &'a [u32; 128],
+    owner: &'a [u8; 128],
+) -> [u8; 128]
+    requires { ⌜ Table (now iid) (now owner) links ⌝ }
+    ensures { λ r. ⌜ GoodColumn (now (iid .entry)) (now (owner .entry)) links (flagsOf mine) (walk (now (s .entry)) 8 .pars) r ⌝ }
+{
+    let until = marks_of(s, iid, links);
+    let mut r = [0u8; 128];
+    let mut past: u8 = 0;
+    for l in 0..links {
+        past = ranges::later(past, until[l]);
+        let named = l < gateway::wide(past);
+        r[l] = server::bit(named & sets::has(mine, gateway::wide(owner[l])));
+    }
+    r
+}
+
+// ---- the message that names them alone
+
+// What it is made of: the traffic mode of the received one, and the identifiers of the links that a column marks with 1. Its type is that of an Active.
+fn good_form() -> Form
+    ensures { λ r. ⌜ r ≡ goodForm ⌝ }
+{
+    Form {
+        class: 4,
+        msgtype: 1,
+        one: false,
+        tag: 0,
+        number: 0,
+        held: false,
+        heldtag: 0,
+        two: false,
+        tag2: 0,
+        number2: 0,
+        listed: true,
+        owned: 1,
+        first: Which::Mode,
+        after: Which::Nothing,
+    }
+}
+
+// That message, written at a buffer's start; its length. mine are the ASes of the sender.
+pub fn put_good<'a>(
+    out: &mut [u8; 544],
+    msg: &[u8],
+    links: usize,
+    mine: u32,
+    iid: &'a [u32; 128],
+    owner: &'a [u8; 128],
+) -> usize
+    requires { ⌜ (length (now out) ≡ 544) × Table (now iid) (now owner) links × ModeFits (walk (now msg) 8 .pars) ⌝ }
+    ensures { λ r. ⌜ GoodMessage (now (iid .entry)) (now (owner .entry)) links (flagsOf mine) (walk (now (msg .entry)) 8 .pars) r (now (out .exit)) ⌝ }
+{
+    let column = good_places(msg, links, mine, iid, owner);
+    let form = good_form();
+    outgoing::put_rest(out, HEADER, msg, iid, &column, links, form)
+}
