@@ -306,7 +306,7 @@ typedef struct {
     uint8_t owner[M2UA_MAX_LINKS];          /* the AS that owns the link */
     uint8_t state[M2UA_MAX_LINKS];          /* M2UA_LINK_.. */
     uint8_t highspeed[M2UA_MAX_LINKS];      /* 1: a high-speed link (ITU-T Q.703, Annex A), with sequence numbers of 12 bits; 0: a plain one, with 7 */
-    uint8_t wholelists[M2UA_MAX_ASPS];      /* 1: identifiers that the ASP lists are taken all or none; 0: part of a list may succeed (Rule 7.8) */
+    uint8_t wholelists[M2UA_MAX_ASPS];      /* 1: identifiers that the ASP lists are taken all or none; 0: part of a list may succeed (Rule 7.27) */
     m2ua_units held;                        /* units held */
 } m2ua_gateway;
 
