@@ -5,13 +5,14 @@ use select::Which;
 use wire::HEADER;
 use wire::Step;
 ghost use mathlib.Core.Path.{_≡_};
-ghost use mathlib.Core.Bool.{true, _&&_};
-ghost use Prim.Native.Nat.{_<_, _≤_};
+ghost use mathlib.Core.Bool.{true, false, _&&_};
+ghost use Prim.Native.Nat.{_+_, _<_, _≤_};
 ghost use lib.Dec.{eqb, leb, ltb};
 ghost use lib.ListN.{length};
 ghost use Rattle.laws.specs.Columns.{numberAt};
 ghost use Rattle.wire.specs.Walk.{walk};
 ghost use Rattle.gateway.specs.Sound.{ascends};
+ghost use Rattle.lookup.specs.Inner.Links.{rank};
 ghost use Rattle.sets.specs.Inner.Bits.{flagsOf};
 ghost use Rattle.ranges.specs.Named.{someOf};
 ghost use Rattle.ranges.specs.Places.{isFrom};
@@ -41,12 +42,68 @@ fn is_up_to(iid: &[u32; 128], links: usize, l: usize, stop: u32) -> bool
     false
 }
 
+// A message up to this length names so few identifiers that guesses are not worth their time.
+const FEW: usize = 255;
+
+// For each number below 256 a place where a link stands whose identifier leaves that number over when divided by 256, if there is one: it is tried before a search, so
+// that most links are found at once in whatever order they are named. What does not stand there is searched for. `len` is the message's length.
+fn guesses(guess: &mut [u8; 256], iid: &[u32; 128], links: usize, len: usize)
+    requires { ⌜ links ≤ 128 ⌝ }
+{
+    if len <= FEW {
+        return;
+    }
+    for l in 0..links {
+        guess[(iid[l] % 256) as usize] = l as u8;
+    }
+}
+
+// The place that is tried for identifier x.
+fn guess_of(guess: &[u8; 256], x: u32) -> usize {
+    gateway::wide(guess[(x % 256) as usize])
+}
+
+// How many identifiers are below x: the place `near` is tried, then the guess.
+fn first_near(iid: &[u32; 128], links: usize, guess: &[u8; 256], x: u32, near: usize) -> usize
+    requires { ⌜ (links ≤ 128) × (ascends (now iid) links ≡ true) ⌝ }
+    ensures { λ r. ⌜ (r ≡ rank (now (iid .entry)) links x) × (r ≤ links) ⌝ }
+{
+    if near < links {
+        if iid[near] == x {
+            return near;
+        }
+    }
+    naming::rank_near(iid, links, x, guess_of(guess, x))
+}
+
+// How many identifiers are not above stop.
+fn past_near(
+    iid: &[u32; 128],
+    links: usize,
+    guess: &[u8; 256],
+    first: usize,
+    start: u32,
+    stop: u32,
+) -> usize
+    requires { ⌜ (links ≤ 128) × (ascends (now iid) links ≡ true) × (first ≤ links) × (start ≤ stop) ⌝ }
+    ensures { λ r. ⌜ (r ≡ rank (now (iid .entry)) links (stop + 1)) × (r ≤ links) ⌝ }
+{
+    let near = guess_of(guess, stop);
+    if near < links {
+        if iid[near] == stop {
+            return near + 1;
+        }
+    }
+    ranges::past_of(iid, links, first, start, stop)
+}
+
 // Those of the identifiers from start to stop; the place behind them. `near` is where they may begin. Where none of them is known, the place where they
 // would begin says so, and the end is not searched for.
 fn mark_range(
     until: &mut [u8; 128],
     iid: &[u32; 128],
     links: usize,
+    guess: &[u8; 256],
     start: u32,
     stop: u32,
     near: usize,
@@ -57,40 +114,86 @@ fn mark_range(
     if stop < start {
         return near;
     }
-    let first = naming::rank_near(iid, links, start, near);
+    let first = first_near(iid, links, guess, start, near);
     if !is_up_to(iid, links, first, stop) {
         return first;
     }
-    let past = ranges::past_of(iid, links, first, start, stop);
+    let past = past_near(iid, links, guess, first, start, stop);
     mark(until, first, past);
     past
 }
 
-// Those of the value of a parameter; pairs says that its tag is 0x8.
-fn mark_value(until: &mut [u8; 128], value: &[u8], pairs: bool, iid: &[u32; 128], links: usize)
+// That of identifier x; the place behind it. (As a range from x to x it would take half as long again.)
+fn mark_id(
+    until: &mut [u8; 128],
+    iid: &[u32; 128],
+    links: usize,
+    guess: &[u8; 256],
+    x: u32,
+    near: usize,
+) -> usize
     requires { ⌜ (length (now until) ≡ 128) × (links ≤ 128) × (ascends (now iid) links ≡ true) ⌝ }
-    ensures { λ _. ⌜ Adds (now (until .entry)) (now (iid .entry)) links (λ x. someOf (eqb x) pairs (now (value .entry))) (now (until .exit)) ⌝ }
+    ensures { λ _. ⌜ Adds (now (until .entry)) (now (iid .entry)) links (isFrom x x) (now (until .exit)) ⌝ }
 {
-    let n = naming::entries_of(value, pairs);
+    let l = first_near(iid, links, guess, x, near);
+    if !is_up_to(iid, links, l, x) {
+        return l;
+    }
+    mark(until, l, l + 1);
+    l + 1
+}
+
+// Those of the value of a 0x1.
+fn mark_ids(until: &mut [u8; 128], value: &[u8], iid: &[u32; 128], links: usize, guess: &[u8; 256])
+    requires { ⌜ (length (now until) ≡ 128) × (links ≤ 128) × (ascends (now iid) links ≡ true) ⌝ }
+    ensures { λ _. ⌜ Adds (now (until .entry)) (now (iid .entry)) links (λ x. someOf (eqb x) false (now (value .entry))) (now (until .exit)) ⌝ }
+{
+    let n = naming::entries_of(value, false);
     let mut near: usize = 0;
     for i in 0..n {
-        let start = naming::start_at(value, pairs, i);
-        let stop = naming::stop_at(value, pairs, i);
-        near = mark_range(until, iid, links, start, stop, near);
+        let x = naming::start_at(value, false, i);
+        near = mark_id(until, iid, links, guess, x, near);
+    }
+}
+
+// Those of the value of a 0x8.
+fn mark_ranges(
+    until: &mut [u8; 128],
+    value: &[u8],
+    iid: &[u32; 128],
+    links: usize,
+    guess: &[u8; 256],
+)
+    requires { ⌜ (length (now until) ≡ 128) × (links ≤ 128) × (ascends (now iid) links ≡ true) ⌝ }
+    ensures { λ _. ⌜ Adds (now (until .entry)) (now (iid .entry)) links (λ x. someOf (eqb x) true (now (value .entry))) (now (until .exit)) ⌝ }
+{
+    let n = naming::entries_of(value, true);
+    let mut near: usize = 0;
+    for i in 0..n {
+        let start = naming::start_at(value, true, i);
+        let stop = naming::stop_at(value, true, i);
+        near = mark_range(until, iid, links, guess, start, stop, near);
     }
 }
 
 // Those of a parameter.
-fn mark_par(until: &mut [u8; 128], t: u16, v: &[u8], iid: &[u32; 128], links: usize)
+fn mark_par(
+    until: &mut [u8; 128],
+    t: u16,
+    v: &[u8],
+    iid: &[u32; 128],
+    links: usize,
+    guess: &[u8; 256],
+)
     requires { ⌜ (length (now until) ≡ 128) × (links ≤ 128) × (ascends (now iid) links ≡ true) ⌝ }
     ensures { λ _. ⌜ Adds (now (until .entry)) (now (iid .entry)) links (λ x. isIds t && someOf (eqb x) (eqb t 0x8) (now (v .entry))) (now (until .exit)) ⌝ }
 {
     if t == 1 {
-        mark_value(until, v, false, iid, links);
+        mark_ids(until, v, iid, links, guess);
         return;
     }
     if t == 8 {
-        mark_value(until, v, true, iid, links);
+        mark_ranges(until, v, iid, links, guess);
     }
 }
 
@@ -99,6 +202,8 @@ fn marks_of(s: &[u8], iid: &[u32; 128], links: usize) -> [u8; 128]
     requires { ⌜ (links ≤ 128) × (ascends (now iid) links ≡ true) ⌝ }
     ensures { λ r. ⌜ Covered r (now (iid .entry)) links (λ x. namesSome (eqb x) (walk (now (s .entry)) 8 .pars)) ⌝ }
 {
+    let mut guess = [0u8; 256];
+    guesses(&mut guess, iid, links, s.len());
     let mut until = [0u8; 128];
     let mut at: usize = 8;
     loop {
@@ -108,7 +213,7 @@ fn marks_of(s: &[u8], iid: &[u32; 128], links: usize) -> [u8; 128]
         };
         let start = at + 4;
         let stop = at + len as usize;
-        mark_par(&mut until, tag, &s[start..stop], iid, links);
+        mark_par(&mut until, tag, &s[start..stop], iid, links, &guess);
         at = next;
     }
 }

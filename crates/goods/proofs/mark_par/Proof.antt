@@ -3,20 +3,20 @@ use Rattle.goods.specs.Inner.Marks.{par-ids, par-ranges, par-other}
 use Rattle.goods.proofs.mark_par.Statement.{statement}
 use Rattle.goods.proofs.mark_par.Tie as tie
 
-mark-value-requires : tie.Need-mark-value-requires
-mark-value-requires c κs = c .before .before .before .pre
+mark-ids-requires : tie.Need-mark-ids-requires
+mark-ids-requires c κs = c .before .before .before .pre
 
 returns : tie.Need-returns
-returns c = par-ids _ _ (c .before .before .if1 .taken) (c .mark-value .ensures)
+returns c = par-ids _ _ (c .before .before .if1 .taken) (c .mark-ids .ensures)
 
-mark-value-requires-2 : tie.Need-mark-value-requires-2
-mark-value-requires-2 c κs = c .before .before .before .before .pre
+mark-ranges-requires : tie.Need-mark-ranges-requires
+mark-ranges-requires c κs = c .before .before .before .before .pre
 
 returns-2 : tie.Need-returns-2
-returns-2 c = par-ranges _ _ (c .before .before .if2 .taken) (c .mark-value2 .ensures)
+returns-2 c = par-ranges _ _ (c .before .before .if2 .taken) (c .mark-ranges .ensures)
 
 returns-3 : tie.Need-returns-3
 returns-3 c = par-other _ _ (c .before .if1 .left) (c .if2 .left)
 
 pub mark-par-spec : {M : Type 1} → statement M
-mark-par-spec = tie.close (tie.spec mark-value-requires returns mark-value-requires-2 returns-2 returns-3)
+mark-par-spec = tie.close (tie.spec mark-ids-requires returns mark-ranges-requires returns-2 returns-3)

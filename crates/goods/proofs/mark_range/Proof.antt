@@ -9,31 +9,31 @@ use Rattle.goods.proofs.mark_range.Tie as tie
 returns : tie.Need-returns
 returns c = range-none _ _ _ _ _ (c .if1 .taken)
 
-rank-near-requires : tie.Need-rank-near-requires
-rank-near-requires c κs = let p = c .before .pre in (p .1, p .2)
+first-near-requires : tie.Need-first-near-requires
+first-near-requires c κs = let p = c .before .pre in (p .1, p .2)
 
 is-up-to-requires : tie.Need-is-up-to-requires
 is-up-to-requires c κs = c .before .before .pre .1
 
 returns-2 : tie.Need-returns-2
 returns-2 c =
-    range-unknown _ _ _ _ (c .before .before .before .before .pre .2) _ (c .before .before .rank-near .ensures .0) (sym (c .before .is-up-to .ensures) ∙ not-true _ (c .if2 .taken))
+    range-unknown _ _ _ _ (c .before .before .before .before .pre .2) _ (c .before .before .first-near .ensures .0) (sym (c .before .is-up-to .ensures) ∙ not-true _ (c .if2 .taken))
 
-past-of-requires : tie.Need-past-of-requires
-past-of-requires c κs =
+past-near-requires : tie.Need-past-near-requires
+past-near-requires c κs =
     let p = c .before .before .before .before .pre in
-    (p .1, p .2, c .before .before .rank-near .ensures .1, c .before .before .before .if1 .left)
+    (p .1, p .2, c .before .before .first-near .ensures .1, c .before .before .before .if1 .left)
 
 mark-requires : tie.Need-mark-requires
 mark-requires c κs =
     let p = c .before .before .before .before .before .before .pre in
-    let e = c .before .past-of .ensures in
+    let e = c .before .past-near .ensures in
     (p .0, range-some _ _ _ (p .2) _ _ (e .0) (sym (c .before .before .before .is-up-to .ensures) ∙ not-false _ (c .before .before .if2 .left)), omega (arith, p .1, e .1))
 
 returns-3 : tie.Need-returns-3
 returns-3 c =
     let k = c .before .before .before .before .before in
-    range-adds _ _ _ _ (k .before .before .pre .2) (k .rank-near .ensures .0) (c .before .before .past-of .ensures .0) (c .mark .ensures)
+    range-adds _ _ _ _ (k .before .before .pre .2) (k .first-near .ensures .0) (c .before .before .past-near .ensures .0) (c .mark .ensures)
 
 pub mark-range-spec : {M : Type 1} → statement M
-mark-range-spec = tie.close (tie.spec returns rank-near-requires is-up-to-requires returns-2 past-of-requires mark-requires returns-3)
+mark-range-spec = tie.close (tie.spec returns first-near-requires is-up-to-requires returns-2 past-near-requires mark-requires returns-3)

@@ -3,7 +3,7 @@
 use mathlib.Core.Path.{_≡_, refl, sym, ap, _∙_}
 use mathlib.Core.Bool.{Bool, true, false, cond, _||_, _&&_, or-false, or-assoc}
 use mathlib.Core.List.{List, [], _∷_}
-use Prim.Native.Nat.{ℕ, _+_, _-_, _<_, _≤_}
+use Prim.Native.Nat.{ℕ, _+_, _-_, _*_, _<_, _≤_}
 use native.Mathlib.Omega.{arith}
 use native.Mathlib.Decide.{decLt, ℕ-discrete}
 use lib.Dec.{eqb, leb, ltb}
@@ -15,10 +15,12 @@ use Rattle.laws.specs.Inner.Below.{any-none, any-more, any-at, any-in}
 use Rattle.laws.specs.Inner.Every.{and-left, and-right, and-both, same-truth, or-case, false-of}
 use Rattle.laws.specs.Columns.{flagAt, numberAt}
 use Rattle.laws.specs.Inner.Columns.{HalfCol, half-none, half-more}
+use Rattle.wire.specs.Number.{be}
 use Rattle.wire.specs.Walk.{Par}
 use Rattle.gateway.specs.Sound.{ascends}
 use Rattle.gateway.specs.Inner.Laws.{ascends-any}
 use Rattle.lookup.specs.Inner.Links.{rank, rank-below, rank-from}
+use Rattle.ranges.specs.Inner.Ranks.{rank-next}
 use Rattle.ranges.specs.Named.{someIn, someEntry, someOf, startAt, stopAt, entries}
 use Rattle.ranges.specs.Places.{isFrom}
 use Rattle.ranges.specs.Inner.Owners.{or-right}
@@ -174,6 +176,14 @@ range-some iid links stop h first past q e = go (decLt first past)
         let w : ⊥ = omega (arith, leb-true (numberAt iid first) stop (and-right (ltb first links) (leb (numberAt iid first) stop) e), rank-from iid links h (stop + 1) first b (omega arith)) in
         absurd w
 
+-- an identifier that stands there ends at its place
+pub one-past : (iid : List ℕ) (links x : ℕ) → ascends iid links ≡ true → (l : ℕ) → l ≡ rank iid links x → (ltb l links && leb (numberAt iid l) x) ≡ true → (l + 1 ≡ rank iid links (x + 1)) × (l < links)
+one-past iid links x h l p e =
+    let b : l < links = ltb-true l links (and-left (ltb l links) (leb (numberAt iid l) x) e) in
+    let u = leb-true (numberAt iid l) x (and-right (ltb l links) (leb (numberAt iid l) x) e) in
+    let v = rank-from iid links h x l b (omega arith) in
+    (rank-next iid links h x l b (omega arith), b)
+
 -- a range names the numbers from start to stop
 range-names : (start stop x : ℕ) → isFrom start stop x ≡ someIn (eqb x) start stop
 unfolding someIn
@@ -195,18 +205,47 @@ range-names start stop x =
 abbrev pub entriesName : Bool → List ℕ → ℕ → ℕ → Bool
 entriesName pairs value i x = anyBelow (someEntry (eqb x) pairs value) i
 
-pub entries-none : {until iid : List ℕ} {links : ℕ} (pairs : Bool) (value : List ℕ) → Adds until iid links (entriesName pairs value 0) until
+entries-none : {until iid : List ℕ} {links : ℕ} (pairs : Bool) (value : List ℕ) → Adds until iid links (entriesName pairs value 0) until
 entries-none {iid = iid} pairs value = adds-none _ (λ l b. any-none (someEntry (eqb (numberAt iid l)) pairs value))
 
-pub entries-more : {until next last iid : List ℕ} {links start stop : ℕ} (pairs : Bool) (value : List ℕ) (i : ℕ) → start ≡ startAt pairs value i → stop ≡ stopAt pairs value i
+entries-more : {until next last iid : List ℕ} {links start stop : ℕ} (pairs : Bool) (value : List ℕ) (i : ℕ) → start ≡ startAt pairs value i → stop ≡ stopAt pairs value i
     → Adds until iid links (entriesName pairs value i) next → Adds next iid links (isFrom start stop) last → Adds until iid links (entriesName pairs value (i + 1)) last
 unfolding someEntry
 entries-more {start = start} {stop = stop} pairs value i p q a c =
     adds-as (λ x. rw (any-more (someEntry (eqb x) pairs value) i, range-names start stop x, p, q)) (adds-then a c)
 
-pub entries-end : {until next iid : List ℕ} {links : ℕ} (pairs : Bool) (value : List ℕ) (i : ℕ) → i ≡ entries pairs value → Adds until iid links (entriesName pairs value i) next → Adds until iid links (λ x. someOf (eqb x) pairs value) next
+entries-end : {until next iid : List ℕ} {links : ℕ} (pairs : Bool) (value : List ℕ) (i : ℕ) → i ≡ entries pairs value → Adds until iid links (entriesName pairs value i) next → Adds until iid links (λ x. someOf (eqb x) pairs value) next
 unfolding someOf
 entries-end pairs value i e a = rw e at a
+
+-- what a loop over the n entries keeps: those before i are marked
+pub record Passed (pairs : Bool) (until value iid : List ℕ) (links n i : ℕ) (next : List ℕ) : Type 0 where
+  pub adds : Adds until iid links (entriesName pairs value i) next
+  pub all : n ≡ entries pairs value
+  pub within : i ≤ n
+  pub long : length next ≡ 128
+  pub few : links ≤ 128
+  pub up : ascends iid links ≡ true
+
+module _ {pairs : Bool} {until value iid : List ℕ} {links n : ℕ} where
+  pub passed-none : n ≡ entries pairs value → (length until ≡ 128) × (links ≤ 128) × (ascends iid links ≡ true) → Passed pairs until value iid links n 0 until
+  passed-none e h = record { adds = entries-none pairs value; all = e; within = omega arith; long = h .0; few = h .1; up = h .2 }
+
+  pub passed-more : {i start stop : ℕ} {next last : List ℕ} → Passed pairs until value iid links n i next → i < n → start ≡ startAt pairs value i → stop ≡ stopAt pairs value i
+      → Adds next iid links (isFrom start stop) last → Passed pairs until value iid links n (i + 1) last
+  passed-more {i} w b p q a = record { adds = entries-more pairs value i p q (w .adds) a; all = w .all; within = omega arith; long = a .long ∙ w .long; few = w .few; up = w .up }
+
+  pub passed-end : {i : ℕ} {next : List ℕ} → Passed pairs until value iid links n i next → n ≤ i → Adds until iid links (λ x. someOf (eqb x) pairs value) next
+  passed-end {i} w b = entries-end pairs value i (omega (arith, w .all, w .within)) (w .adds)
+
+-- a single identifier is a range from itself to itself
+ids-stop : (value : List ℕ) (i : ℕ) → startAt false value i ≡ stopAt false value i
+unfolding startAt stopAt
+ids-stop value i = let e : 4 * i ≡ 4 * i + (4 - 4) = omega arith in ap (be 4 value) e
+
+pub passed-id : {until value iid next last : List ℕ} {links n i x : ℕ} → Passed false until value iid links n i next → i < n → x ≡ startAt false value i
+    → Adds next iid links (isFrom x x) last → Passed false until value iid links n (i + 1) last
+passed-id {value = value} {i = i} w b p a = passed-more w b p (p ∙ ids-stop value i) a
 
 -- a parameter names by its tag
 abbrev pub parNames : ℕ → List ℕ → ℕ → Bool
