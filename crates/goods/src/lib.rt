@@ -68,10 +68,8 @@ fn first_near(iid: &[u32; 128], links: usize, guess: &[u8; 256], x: u32, near: u
     requires { ⌜ (links ≤ 128) × (ascends (now iid) links ≡ true) ⌝ }
     ensures { λ r. ⌜ (r ≡ rank (now (iid .entry)) links x) × (r ≤ links) ⌝ }
 {
-    if near < links {
-        if iid[near] == x {
-            return near;
-        }
+    if ranges::holds(iid, links, near, x) {
+        return near;
     }
     naming::rank_near(iid, links, x, guess_of(guess, x))
 }
@@ -89,10 +87,8 @@ fn past_near(
     ensures { λ r. ⌜ (r ≡ rank (now (iid .entry)) links (stop + 1)) × (r ≤ links) ⌝ }
 {
     let near = guess_of(guess, stop);
-    if near < links {
-        if iid[near] == stop {
-            return near + 1;
-        }
+    if ranges::holds(iid, links, near, stop) {
+        return near + 1;
     }
     ranges::past_of(iid, links, first, start, stop)
 }

@@ -12,6 +12,7 @@ ghost use Rattle.ranges.specs.Inner.Laws.{Table};
 ghost use Rattle.ranges.specs.Inner.Refused.{refusedBy};
 ghost use Rattle.ranges.specs.Inner.Owners.{Looked};
 ghost use Rattle.ranges.specs.Inner.Names.{earlier, Plain, Names};
+ghost use Rattle.naming.specs.Inner.Run.{GoodAt, GoesOn};
 
 // ---- identifiers
 
@@ -20,12 +21,76 @@ pub fn rank_near(iid: &[u32; 128], links: usize, x: u32, near: usize) -> usize
     requires { ⌜ (links ≤ 128) × (ascends (now iid) links ≡ true) ⌝ }
     ensures { λ r. ⌜ (r ≡ rank (now (iid .entry)) links x) × (r ≤ links) ⌝ }
 {
-    if near < links {
-        if iid[near] == x {
-            return near;
-        }
+    if ranges::holds(iid, links, near, x) {
+        return near;
     }
     ranges::rank_at(iid, links, x)
+}
+
+// Whether identifier x stands at place l, of an AS that is in the set mine.
+fn is_good_at<'a>(
+    iid: &'a [u32; 128],
+    owner: &'a [u8; 128],
+    links: usize,
+    mine: u32,
+    l: usize,
+    x: u32,
+) -> bool
+    requires { ⌜ Table (now iid) (now owner) links ⌝ }
+    ensures { λ r. ⌜ r ≡ GoodAt (now (iid .entry)) (now (owner .entry)) links (flagsOf mine) l x ⌝ }
+{
+    if links <= l {
+        return false;
+    }
+    (iid[l] == x) & sets::has(mine, gateway::wide(owner[l]))
+}
+
+// How far the identifiers of a value are looked at: the next entry, the place where its link may stand, and the owners so far.
+struct Run {
+    i: usize,
+    near: usize,
+    set: u32,
+}
+
+// Where the last one stood where it was expected, the good ones that go on in order behind it: a loop with nothing in it but what these need. (With the
+// search in it too, 500 in order take a quarter longer as an event.)
+fn in_order<'a>(
+    go: bool,
+    from: Run,
+    value: &[u8],
+    iid: &'a [u32; 128],
+    owner: &'a [u8; 128],
+    links: usize,
+    mine: u32,
+) -> Run
+    requires { ⌜ Table (now iid) (now owner) links × (from .i ≤ entries false (now value)) ⌝ }
+    ensures { λ r. ⌜ GoesOn (now (iid .entry)) (now (owner .entry)) links (flagsOf mine) (now (value .entry)) (from .i) (flagsOf (from .set)) (r .i) (flagsOf (r .set)) ⌝ }
+{
+    if !go {
+        return from;
+    }
+    let n = value.len() / 4;
+    let mut r = from.set;
+    let mut l = from.near;
+    let mut i = from.i;
+    while i < n {
+        let x = wire::get32(value, 4 * i);
+        if !is_good_at(iid, owner, links, mine, l, x) {
+            return Run {
+                i: i,
+                near: l,
+                set: r,
+            };
+        }
+        r = sets::with_as(r, gateway::wide(owner[l]));
+        l = l + 1;
+        i = i + 1;
+    }
+    Run {
+        i: i,
+        near: l,
+        set: r,
+    }
 }
 
 // The identifiers of the value of a 0x1, beside what was named before.
@@ -43,11 +108,20 @@ pub fn of_ids<'a>(
     let n = value.len() / 4;
     let mut r = old;
     let mut near: usize = 0;
-    for i in 0..n {
+    let mut i: usize = 0;
+    while i < n {
         let x = wire::get32(value, 4 * i);
         let l = rank_near(iid, links, x, near);
-        r = ranges::with_id(r, iid, owner, links, mine, l, x);
-        near = l + 1;
+        let e = ranges::with_id(r, iid, owner, links, mine, l, x);
+        let from = Run {
+            i: i + 1,
+            near: l + 1,
+            set: e.set,
+        };
+        let t = in_order(l == near, from, value, iid, owner, links, mine);
+        r = ranges::answer(e.refused, t.set);
+        near = t.near;
+        i = t.i;
     }
     r
 }

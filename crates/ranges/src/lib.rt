@@ -68,7 +68,7 @@ pub fn passes(set: u32) -> Named
 // ---- the places inside a range
 
 // Whether x stands at place l.
-fn holds(iid: &[u32; 128], links: usize, l: usize, x: u32) -> bool
+pub fn holds(iid: &[u32; 128], links: usize, l: usize, x: u32) -> bool
     requires { ⌜ links ≤ 128 ⌝ }
     ensures { λ r. ⌜ r ≡ (ltb l links && eqb (numberAt (now (iid .entry)) l) x) ⌝ }
 {

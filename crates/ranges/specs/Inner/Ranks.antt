@@ -53,6 +53,12 @@ module _ (iid : List ℕ) (links : ℕ) (h : ascends iid links ≡ true) (x : �
           absurd w
       go (no p) (no d) = omega arith
 
+  -- by the test
+  pub rank-at : (l : ℕ) → (ltb l links && eqb (numberAt iid l) x) ≡ true → (l ≡ rank iid links x) × (l ≤ links)
+  rank-at l e =
+      let b : l < links = ltb-true l links (and-left (ltb l links) (eqb (numberAt iid l) x) e) in
+      (rank-here l b (eqb-true (numberAt iid l) x (and-right (ltb l links) (eqb (numberAt iid l) x) e)), omega arith)
+
   -- as many as are not above x
   pub past-at : (l : ℕ) → (ltb l links && eqb (numberAt iid l) x) ≡ true → (l + 1 ≡ rank iid links (x + 1)) × (l + 1 ≤ links)
   past-at l e =
