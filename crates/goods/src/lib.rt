@@ -119,7 +119,7 @@ fn mark_range(
     past
 }
 
-// That of identifier x; the place behind it. (As a range from x to x it would take half as long again.)
+// That of identifier x; the place behind it. (As a range from x to x it takes longer: docs/DECISIONS.md 104.)
 fn mark_id(
     until: &mut [u8; 128],
     iid: &[u32; 128],

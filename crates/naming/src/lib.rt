@@ -53,7 +53,7 @@ struct Run {
 }
 
 // Where the last one stood where it was expected, the good ones that go on in order behind it: a loop with nothing in it but what these need. (With the
-// search in it too, 500 in order take a quarter longer as an event.)
+// search in it too, 500 in order of 128 links take a fifth longer as an event.)
 fn in_order<'a>(
     go: bool,
     from: Run,
