@@ -5,7 +5,7 @@ mod plan;
 mod text;
 
 pub use file::{diagnose, Fault};
-pub use plan::{As, Asp, Link, Plan};
+pub use plan::{As, Asp, Link, Origin, Plan};
 pub use text::{parse, Problem};
 
 /// Text to a plan file that the library loads, or what is wrong with the text.

@@ -1,6 +1,7 @@
 //! A plan: what text and file both say.
 use m2ua::{Gateway, TrafficMode};
 use std::fmt;
+use std::net::{IpAddr, SocketAddr};
 
 /// An ASP row. (Document 02 gives it more: an owner, text identifiers.)
 #[derive(Clone, Debug, PartialEq, Eq)]
@@ -9,6 +10,45 @@ pub struct Asp {
     pub id: u32,
     /// Identifiers that it lists are taken all or none; else part of a list may succeed.
     pub whole_lists: bool,
+    /// Where its SCTP association comes from. A plan file has no place for it: it is for the host that reads the text, such as m2ua-gateway.
+    pub from: Option<Origin>,
+}
+
+/// An address, and a port where that matters.
+#[derive(Clone, Copy, Debug, PartialEq, Eq)]
+pub struct Origin {
+    pub ip: IpAddr,
+    pub port: Option<u16>,
+}
+
+impl Origin {
+    /// ADDRESS or ADDRESS:PORT, an IPv6 address with a port in brackets.
+    pub fn parse(word: &str) -> Option<Origin> {
+        match word.parse::<SocketAddr>() {
+            Ok(at) if at.port() != 0 => Some(Origin { ip: at.ip(), port: Some(at.port()) }),
+            Ok(_) => None,
+            Err(_) => Some(Origin { ip: word.parse().ok()?, port: None }),
+        }
+    }
+
+    /// Whether a peer's address is this one.
+    pub fn is(&self, peer: SocketAddr) -> bool {
+        self.ip == peer.ip() && self.port.is_none_or(|port| port == peer.port())
+    }
+
+    /// Whether a peer could be both.
+    pub fn meets(&self, other: &Origin) -> bool {
+        self.ip == other.ip && (self.port == other.port || self.port.is_none() || other.port.is_none())
+    }
+}
+
+impl fmt::Display for Origin {
+    fn fmt(&self, f: &mut fmt::Formatter<'_>) -> fmt::Result {
+        match self.port {
+            Some(port) => write!(f, "{}", SocketAddr::new(self.ip, port)),
+            None => write!(f, "{}", self.ip),
+        }
+    }
 }
 
 /// An AS row. (Document 02: a sharing rule, an owner.)
@@ -54,6 +94,7 @@ impl Plan {
                     name: format!("asp{p}"),
                     id: g.asp_id(p).unwrap_or_default(),
                     whole_lists: g.takes_whole_lists(p),
+                    from: None,
                 })
                 .collect(),
             ases: (0..g.ases())
@@ -127,7 +168,11 @@ impl fmt::Display for Plan {
     fn fmt(&self, f: &mut fmt::Formatter<'_>) -> fmt::Result {
         for asp in &self.asps {
             let lists = if asp.whole_lists { " whole-lists" } else { "" };
-            writeln!(f, "asp {} id {}{lists}", asp.name, asp.id)?;
+            write!(f, "asp {} id {}{lists}", asp.name, asp.id)?;
+            if let Some(from) = asp.from {
+                write!(f, " from {from}")?;
+            }
+            writeln!(f)?;
         }
         for r#as in &self.ases {
             write!(f, "as {} mode {}", r#as.name, r#as.mode)?;

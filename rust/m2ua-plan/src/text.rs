@@ -3,7 +3,7 @@
 //! ```text
 //! # what follows a '#' is a comment
 //! asp left  id 7
-//! asp right id 8 whole-lists
+//! asp right id 8 whole-lists from 192.0.2.8
 //! as east mode override members left right
 //! link 100-115 as east
 //! link 200 as east high-speed
@@ -11,7 +11,7 @@
 //!
 //! A statement is a word, its subject, and options in any order, each at most once. Names may be used before they are defined. What document 02 adds (fill numbers of
 //! links, options of ASPs and ASes, key rows) becomes an option of a statement, or a statement of its own: their words are reserved.
-use crate::plan::{As, Asp, Link, Plan};
+use crate::plan::{As, Asp, Link, Origin, Plan};
 use m2ua::{sys, TrafficMode};
 use std::fmt;
 
@@ -47,7 +47,7 @@ impl fmt::Display for Problem {
 }
 
 /// Words that are no names: those of today and those that document 02 will need.
-const WORDS: [&str; 16] = [
+const WORDS: [&str; 17] = [
     "asp",
     "as",
     "link",
@@ -62,6 +62,7 @@ const WORDS: [&str; 16] = [
     "onset",
     "abate",
     "whole-lists",
+    "from",
     "text",
     "plan",
 ];
@@ -118,7 +119,7 @@ impl<'a> Statement<'a> {
 /// Statements and their options: what follows the subject.
 fn options_of(word: &str) -> Option<&'static [&'static str]> {
     match word {
-        "asp" => Some(&["id", "whole-lists"]),
+        "asp" => Some(&["id", "whole-lists", "from"]),
         "as" => Some(&["mode", "members"]),
         "link" => Some(&["as", "high-speed"]),
         _ => None,
@@ -208,6 +209,17 @@ fn mode_of(s: &Statement<'_>) -> Result<TrafficMode, Problem> {
     }
 }
 
+fn from_of(s: &Statement<'_>) -> Result<Option<Origin>, Problem> {
+    if s.option("from").is_none() {
+        return Ok(None);
+    }
+    let word = s.single("from", "an address, or ADDRESS:PORT")?;
+    match Origin::parse(word) {
+        Some(from) => Ok(Some(from)),
+        None => Err(s.problem(format!("from '{word}' is no address, and no ADDRESS:PORT"))),
+    }
+}
+
 fn range_of(s: &Statement<'_>) -> Result<(u32, u32), Problem> {
     let (start, stop) = s.subject.split_once('-').unwrap_or((s.subject, s.subject));
     let end = |word: &str| {
@@ -279,10 +291,11 @@ struct Said {
     links: Vec<SaidLink>,
 }
 
-/// An ASP's identifier, and whether its lists are taken whole.
+/// An ASP's identifier, whether its lists are taken whole, and where it comes from.
 struct SaidAsp {
     id: u32,
     whole_lists: bool,
+    from: Option<Origin>,
 }
 
 /// A line of links, both ends, with the name of their owner.
@@ -314,7 +327,15 @@ fn add(said: &mut Said, s: &Statement<'_>) -> Result<(), Problem> {
             let id = number(word)
                 .ok_or_else(|| s.problem(format!("id '{word}' is no number up to 4294967295")))?;
             let whole_lists = s.given("whole-lists")?;
-            said.asps.add(s, SaidAsp { id, whole_lists })
+            let from = from_of(s)?;
+            said.asps.add(
+                s,
+                SaidAsp {
+                    id,
+                    whole_lists,
+                    from,
+                },
+            )
         }
         "as" => {
             let members = s
@@ -353,6 +374,19 @@ fn asps_of(said: &Said, problems: &mut Vec<Problem>) -> Vec<Asp> {
             ));
         }
     }
+    for (i, (name, line, asp)) in said.asps.rows.iter().enumerate() {
+        let meets = |before: &SaidAsp| Some(before.from?.meets(&asp.from?));
+        if let Some((other, at, _)) = said.asps.rows[..i]
+            .iter()
+            .find(|(_, _, before)| meets(before) == Some(true))
+        {
+            problems.push(Problem::new(
+                *line,
+                &format!("asp {name}"),
+                format!("it could not be told from asp {other} (line {at}) by where it comes from"),
+            ));
+        }
+    }
     said.asps
         .rows
         .iter()
@@ -360,6 +394,7 @@ fn asps_of(said: &Said, problems: &mut Vec<Problem>) -> Vec<Asp> {
             name: name.clone(),
             id: asp.id,
             whole_lists: asp.whole_lists,
+            from: asp.from,
         })
         .collect()
 }

@@ -366,15 +366,15 @@ fn a_refused_text_names_line_row_and_reason() {
     );
     assert_eq!(
         with("asp b id 1 owner B"),
-        ["line 3: asp b: 'owner' is no option of asp here: id, whole-lists"]
+        ["line 3: asp b: 'owner' is no option of asp here: id, whole-lists, from"]
     );
     assert_eq!(
         with("asp b 1"),
-        ["line 3: asp b: '1' where an option is expected: id, whole-lists"]
+        ["line 3: asp b: '1' where an option is expected: id, whole-lists, from"]
     );
     assert_eq!(
         with("asp b whole-list id 1"),
-        ["line 3: asp b: 'whole-list' where an option is expected: id, whole-lists"]
+        ["line 3: asp b: 'whole-list' where an option is expected: id, whole-lists, from"]
     );
     assert_eq!(
         with("asp b id 1 whole-list"),
@@ -474,7 +474,7 @@ fn a_refused_text_names_line_row_and_reason() {
     );
     assert_eq!(
         with("asp b id 1 high-speed"),
-        ["line 3: asp b: 'high-speed' is no option of asp here: id, whole-lists"]
+        ["line 3: asp b: 'high-speed' is no option of asp here: id, whole-lists, from"]
     );
     assert_eq!(
         with("as y mode override members a high-speed"),

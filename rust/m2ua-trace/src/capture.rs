@@ -2,24 +2,80 @@
 use crate::trace::{is_traffic, Lane, Trace, What};
 use m2ua::sys;
 
-/// One association: the next transmission sequence number of each side.
-#[derive(Clone, Copy)]
-struct Association {
-    from_asp: u32,
-    from_gateway: u32,
+/// The first bytes of a capture file: its format, and that each packet begins with its IP header.
+pub fn header() -> Vec<u8> {
+    [0xa1b2_c3d4, 4 << 16 | 2, 0, 0, 65535, 101u32]
+        .iter()
+        .flat_map(|word| word.to_le_bytes())
+        .collect()
+}
+
+/// The other end of an association with the gateway.
+#[derive(Clone, Copy, Debug, PartialEq, Eq)]
+pub enum End {
+    Asp(usize),
+    /// 10.0.2.1: the process that has the links, where it speaks M2UA's messages too.
+    LinkSide,
+}
+
+impl End {
+    /// A number of its own, below 512.
+    fn number(self) -> usize {
+        match self {
+            End::Asp(p) => p & 0xff,
+            End::LinkSide => 0x100,
+        }
+    }
+
+    fn address(self) -> [u8; 4] {
+        match self {
+            End::Asp(p) => [10, 0, 1, (p + 1) as u8],
+            End::LinkSide => [10, 0, 2, 1],
+        }
+    }
+}
+
+/// What is known of each association: the next transmission sequence number of each side.
+pub struct Associations([[u32; 2]; 512]);
+
+impl Associations {
+    pub fn new() -> Associations {
+        Associations([[1; 2]; 512])
+    }
+
+    /// A message as a packet of a capture file, with its time in seconds and microseconds.
+    pub fn message(&mut self, end: End, from_gateway: bool, bytes: &[u8], time: (u32, u32)) -> Vec<u8> {
+        let tsn = &mut self.0[end.number()][usize::from(from_gateway)];
+        *tsn = tsn.wrapping_add(1);
+        recorded(sctp(end, from_gateway, &data_chunk(bytes, *tsn)), time)
+    }
+}
+
+impl Default for Associations {
+    fn default() -> Self {
+        Associations::new()
+    }
+}
+
+/// The end of an association as a packet: an ABORT of the other end.
+pub fn lost(end: End, time: (u32, u32)) -> Vec<u8> {
+    recorded(sctp(end, false, &[6, 0, 0, 4]), time)
+}
+
+fn recorded(packet: Vec<u8>, (seconds, micros): (u32, u32)) -> Vec<u8> {
+    let length = packet.len() as u32;
+    let mut record = Vec::with_capacity(16 + packet.len());
+    for word in [seconds, micros, length, length] {
+        record.extend(word.to_le_bytes());
+    }
+    record.extend(packet);
+    record
 }
 
 /// The capture of a trace. An association that breaks is an ABORT of its ASP.
 pub fn pcap(trace: &Trace) -> Vec<u8> {
-    let mut out = Vec::new();
-    // linktype 101: each packet begins with its IP header
-    for word in [0xa1b2_c3d4, 4 << 16 | 2, 0, 0, 65535, 101u32] {
-        out.extend(word.to_le_bytes());
-    }
-    let mut associations = [Association {
-        from_asp: 1,
-        from_gateway: 1,
-    }; 256];
+    let mut out = header();
+    let mut associations = Associations::new();
     let (mut event, mut micros) = (0, 0);
     for step in &trace.steps {
         micros = if step.event == event {
@@ -28,29 +84,17 @@ pub fn pcap(trace: &Trace) -> Vec<u8> {
             0
         };
         event = step.event;
-        let packet = match &step.what {
+        let time = (event as u32, micros);
+        match &step.what {
             What::Message(Lane::Asp(p), _, bytes) => {
-                let tsn = &mut associations[*p].from_asp;
-                *tsn += 1;
-                sctp(*p, false, &data_chunk(bytes, *tsn))
+                out.extend(associations.message(End::Asp(*p), false, bytes, time))
             }
             What::Message(_, Lane::Asp(p), bytes) => {
-                let tsn = &mut associations[*p].from_gateway;
-                *tsn += 1;
-                sctp(*p, true, &data_chunk(bytes, *tsn))
+                out.extend(associations.message(End::Asp(*p), true, bytes, time))
             }
-            What::Lost(p) => sctp(*p, false, &[6, 0, 0, 4]),
-            _ => continue,
-        };
-        for word in [
-            event as u32,
-            micros,
-            packet.len() as u32,
-            packet.len() as u32,
-        ] {
-            out.extend(word.to_le_bytes());
+            What::Lost(p) => out.extend(lost(End::Asp(*p), time)),
+            _ => {}
         }
-        out.extend(packet);
     }
     out
 }
@@ -69,8 +113,8 @@ fn data_chunk(message: &[u8], tsn: u32) -> Vec<u8> {
     chunk
 }
 
-fn sctp(asp: usize, from_gateway: bool, chunk: &[u8]) -> Vec<u8> {
-    let (gateway, peer) = ([10, 0, 0, 1], [10, 0, 1, (asp + 1) as u8]);
+fn sctp(end: End, from_gateway: bool, chunk: &[u8]) -> Vec<u8> {
+    let (gateway, peer) = ([10, 0, 0, 1], end.address());
     let (source, destination) = if from_gateway {
         (gateway, peer)
     } else {
@@ -79,7 +123,7 @@ fn sctp(asp: usize, from_gateway: bool, chunk: &[u8]) -> Vec<u8> {
     let mut segment = Vec::new();
     segment.extend(sys::PORT.to_be_bytes());
     segment.extend(sys::PORT.to_be_bytes());
-    segment.extend((0x1000 + asp as u32 * 2 + u32::from(from_gateway)).to_be_bytes());
+    segment.extend((0x1000 + end.number() as u32 * 2 + u32::from(from_gateway)).to_be_bytes());
     segment.extend([0; 4]);
     segment.extend(chunk);
     let sum = crc32c(&segment);

@@ -1,4 +1,6 @@
-//! The lines of a script that load a plan, say an event or change what an event is lent.
+//! The lines of a script that load a plan, say an event or change what an event is lent; and an event as such a line.
+use m2ua::{sys, Event};
+use std::fmt;
 
 /// A line that matters here.
 #[derive(Clone, Debug, PartialEq, Eq)]
@@ -21,6 +23,58 @@ pub enum Happening {
     LinkUp(usize),
     LinkDown(usize),
     LinkMessage(Vec<u8>),
+}
+
+impl Happening {
+    /// The event, with its bytes lent.
+    pub fn event(&self) -> Event<'_> {
+        match self {
+            Happening::Message(asp, message) => Event::Message { asp: *asp, message },
+            Happening::Lost(asp) => Event::Lost { asp: *asp },
+            Happening::Recovery(server) => Event::Recovery { r#as: *server },
+            Happening::LinkUp(link) => Event::LinkUp { link: *link },
+            Happening::LinkDown(link) => Event::LinkDown { link: *link },
+            Happening::LinkMessage(message) => Event::LinkMessage { message },
+        }
+    }
+}
+
+/// An event as a line of a script, lent the words that it needs; without the end of the line.
+pub struct Line<'a>(pub &'a Event<'a>);
+
+impl fmt::Display for Line<'_> {
+    fn fmt(&self, f: &mut fmt::Formatter<'_>) -> fmt::Result {
+        let words = sys::LIST_WORDS;
+        match *self.0 {
+            Event::Message { asp, message } => write!(f, "msg {asp} {words} {}", Hex(message)),
+            Event::Lost { asp } => write!(f, "lost {asp} {words}"),
+            Event::Recovery { r#as } => write!(f, "recovery {} {words}", r#as),
+            Event::LinkUp { link } => write!(f, "up {link} {words}"),
+            Event::LinkDown { link } => write!(f, "down {link} {words}"),
+            Event::LinkMessage { message } => write!(f, "linkmsg {words} {}", Hex(message)),
+        }
+    }
+}
+
+/// Bytes as a script has them: pairs of hex digits, or - for none.
+pub struct Hex<'a>(pub &'a [u8]);
+
+impl fmt::Display for Hex<'_> {
+    fn fmt(&self, f: &mut fmt::Formatter<'_>) -> fmt::Result {
+        const DIGITS: &[u8; 16] = b"0123456789abcdef";
+        if self.0.is_empty() {
+            return f.write_str("-");
+        }
+        // many at a time: a call for each digit takes longer than the event itself
+        for bytes in self.0.chunks(64) {
+            let mut text = [0; 128];
+            for (pair, byte) in text.chunks_mut(2).zip(bytes) {
+                pair.copy_from_slice(&[DIGITS[usize::from(byte >> 4)], DIGITS[usize::from(byte & 15)]]);
+            }
+            f.write_str(std::str::from_utf8(&text[..2 * bytes.len()]).unwrap_or_default())?;
+        }
+        Ok(())
+    }
 }
 
 /// The commands of a script, or of a file of samples (`> ` before each command, `< ` before each answer). Commands that load nothing and say no event are passed over.
@@ -78,7 +132,8 @@ fn number(word: &str) -> Result<usize, String> {
         .map_err(|_| format!("'{word}' is no number of 32 bits"))
 }
 
-fn bytes(word: &str) -> Result<Vec<u8>, String> {
+/// Bytes from pairs of hex digits, or - for none.
+pub fn bytes(word: &str) -> Result<Vec<u8>, String> {
     if word == "-" {
         return Ok(Vec::new());
     }

@@ -130,14 +130,7 @@ impl Runner {
     /// What comes in is seen first, then the orders, then what has changed.
     fn happens(&mut self, happening: &Happening, list: usize) {
         self.event += 1;
-        let event = match happening {
-            Happening::Message(asp, message) => Event::Message { asp: *asp, message },
-            Happening::Lost(asp) => Event::Lost { asp: *asp },
-            Happening::Recovery(server) => Event::Recovery { r#as: *server },
-            Happening::LinkUp(link) => Event::LinkUp { link: *link },
-            Happening::LinkDown(link) => Event::LinkDown { link: *link },
-            Happening::LinkMessage(message) => Event::LinkMessage { message },
-        };
+        let event = happening.event();
         self.comes_in(&event);
         let Some(g) = self.gateway else {
             return self.refused(sys::REFUSED_STATE);

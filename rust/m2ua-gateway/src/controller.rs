@@ -1,0 +1,259 @@
+//! What m2ua-asp does: an association, a script, and a record of every message that went to and fro.
+use crate::os;
+use crate::script::{Command, Said};
+use crate::sctp::Stack;
+use crate::transport::{Association, Batch, Received, Sent};
+use m2ua::sys;
+use m2ua_trace::script::Hex;
+use std::collections::VecDeque;
+use std::fs::File;
+use std::io::Write;
+use std::net::SocketAddr;
+use std::path::PathBuf;
+use std::time::{Duration, Instant};
+
+/// Where the other end is.
+pub enum Target {
+    Unix(PathBuf),
+    Sctp { stack: Stack, from: SocketAddr, to: SocketAddr },
+}
+
+impl Target {
+    /// An association; until the time is over it is tried again.
+    fn connect(&self, time: Duration) -> Result<Association, String> {
+        let end = Instant::now() + time;
+        loop {
+            let (tried, name) = match self {
+                Target::Unix(path) => (os::seqpacket_connect(path).map(Association::Packets), path.display().to_string()),
+                Target::Sctp { stack, from, to } => (stack.connect(*from, *to).map(Association::Sctp), to.to_string()),
+            };
+            match tried {
+                Ok(association) => return Ok(association),
+                Err(e) if Instant::now() >= end => return Err(format!("{name}: {e}")),
+                Err(_) => std::thread::sleep(Duration::from_millis(20)),
+            }
+        }
+    }
+}
+
+pub struct Controller {
+    target: Target,
+    timeout: Duration,
+    /// Every message, as a line: > and its bytes where it was sent, < where it was received. A line is written before its message is sent.
+    record: Option<File>,
+    /// Each message in words on standard output.
+    verbose: bool,
+    association: Option<Association>,
+    inbox: VecDeque<Vec<u8>>,
+    batch: Batch,
+    sent: u32,
+}
+
+impl Controller {
+    pub fn new(target: Target, timeout: Duration, record: Option<File>, verbose: bool) -> Controller {
+        Controller { target, timeout, record, verbose, association: None, inbox: VecDeque::new(), batch: Batch::new(), sent: 0 }
+    }
+
+    /// Runs a script over an association of its own.
+    pub fn run(&mut self, commands: &[Command]) -> Result<(), String> {
+        self.connect()?;
+        self.all(commands)
+    }
+
+    fn all(&mut self, commands: &[Command]) -> Result<(), String> {
+        commands.iter().try_for_each(|command| self.one(command))
+    }
+
+    fn one(&mut self, command: &Command) -> Result<(), String> {
+        match command {
+            Command::Send(said) => {
+                let message = said.written(self.sent)?;
+                self.send(&message, sys::PPID)
+            }
+            Command::Raw(bytes, ppid) => self.send(bytes, *ppid),
+            Command::Wait(count, said) => self.wait(*count, said),
+            Command::Expect(said) => {
+                let message = self.next(said)?;
+                if said.fits(&message) { Ok(()) } else { Err(format!("{} came where another was expected: {said:?}", words(&message))) }
+            }
+            Command::Sleep(time) => self.rest(Duration::from_millis(*time)),
+            Command::Repeat(count, body) => (0..*count).try_for_each(|_| self.all(body)),
+            Command::Close => {
+                self.close();
+                Ok(())
+            }
+            Command::Connect => self.connect(),
+            Command::Die => std::process::abort(),
+        }
+    }
+
+    pub fn connect(&mut self) -> Result<(), String> {
+        self.close();
+        self.association = Some(self.target.connect(self.timeout)?);
+        self.note("# connected");
+        Ok(())
+    }
+
+    /// Ends the association in order.
+    pub fn close(&mut self) {
+        if let Some(association) = self.association.take() {
+            association.close(false);
+        }
+    }
+
+    /// Ends: what was sent goes out, and the stack is done.
+    pub fn end(mut self) {
+        self.close();
+        if let Target::Sctp { stack, .. } = self.target {
+            stack.stop(Duration::from_secs(2));
+        }
+    }
+
+    fn note(&mut self, line: &str) {
+        if let Some(record) = &mut self.record {
+            // one call for a line, so that a process that is killed leaves whole lines
+            let _ = record.write_all(format!("{line}\n").as_bytes());
+        }
+    }
+
+    fn show(&mut self, sign: &str, message: &[u8]) {
+        if self.record.is_some() {
+            self.note(&format!("{sign} {}", Hex(message)));
+        }
+        if self.verbose {
+            println!("{sign} {}", words(message));
+        }
+    }
+
+    /// Sends a message, and takes in what comes meanwhile.
+    pub fn send(&mut self, message: &[u8], ppid: u32) -> Result<(), String> {
+        self.show(">", message);
+        let end = Instant::now() + self.timeout;
+        loop {
+            match self.attempt(message, ppid)? {
+                Sent::Done => {
+                    self.sent = self.sent.wrapping_add(1);
+                    return Ok(());
+                }
+                Sent::Ended => return Err("the association is over".into()),
+                Sent::Later if Instant::now() >= end => return Err("the other end takes nothing more".into()),
+                Sent::Later => self.take_in(Duration::from_millis(1))?,
+            }
+        }
+    }
+
+    fn attempt(&self, message: &[u8], ppid: u32) -> Result<Sent, String> {
+        match &self.association {
+            None => Err("there is no association".into()),
+            Some(Association::Sctp(a)) if ppid != sys::PPID => Ok(a.send(message, 0, ppid)),
+            Some(association) => Ok(association.send(message)),
+        }
+    }
+
+    /// Takes in what has come, and if there is nothing what comes within a time. The end of the association is a fault.
+    fn take_in(&mut self, time: Duration) -> Result<(), String> {
+        if self.taken()? {
+            return Ok(());
+        }
+        let association = self.association.as_ref().ok_or("there is no association")?;
+        os::wait_for(association, false, time).map_err(|e| e.to_string())?;
+        if let Association::Sctp(a) = association {
+            a.calm();
+        }
+        self.taken().map(|_| ())
+    }
+
+    /// Takes in what has come; `false` where that is nothing.
+    fn taken(&mut self) -> Result<bool, String> {
+        let mut batch = std::mem::take(&mut self.batch);
+        self.association.as_mut().ok_or("there is no association")?.receive(&mut batch);
+        for k in 0..batch.len() {
+            match batch.get(k) {
+                (Received::Message(_), message) => {
+                    self.show("<", message);
+                    self.inbox.push_back(message.to_vec());
+                }
+                (Received::Ended, _) => self.association = None,
+                _ => {}
+            }
+        }
+        let some = !batch.is_empty();
+        self.batch = batch;
+        if self.association.is_none() {
+            return Err("the association is over".into());
+        }
+        Ok(some)
+    }
+
+    /// The next message that comes.
+    fn next(&mut self, wanted: &Said) -> Result<Vec<u8>, String> {
+        let end = Instant::now() + self.timeout;
+        loop {
+            if let Some(message) = self.inbox.pop_front() {
+                return Ok(message);
+            }
+            if Instant::now() >= end {
+                return Err(format!("nothing came within {} ms; waited for: {wanted:?}", self.timeout.as_millis()));
+            }
+            let left = end.saturating_duration_since(Instant::now());
+            self.take_in(left).map_err(|why| format!("{why}; waited for: {wanted:?}"))?;
+        }
+    }
+
+    fn wait(&mut self, count: usize, said: &Said) -> Result<(), String> {
+        let mut found = 0;
+        while found < count {
+            let message = self.next(said).map_err(|why| format!("{why} ({found} of {count} came)"))?;
+            found += usize::from(said.fits(&message));
+        }
+        Ok(())
+    }
+
+    /// Waits for a time, and takes in what comes. That the association ends meanwhile is no fault.
+    fn rest(&mut self, time: Duration) -> Result<(), String> {
+        let end = Instant::now() + time;
+        while Instant::now() < end {
+            let left = end.saturating_duration_since(Instant::now());
+            if self.association.is_none() || self.take_in(left).is_err() {
+                std::thread::sleep(end.saturating_duration_since(Instant::now()));
+            }
+        }
+        Ok(())
+    }
+
+    /// Round trips of Beats of `bytes` bytes, `window` of them under way at a time: the time of each in nanoseconds, and of all.
+    pub fn measure(&mut self, count: usize, window: usize, bytes: usize) -> Result<(Vec<u64>, Duration), String> {
+        let (mut begun, mut times) = (VecDeque::with_capacity(window), Vec::with_capacity(count));
+        let mut beat = [1, 0, 3, 3, 0, 0, 0, 0, 0, 9, 0, 0].to_vec();
+        beat.resize(12 + bytes.next_multiple_of(4), 7);
+        let length = beat.len() as u32;
+        beat[4..8].copy_from_slice(&length.to_be_bytes());
+        beat[10..12].copy_from_slice(&(length as u16 - 8).to_be_bytes());
+        let start = Instant::now();
+        while times.len() < count {
+            while begun.len() < window && begun.len() + times.len() < count {
+                begun.push_back(Instant::now());
+                self.send(&beat, sys::PPID)?;
+            }
+            while self.inbox.is_empty() {
+                self.take_in(self.timeout)?;
+            }
+            for answer in std::mem::take(&mut self.inbox) {
+                let right = answer.len() == beat.len() && answer[8..] == beat[8..];
+                let sent: Instant = begun.pop_front().filter(|_| right).ok_or("an answer that is none came")?;
+                times.push(sent.elapsed().as_nanos() as u64);
+            }
+        }
+        Ok((times, start.elapsed()))
+    }
+}
+
+fn words(message: &[u8]) -> String {
+    match m2ua::read(message) {
+        Ok(reading) => match m2ua::parameter(message, sys::TAG_ERROR_CODE).or(m2ua::parameter(message, sys::TAG_STATUS)) {
+            Some(value) => format!("{reading}: {}", value.iter().fold(0, |n: u64, b| n * 256 + u64::from(*b))),
+            None => reading.to_string(),
+        },
+        Err(no) => format!("{} bytes that do not read: {no}", message.len()),
+    }
+}

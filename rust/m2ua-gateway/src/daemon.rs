@@ -1,0 +1,376 @@
+//! The daemon: one loop that waits for sockets, signals and timers, makes an event of what has happened, and has the orders carried out. Events come one after the other, each with
+//! all of its orders, before anything more is read.
+use crate::dump;
+use crate::engine::Engine;
+use crate::links;
+use crate::log::Level;
+use crate::options::Options;
+use crate::os::{self, Epoll, Ready, Signals};
+use crate::outside::{Next, Outside};
+use crate::records::Capture;
+use crate::sctp;
+use crate::transport::{Association, Batch, Received};
+use m2ua::{Event, Refusal};
+use m2ua_plan::Plan;
+use std::io::Result;
+use std::os::fd::OwnedFd;
+use std::time::{Duration, Instant, SystemTime};
+
+/// What is watched, by number: the peers, their listening sockets, and two more.
+const LISTENERS: u64 = 32;
+const SIGNALS: u64 = 64;
+const WAKE: u64 = 65;
+
+/// What a daemon has opened.
+pub struct Opened {
+    pub watch: Epoll,
+    pub signals: Signals,
+    /// Of each peer the socket where it connects.
+    pub listeners: Vec<OwnedFd>,
+    pub sctp: Option<(sctp::Stack, sctp::Listener)>,
+}
+
+impl Opened {
+    /// Watches all of it.
+    pub fn watched(&self) -> Result<()> {
+        self.watch.add(&self.signals, SIGNALS)?;
+        for (p, listener) in self.listeners.iter().enumerate() {
+            self.watch.add(listener, LISTENERS + p as u64)?;
+        }
+        self.sctp.as_ref().map_or(Ok(()), |(stack, _)| self.watch.add(stack.wake(), WAKE))
+    }
+}
+
+pub struct Daemon {
+    pub options: Options,
+    pub plan: Plan,
+    pub engine: Engine,
+    pub outside: Outside,
+    pub opened: Opened,
+    /// Of each AS that waits, when its recovery time is over.
+    pub timers: Vec<Option<Instant>>,
+    /// What each peer's socket is watched for: to read, to write.
+    pub interests: Vec<(bool, bool)>,
+    /// Room for what is read.
+    pub batch: Option<Box<Batch>>,
+}
+
+impl Daemon {
+    /// Serves until a signal ends it.
+    pub fn run(mut self) -> Result<()> {
+        let mut room = [Ready::NONE; 64];
+        loop {
+            let patience = self.patience();
+            let ready = self.opened.watch.wait(&mut room, patience)?;
+            self.outside.set_time(Instant::now(), SystemTime::now());
+            for one in ready {
+                if !self.serve(one) {
+                    return self.finish();
+                }
+            }
+            self.serve_sctp();
+            self.serve_timers();
+            self.end_turn()?;
+        }
+    }
+
+    /// How long nothing is due: not at all where something has come that no descriptor tells.
+    fn patience(&self) -> Option<Duration> {
+        if self.outside.peers.iter().any(|p| p.ready && !p.paused && is_sctp(&p.association)) {
+            return Some(Duration::ZERO);
+        }
+        let stalls = self.outside.peers.iter().filter(|p| p.waiting().1 > 0).map(|p| p.progress + self.options.stall);
+        let due = self.timers.iter().flatten().copied().chain(stalls).min()?;
+        Some(due.saturating_duration_since(Instant::now()))
+    }
+
+    /// Serves one descriptor; `false` where the daemon is to end.
+    fn serve(&mut self, ready: &Ready) -> bool {
+        match ready.number() {
+            SIGNALS => return self.signalled(),
+            WAKE => self.wake(),
+            n if n >= LISTENERS => self.accept((n - LISTENERS) as usize),
+            n => {
+                let p = n as usize;
+                self.outside.flush(p);
+                if ready.is_closed() && self.outside.peers[p].paused {
+                    // what it sent last is not waited for
+                    self.outside.lose(p, "the association is over");
+                }
+                self.settle();
+                self.read(p);
+            }
+        }
+        true
+    }
+
+    /// Takes messages of a peer, each with all that follows from it.
+    fn read(&mut self, p: usize) {
+        if self.outside.is_full(p) {
+            return;
+        }
+        let mut batch = self.batch.take().unwrap_or_default();
+        self.outside.peers[p].receive(&mut batch);
+        for k in 0..batch.len() {
+            // what came before its end, and was not yet taken then, is no event
+            if self.outside.peers[p].association.is_none() {
+                break;
+            }
+            let (received, bytes) = batch.get(k);
+            match received {
+                Received::Message(length) => self.message(p, bytes, length),
+                Received::Foreign(ppid) => {
+                    let name = self.outside.peers[p].name.clone();
+                    self.outside.complain(p, format_args!("{name}: a message of payload protocol {ppid}, not 2, is passed over"))
+                }
+                Received::Restarted => self.outside.restarted(p),
+                Received::Ended => self.outside.lose(p, "the association is over"),
+            }
+            self.settle();
+        }
+        self.batch = Some(batch);
+    }
+
+    /// A message of an ASP is an event whatever it is; one of the link side says which event it is.
+    fn message(&mut self, p: usize, message: &[u8], length: usize) {
+        if length > message.len() {
+            let name = self.outside.peers[p].name.clone();
+            self.outside.complain(p, format_args!("{name}: a message of {length} bytes; the longest that reads has 2048"));
+        }
+        if p != self.outside.link_side() {
+            return self.happens(&Event::Message { asp: p, message });
+        }
+        match links::event_of(message, &self.engine.state) {
+            Ok(event) => self.happens(&event),
+            Err(code) => self.link_fault(code),
+        }
+    }
+
+    /// An event, and its orders carried out.
+    fn happens(&mut self, event: &Event<'_>) {
+        self.outside.record(event, &self.engine.state);
+        if let Err(no) = self.engine.run(event) {
+            return self.refused(event, no);
+        }
+        self.set_timers();
+        for (order, message) in self.engine.orders() {
+            self.outside.carry_out(&order, message, event, &self.engine.state);
+        }
+        self.outside.log_changes(&self.engine);
+    }
+
+    /// What follows from the events until here: lost associations, and what simulated links answer.
+    fn settle(&mut self) {
+        while let Some(next) = self.outside.next.pop_front() {
+            match next {
+                Next::Event(happening) => self.happens(&happening.event()),
+                Next::LinksGone => {
+                    let busy: Vec<usize> = (0..self.engine.state.links()).filter(|&l| self.engine.state.raw().state[l] != 0).collect();
+                    busy.into_iter().for_each(|link| self.happens(&Event::LinkDown { link }));
+                }
+            }
+        }
+    }
+
+    /// Of all events only a message of the link side is ever refused here, and it is answered by an Error.
+    fn refused(&mut self, event: &Event<'_>, no: Refusal) {
+        match event {
+            Event::LinkMessage { message } if no.code() == m2ua::sys::REFUSED_PLACE => self.link_fault(links::why_refused(message, &self.engine.state)),
+            _ => self.outside.log.line(Level::Faults, format_args!("refused: {event}: {no}")),
+        }
+    }
+
+    fn link_fault(&mut self, code: u32) {
+        let side = self.outside.link_side();
+        let text = Refusal::of(code).map_or(String::new(), |no| no.to_string());
+        self.outside.complain(side, format_args!("links: a message that is no event is answered by Error {text}"));
+        self.outside.send(side, &links::error(code), side);
+    }
+
+    fn set_timers(&mut self) {
+        let Some(timers) = self.engine.timers() else {
+            return;
+        };
+        for a in timers.started() {
+            self.timers[a] = Some(self.outside.now + self.options.recovery);
+        }
+        for a in timers.stopped() {
+            self.timers[a] = None;
+        }
+    }
+
+    fn serve_timers(&mut self) {
+        let now = self.outside.now;
+        for a in 0..self.timers.len() {
+            if self.timers[a].is_some_and(|due| due <= now) {
+                self.timers[a] = None;
+                self.happens(&Event::Recovery { r#as: a });
+                self.settle();
+            }
+        }
+        for p in 0..self.outside.peers.len() {
+            let peer = &self.outside.peers[p];
+            if peer.waiting().1 > 0 && peer.progress + self.options.stall <= now {
+                self.outside.lose(p, "it takes nothing while messages wait for it: disconnected");
+                self.settle();
+            }
+        }
+    }
+
+    /// A peer connects to its Unix socket. It has one association at a time.
+    fn accept(&mut self, p: usize) {
+        while let Ok(socket) = os::accept(&self.opened.listeners[p]) {
+            let association = Association::Packets(socket);
+            if self.outside.peers[p].association.is_none() {
+                match self.opened.watch.add(&association, p as u64) {
+                    Ok(()) => self.interests[p] = (true, false),
+                    Err(e) => return self.outside.log.line(Level::Faults, format_args!("{}: cannot be watched: {e}", self.outside.peers[p].name)),
+                }
+            }
+            self.begin(p, association, "");
+        }
+    }
+
+    fn begin(&mut self, p: usize, association: Association, from: &str) {
+        let (name, transport) = (self.outside.peers[p].name.clone(), association.transport());
+        if self.outside.peers[p].association.is_some() {
+            self.outside.complain(p, format_args!("{name}: a second association ({transport}{from}) is refused"));
+            return association.close(true);
+        }
+        self.outside.log.line(Level::Changes, format_args!("{name}: association ({transport}{from})"));
+        let now = self.outside.now;
+        self.outside.peers[p].begin(association, now);
+    }
+
+    /// The SCTP stack has something: which association, it does not tell.
+    fn wake(&mut self) {
+        let Some((stack, listener)) = &self.opened.sctp else {
+            return;
+        };
+        os::calm(stack.wake());
+        let new: Vec<_> = std::iter::from_fn(|| listener.accept()).collect();
+        for (association, peer) in new {
+            match self.plan.asps.iter().position(|asp| asp.from.is_some_and(|from| from.is(peer))) {
+                Some(p) => self.begin(p, Association::Sctp(association), &format!(", {peer}")),
+                None => {
+                    self.outside.log.line(Level::Changes, format_args!("sctp: an association of {peer}, where no ASP of the plan is from, is refused"));
+                    association.close(true);
+                }
+            }
+        }
+        for peer in self.outside.peers.iter_mut().filter(|p| is_sctp(&p.association)) {
+            peer.ready = true;
+        }
+    }
+
+    fn serve_sctp(&mut self) {
+        if self.opened.sctp.is_none() {
+            return;
+        }
+        for p in 0..self.outside.peers.len() {
+            if self.outside.peers[p].ready && is_sctp(&self.outside.peers[p].association) {
+                self.outside.flush(p);
+                self.settle();
+                self.read(p);
+            }
+        }
+    }
+
+    /// What peers are watched for from here on, and what is written down.
+    fn end_turn(&mut self) -> Result<()> {
+        for p in 0..self.outside.peers.len() {
+            let full = self.outside.is_full(p);
+            self.outside.sum_up(p);
+            let peer = &mut self.outside.peers[p];
+            peer.paused = full;
+            let interest = (!full, peer.waiting().1 > 0);
+            if interest != self.interests[p] && matches!(peer.association, Some(Association::Packets(_))) {
+                self.opened.watch.set(peer.association.as_ref().expect("there is one"), p as u64, interest.0, interest.1)?;
+                self.interests[p] = interest;
+            }
+        }
+        self.write_down();
+        Ok(())
+    }
+
+    fn write_down(&mut self) {
+        let outside = &mut self.outside;
+        outside.log.flush();
+        if let Some(Err(e)) = outside.journal.as_mut().map(|j| j.flush()) {
+            outside.journal = None;
+            outside.log.line(Level::Faults, format_args!("journal: {e}; it ends here"));
+        }
+        if let Some(Err(e)) = outside.capture.as_mut().map(|c| c.flush()) {
+            outside.capture = None;
+            outside.log.line(Level::Faults, format_args!("capture: {e}; it ends here"));
+        }
+    }
+
+    /// Signals; `false` where one ends the daemon.
+    fn signalled(&mut self) -> bool {
+        while let Some(signal) = self.opened.signals.next() {
+            match signal {
+                os::SIGUSR1 => self.dump(),
+                os::SIGUSR2 => self.toggle_capture(),
+                _ => return false,
+            }
+        }
+        true
+    }
+
+    fn dump(&mut self) {
+        self.write_down();
+        let path = self.options.dir.join("state");
+        let text = dump::text(&self.plan, &self.engine, &self.outside.peers, SystemTime::now());
+        match dump::write(&path, &text) {
+            Ok(()) => self.outside.log.line(Level::Changes, format_args!("dump: {} after {} events", path.display(), self.engine.events)),
+            Err(e) => self.outside.log.line(Level::Faults, format_args!("dump: {}: {e}", path.display())),
+        }
+    }
+
+    pub fn toggle_capture(&mut self) {
+        let path = self.options.dir.join("m2ua.pcap");
+        if let Some(mut capture) = self.outside.capture.take() {
+            let ended = capture.flush().map_or_else(|e| e.to_string(), |()| "ended".into());
+            return self.outside.log.line(Level::Changes, format_args!("capture: {ended}"));
+        }
+        match Capture::create(&path, SystemTime::now()) {
+            Ok(capture) => {
+                self.outside.capture = Some(capture);
+                self.outside.log.line(Level::Changes, format_args!("capture: {}", path.display()));
+            }
+            Err(e) => self.outside.log.line(Level::Faults, format_args!("capture: {}: {e}", path.display())),
+        }
+    }
+
+    /// Ends: no more is read, what waits is sent as far as it goes within a second, associations are closed in order.
+    fn finish(mut self) -> Result<()> {
+        self.outside.log.line(Level::Faults, format_args!("m2ua-gateway: ends by a signal, after {} events", self.engine.events));
+        let end = Instant::now() + Duration::from_secs(1);
+        while Instant::now() < end && self.outside.peers.iter().any(|p| p.waiting().1 > 0) {
+            (0..self.outside.peers.len()).for_each(|p| self.outside.flush(p));
+            std::thread::sleep(Duration::from_millis(5));
+        }
+        for peer in &mut self.outside.peers {
+            if let (Some(association), dropped) = peer.end() {
+                association.close(false);
+                if dropped > 0 {
+                    self.outside.log.line(Level::Faults, format_args!("{}: {dropped} messages that waited are dropped", peer.name));
+                }
+            }
+        }
+        if let Some((stack, listener)) = self.opened.sctp.take() {
+            listener.close();
+            stack.stop(Duration::from_secs(1));
+        }
+        for peer in &self.outside.peers {
+            let _ = std::fs::remove_file(self.options.dir.join(&peer.socket));
+        }
+        self.write_down();
+        Ok(())
+    }
+}
+
+fn is_sctp(association: &Option<Association>) -> bool {
+    matches!(association, Some(Association::Sctp(_)))
+}

@@ -1,0 +1,263 @@
+//! All that is around the gateway itself: the peers, and what is written down. It carries out orders, and remembers what these lead to.
+use crate::engine::Engine;
+use crate::links;
+use crate::log::{Level, Log};
+use crate::options::Links;
+use crate::peer::{Fate, Peer};
+use crate::records::{Capture, Journal};
+use m2ua::{Addressee, Event, Gateway, MessageType, Order, Status};
+use m2ua_trace::capture::End;
+use m2ua_trace::script::Happening;
+use std::collections::VecDeque;
+use std::io::Stderr;
+use std::time::{Instant, SystemTime};
+
+/// What is to happen next, before anything more is read.
+pub enum Next {
+    Event(Happening),
+    /// The link side is gone: no link is in service any more.
+    LinksGone,
+}
+
+pub struct Outside {
+    /// The ASPs by their numbers, and behind them the link side.
+    pub peers: Vec<Peer>,
+    /// The names of the ASes.
+    pub ases: Vec<String>,
+    pub links: Links,
+    pub log: Log<Stderr>,
+    pub journal: Option<Journal>,
+    pub capture: Option<Capture>,
+    pub next: VecDeque<Next>,
+    pub now: Instant,
+    /// Until when complaints about a peer are counted, and how many there were.
+    complaints: Vec<(Instant, u64)>,
+}
+
+/// So many complaints about a peer are written in a second; of more, how many there were.
+const COMPLAINTS: u64 = 10;
+/// Where so much waits for an ASP, or so much of it for the link side, nothing is read of it until half has gone: a peer is held up by itself alone.
+pub const FULL: usize = 32768;
+
+impl Outside {
+    pub fn new(peers: Vec<Peer>, ases: Vec<String>, links: Links, log: Log<Stderr>) -> Outside {
+        let now = Instant::now();
+        let complaints = vec![(now, 0); peers.len()];
+        Outside { peers, ases, links, log, journal: None, capture: None, next: VecDeque::new(), now, complaints }
+    }
+
+    /// The place of the link side among the peers.
+    pub fn link_side(&self) -> usize {
+        self.peers.len() - 1
+    }
+
+    pub fn set_time(&mut self, now: Instant, clock: SystemTime) {
+        self.now = now;
+        self.log.set_time(clock);
+        if let Some(capture) = &mut self.capture {
+            capture.set_time(clock);
+        }
+    }
+
+    /// Whether so much waits that nothing more is to be read of a peer. One that is paused goes on when half has gone.
+    pub fn is_full(&self, p: usize) -> bool {
+        let most = if self.peers[p].paused { FULL / 2 } else { FULL };
+        let links = self.link_side();
+        p != links && (self.peers[p].waiting().0 > most || self.peers[links].share(p) > most)
+    }
+
+    fn end_of(&self, p: usize) -> End {
+        if p == self.link_side() { End::LinkSide } else { End::Asp(p) }
+    }
+
+    /// Writes an event down before it is run: in the journal, in the log, and as a packet in the capture.
+    pub fn record(&mut self, event: &Event<'_>, g: &Gateway) {
+        if let Some(Err(e)) = self.journal.as_mut().map(|j| j.event(event)) {
+            self.journal = None;
+            self.log.line(Level::Faults, format_args!("journal: {e}; it ends here"));
+        }
+        if self.log.says(Level::All) {
+            self.log_event(event, g);
+        }
+        match event {
+            Event::Message { asp, message } => self.captured(End::Asp(*asp), false, message),
+            Event::LinkMessage { message } => self.captured(End::LinkSide, false, message),
+            _ => {}
+        }
+    }
+
+    fn log_event(&mut self, event: &Event<'_>, g: &Gateway) {
+        let text = event.to_string();
+        let words = text.split_once(": ").map_or(text.as_str(), |(_, words)| words);
+        let id = |link: usize| g.interface_id(link).unwrap_or_default();
+        let line = match *event {
+            Event::Message { asp, .. } | Event::Lost { asp } => format!("{}: {words}", self.peers[asp].name),
+            Event::Recovery { r#as } => format!("AS {}: recovery time over", self.ases[r#as]),
+            Event::LinkUp { link } => format!("links: link {} in service", id(link)),
+            Event::LinkDown { link } => format!("links: link {} out of service", id(link)),
+            Event::LinkMessage { .. } => format!("links: {words}"),
+        };
+        self.log.line(Level::All, format_args!("{line}"));
+    }
+
+    pub fn captured(&mut self, end: End, from_gateway: bool, message: &[u8]) {
+        let Some(capture) = &mut self.capture else {
+            return;
+        };
+        let written = capture.message(end, from_gateway, message);
+        if written.is_err() || capture.is_full() {
+            let why = written.err().map_or("it is full".into(), |e| e.to_string());
+            self.log.line(Level::Faults, format_args!("capture: {why}; it ends here"));
+            self.capture = None;
+        }
+    }
+
+    /// Carries out an order: a message to an ASP, or to the link side.
+    pub fn carry_out(&mut self, order: &Order, message: &[u8], event: &Event<'_>, g: &Gateway) {
+        self.log_order(order);
+        match order.to {
+            Addressee::Asp(p) => self.send(p, message, p),
+            Addressee::LinkSide => match links::message_of(order, event) {
+                Ok(message) => self.to_links(order, &message, event, g),
+                Err(no) => self.log.line(Level::Faults, format_args!("links: {order} cannot be written: {no}")),
+            },
+        }
+    }
+
+    fn log_order(&mut self, order: &Order) {
+        let fault = order.message == MessageType::Error;
+        if !self.log.says(Level::All) && !fault {
+            return;
+        }
+        let (p, name) = match order.to {
+            Addressee::Asp(p) => (p, self.peers[p].name.as_str()),
+            Addressee::LinkSide => (self.link_side(), "links"),
+        };
+        let text = order.to_string();
+        let words = text.split_once(": ").map_or(text.as_str(), |(_, words)| words);
+        let line = match (order.message, Status::of(order.value)) {
+            (MessageType::Notify, Some(status)) => format!("to {name}: Notify, AS {} {status}", self.ases[order.subject as usize]),
+            _ => format!("to {name}: {words}"),
+        };
+        if self.log.says(Level::All) {
+            self.log.line(Level::All, format_args!("{line}"));
+        } else {
+            self.complain(p, format_args!("{line}"));
+        }
+    }
+
+    fn to_links(&mut self, order: &Order, message: &[u8], event: &Event<'_>, g: &Gateway) {
+        let side = self.link_side();
+        if self.links == Links::Loop {
+            self.captured(End::LinkSide, true, message);
+            return self.next.extend(links::simulated(order, message, g).into_iter().map(Next::Event));
+        }
+        if self.peers[side].association.is_none() {
+            self.complain(side, format_args!("links: not connected, {} of link {} is not carried out", order.message, order.subject));
+            let link = g.link_place(order.subject).filter(|&l| g.raw().state[l] != 0);
+            self.next.extend(link.map(|l| Next::Event(Happening::LinkDown(l))));
+            return;
+        }
+        let origin = match event {
+            Event::Message { asp, .. } => *asp,
+            _ => side,
+        };
+        self.send(side, message, origin)
+    }
+
+    /// Sends a message to a peer; a peer for which too much waits is disconnected.
+    pub fn send(&mut self, p: usize, message: &[u8], origin: usize) {
+        let fate = self.peers[p].send(message, origin, self.now);
+        match fate {
+            Fate::Taken => self.captured(self.end_of(p), true, message),
+            Fate::Absent => {}
+            Fate::Ended => self.lose(p, "the association is over"),
+            Fate::Overflow => self.lose(p, "too much waits for it: disconnected"),
+        }
+    }
+
+    /// Sends what waits for a peer.
+    pub fn flush(&mut self, p: usize) {
+        if !self.peers[p].flush(self.now) {
+            self.lose(p, "the association is over");
+        }
+    }
+
+    /// Ends the association of a peer, if it has one, and lets that be known.
+    pub fn lose(&mut self, p: usize, why: &str) {
+        let (association, dropped) = self.peers[p].end();
+        let Some(association) = association else {
+            return;
+        };
+        association.close(true);
+        self.lost(p, why, dropped);
+    }
+
+    /// The peer has begun anew on the same association.
+    pub fn restarted(&mut self, p: usize) {
+        if let (Some(association), dropped) = self.peers[p].end() {
+            self.lost(p, "the peer has begun anew", dropped);
+            self.peers[p].begin(association, self.now);
+        }
+    }
+
+    fn lost(&mut self, p: usize, why: &str, dropped: usize) {
+        let name = self.peers[p].name.clone();
+        let waited = if dropped > 0 { format!(", {dropped} messages that waited are dropped") } else { String::new() };
+        self.log.line(Level::Changes, format_args!("{name}: {why}{waited}"));
+        let end = self.end_of(p);
+        if let Some(capture) = &mut self.capture {
+            // a capture that cannot be written is told of at the next message
+            let _ = capture.lost(end);
+        }
+        self.next.push_back(if p == self.link_side() { Next::LinksGone } else { Next::Event(Happening::Lost(p)) });
+    }
+
+    /// A line about what a peer does wrong: the first few in a second, then how many more there were.
+    pub fn complain(&mut self, p: usize, words: std::fmt::Arguments<'_>) {
+        let (until, count) = self.complaints[p];
+        if self.now >= until {
+            self.sum_up(p);
+            self.complaints[p] = (self.now + std::time::Duration::from_secs(1), 1);
+        } else {
+            self.complaints[p].1 = count + 1;
+        }
+        if self.complaints[p].1 <= COMPLAINTS {
+            self.log.line(Level::Changes, words);
+        }
+    }
+
+    /// Says how many complaints were left out, once their second is over.
+    pub fn sum_up(&mut self, p: usize) {
+        let (until, count) = self.complaints[p];
+        if self.now >= until && count > COMPLAINTS {
+            let (name, more) = (self.peers[p].name.clone(), count - COMPLAINTS);
+            self.log.line(Level::Changes, format_args!("{name}: {more} more such lines"));
+            self.complaints[p].1 = 0;
+        }
+    }
+
+    /// What has become of ASPs, ASes and links by the last event.
+    pub fn log_changes(&mut self, engine: &Engine) {
+        let (was, is) = (&engine.before, &engine.state);
+        if !self.log.says(Level::Changes) || !engine.has_changed() {
+            return;
+        }
+        for p in (0..is.asps()).filter(|&p| was.is_up(p) != is.is_up(p)) {
+            let (name, state) = (&self.peers[p].name, if is.is_up(p) { "up" } else { "down" });
+            self.log.line(Level::Changes, format_args!("ASP {name} is {state}"));
+        }
+        for (a, name) in self.ases.iter().enumerate() {
+            if let Some(state) = is.as_state(a).filter(|s| was.as_state(a) != Some(*s)) {
+                let active: Vec<&str> = (0..is.asps()).filter(|&p| is.is_active(a, p)).map(|p| self.peers[p].name.as_str()).collect();
+                let who = if active.is_empty() { String::new() } else { format!(": {}", active.join(", ")) };
+                self.log.line(Level::Changes, format_args!("AS {name} is {state}{who}"));
+            }
+        }
+        for l in (0..is.links()).filter(|&l| was.link_state(l) != is.link_state(l)) {
+            if let (Some(id), Some(state)) = (is.interface_id(l), is.link_state(l)) {
+                self.log.line(Level::Changes, format_args!("link {id} is {state}"));
+            }
+        }
+    }
+}
