@@ -60,7 +60,7 @@ impl Controller {
         self.all(commands)
     }
 
-    fn all(&mut self, commands: &[Command]) -> Result<(), String> {
+    pub fn all(&mut self, commands: &[Command]) -> Result<(), String> {
         commands.iter().try_for_each(|command| self.one(command))
     }
 
@@ -74,7 +74,7 @@ impl Controller {
             Command::Wait(count, said) => self.wait(*count, said),
             Command::Expect(said) => {
                 let message = self.next(said)?;
-                if said.fits(&message) { Ok(()) } else { Err(format!("{} came where another was expected: {said:?}", words(&message))) }
+                if said.fits(&message) { Ok(()) } else { Err(format!("{} came where {} was expected", words(&message), said.text)) }
             }
             Command::Sleep(time) => self.rest(Duration::from_millis(*time)),
             Command::Repeat(count, body) => (0..*count).try_for_each(|_| self.all(body)),
@@ -193,10 +193,10 @@ impl Controller {
                 return Ok(message);
             }
             if Instant::now() >= end {
-                return Err(format!("nothing came within {} ms; waited for: {wanted:?}", self.timeout.as_millis()));
+                return Err(format!("nothing came within {} ms; waited for: {}", self.timeout.as_millis(), wanted.text));
             }
             let left = end.saturating_duration_since(Instant::now());
-            self.take_in(left).map_err(|why| format!("{why}; waited for: {wanted:?}"))?;
+            self.take_in(left).map_err(|why| format!("{why}; waited for: {}", wanted.text))?;
         }
     }
 

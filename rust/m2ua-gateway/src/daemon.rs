@@ -142,7 +142,7 @@ impl Daemon {
         }
         match links::event_of(message, &self.engine.state) {
             Ok(event) => self.happens(&event),
-            Err(code) => self.link_fault(code),
+            Err(code) => self.link_fault(code, message),
         }
     }
 
@@ -175,16 +175,16 @@ impl Daemon {
     /// Of all events only a message of the link side is ever refused here, and it is answered by an Error.
     fn refused(&mut self, event: &Event<'_>, no: Refusal) {
         match event {
-            Event::LinkMessage { message } if no.code() == m2ua::sys::REFUSED_PLACE => self.link_fault(links::why_refused(message, &self.engine.state)),
+            Event::LinkMessage { message } if no.code() == m2ua::sys::REFUSED_PLACE => self.link_fault(links::why_refused(message, &self.engine.state), message),
             _ => self.outside.log.line(Level::Faults, format_args!("refused: {event}: {no}")),
         }
     }
 
-    fn link_fault(&mut self, code: u32) {
+    fn link_fault(&mut self, code: u32, message: &[u8]) {
         let side = self.outside.link_side();
         let text = Refusal::of(code).map_or(String::new(), |no| no.to_string());
         self.outside.complain(side, format_args!("links: a message that is no event is answered by Error {text}"));
-        self.outside.send(side, &links::error(code), side);
+        self.outside.send(side, &links::error(code, message), side);
     }
 
     fn set_timers(&mut self) {
@@ -238,8 +238,7 @@ impl Daemon {
             return association.close(true);
         }
         self.outside.log.line(Level::Changes, format_args!("{name}: association ({transport}{from})"));
-        let now = self.outside.now;
-        self.outside.peers[p].begin(association, now);
+        self.outside.begin(p, association);
     }
 
     /// The SCTP stack has something: which association, it does not tell.
@@ -296,10 +295,8 @@ impl Daemon {
     fn write_down(&mut self) {
         let outside = &mut self.outside;
         outside.log.flush();
-        if let Some(Err(e)) = outside.journal.as_mut().map(|j| j.flush()) {
-            outside.journal = None;
-            outside.log.line(Level::Faults, format_args!("journal: {e}; it ends here"));
-        }
+        let written = outside.journal.as_mut().map(|j| j.flush());
+        outside.journalled(written);
         if let Some(Err(e)) = outside.capture.as_mut().map(|c| c.flush()) {
             outside.capture = None;
             outside.log.line(Level::Faults, format_args!("capture: {e}; it ends here"));

@@ -73,9 +73,14 @@ const FOR_ASPS: [MessageType; 7] = [
     MessageType::CongestionIndication,
 ];
 
-/// The Error that the link side gets for a message that is no event.
-pub fn error(code: u32) -> Vec<u8> {
-    write(MessageType::Error, &[Parameter::new(sys::TAG_ERROR_CODE, &code.to_be_bytes())]).unwrap_or_default()
+/// The Error that the link side gets for a message that is no event; with the identifier where that is what is wrong.
+pub fn error(code: u32, message: &[u8]) -> Vec<u8> {
+    let (code, id) = (code.to_be_bytes(), read(message).map_or(0, |r| r.id).to_be_bytes());
+    let mut list = vec![Parameter::new(sys::TAG_ERROR_CODE, &code)];
+    if u32::from_be_bytes(code) == sys::ERROR_INVALID_INTERFACE_ID {
+        list.push(Parameter::new(sys::TAG_INTERFACE_ID, &id));
+    }
+    write(MessageType::Error, &list).unwrap_or_default()
 }
 
 /// The simulated link side: links start and stop as soon as they are asked to, a unit comes back as if the other end had sent it, a state is confirmed, and there is never

@@ -5,11 +5,12 @@ use crate::log::{Level, Log};
 use crate::options::Links;
 use crate::peer::{Fate, Peer};
 use crate::records::{Capture, Journal};
+use crate::transport::Association;
 use m2ua::{Addressee, Event, Gateway, MessageType, Order, Status};
 use m2ua_trace::capture::End;
 use m2ua_trace::script::Happening;
 use std::collections::VecDeque;
-use std::io::Stderr;
+use std::io::{Result, Stderr};
 use std::time::{Instant, SystemTime};
 
 /// What is to happen next, before anything more is read.
@@ -72,10 +73,8 @@ impl Outside {
 
     /// Writes an event down before it is run: in the journal, in the log, and as a packet in the capture.
     pub fn record(&mut self, event: &Event<'_>, g: &Gateway) {
-        if let Some(Err(e)) = self.journal.as_mut().map(|j| j.event(event)) {
-            self.journal = None;
-            self.log.line(Level::Faults, format_args!("journal: {e}; it ends here"));
-        }
+        let written = self.journal.as_mut().map(|j| j.event(event));
+        self.journalled(written);
         if self.log.says(Level::All) {
             self.log_event(event, g);
         }
@@ -83,6 +82,14 @@ impl Outside {
             Event::Message { asp, message } => self.captured(End::Asp(*asp), false, message),
             Event::LinkMessage { message } => self.captured(End::LinkSide, false, message),
             _ => {}
+        }
+    }
+
+    /// A journal that cannot be written ends.
+    pub fn journalled(&mut self, written: Option<Result<()>>) {
+        if let Some(Err(e)) = written {
+            self.journal = None;
+            self.log.line(Level::Faults, format_args!("journal: {e}; it ends here"));
         }
     }
 
@@ -183,6 +190,14 @@ impl Outside {
         }
     }
 
+    /// An association begins.
+    pub fn begin(&mut self, p: usize, association: Association) {
+        let name = &self.peers[p].name;
+        let written = self.journal.as_mut().map(|j| j.note(format_args!("{name} begins")));
+        self.journalled(written);
+        self.peers[p].begin(association, self.now);
+    }
+
     /// Ends the association of a peer, if it has one, and lets that be known.
     pub fn lose(&mut self, p: usize, why: &str) {
         let (association, dropped) = self.peers[p].end();
@@ -197,7 +212,7 @@ impl Outside {
     pub fn restarted(&mut self, p: usize) {
         if let (Some(association), dropped) = self.peers[p].end() {
             self.lost(p, "the peer has begun anew", dropped);
-            self.peers[p].begin(association, self.now);
+            self.begin(p, association);
         }
     }
 
@@ -205,6 +220,8 @@ impl Outside {
         let name = self.peers[p].name.clone();
         let waited = if dropped > 0 { format!(", {dropped} messages that waited are dropped") } else { String::new() };
         self.log.line(Level::Changes, format_args!("{name}: {why}{waited}"));
+        let written = self.journal.as_mut().map(|j| j.note(format_args!("{name} ends")));
+        self.journalled(written);
         let end = self.end_of(p);
         if let Some(capture) = &mut self.capture {
             // a capture that cannot be written is told of at the next message

@@ -2,12 +2,13 @@
 use m2ua::Event;
 use m2ua_trace::capture::{self, Associations, End};
 use m2ua_trace::script::{Hex, Line};
+use std::fmt::Arguments;
 use std::fs::File;
 use std::io::{BufWriter, Result, Write};
 use std::path::Path;
 use std::time::{SystemTime, UNIX_EPOCH};
 
-/// Each event in its sequence, behind the plan: `replay` gives the same orders.
+/// Each event in its sequence, behind the plan: `replay` gives the same orders. Lines between them say where associations begin and end.
 pub struct Journal(BufWriter<File>);
 
 impl Journal {
@@ -19,6 +20,11 @@ impl Journal {
 
     pub fn event(&mut self, event: &Event<'_>) -> Result<()> {
         writeln!(self.0, "{}", Line(event))
+    }
+
+    /// A line that `replay` passes over: which association begins or ends here.
+    pub fn note(&mut self, words: Arguments<'_>) -> Result<()> {
+        writeln!(self.0, "# {words}")
     }
 
     pub fn flush(&mut self) -> Result<()> {

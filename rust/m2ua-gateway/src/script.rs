@@ -5,6 +5,8 @@ use m2ua_trace::script::bytes;
 /// A message as it is written in a script. As a pattern it fits every message of its type that has all of its parameters, with these values.
 #[derive(Clone, Debug, PartialEq, Eq)]
 pub struct Said {
+    /// As it is written.
+    pub text: String,
     pub message: MessageType,
     pub parameters: Vec<(u16, Value)>,
 }
@@ -116,7 +118,7 @@ fn said(words: &[&str]) -> Result<Said, String> {
         return Err(format!("'{}' has no value", rest[rest.len() - 1]));
     }
     let parameters: Result<Vec<_>, String> = rest.chunks(2).map(|pair| parameter(pair[0], pair[1])).collect();
-    Ok(Said { message, parameters: parameters? })
+    Ok(Said { text: words.join(" "), message, parameters: parameters? })
 }
 
 impl Said {
@@ -163,6 +165,9 @@ fn command(words: &[&str]) -> Result<Command, String> {
     }
 }
 
+/// What is wrong with a script that could go on.
+pub const UNFINISHED: &str = "the end of a repeat is missing";
+
 /// The commands of a script, or the first line that is none.
 pub fn parse(source: &str) -> Result<Vec<Command>, String> {
     let mut open: Vec<(usize, Vec<Command>)> = vec![(1, Vec::new())];
@@ -182,7 +187,7 @@ pub fn parse(source: &str) -> Result<Vec<Command>, String> {
     }
     match open.pop() {
         Some((_, commands)) if open.is_empty() => Ok(commands),
-        _ => Err("the end of a repeat is missing".into()),
+        _ => Err(UNFINISHED.into()),
     }
 }
 
@@ -231,7 +236,7 @@ mod tests {
             ("up colour 3", "line 1: no such parameter: colour"),
             ("up id x", "line 1: 'x' is no number of 32 bits"),
             ("data data 1", "line 1: bytes are pairs of hex digits, or -"),
-            ("repeat 2\nup", "the end of a repeat is missing"),
+            ("repeat 2\nup", UNFINISHED),
             ("end", "line 1: nothing to end"),
             ("wait 2 for", "line 1: a message is missing"),
         ] {

@@ -9,7 +9,7 @@ use std::process::ExitCode;
 use std::time::Duration;
 
 const USAGE: &str = "\
-usage: m2ua-asp [OPTION ..] SCRIPT                a script is run ('-': standard input)
+usage: m2ua-asp [OPTION ..] SCRIPT                a script is run; of '-', standard input, each command as it comes, and 'ok' when it is done
        m2ua-asp [OPTION ..] --measure COUNT       round trips of so many Heartbeats are timed
 
   --unix PATH              the gateway's Unix socket: DIR/asp-NAME, or DIR/links for a link side
@@ -124,21 +124,39 @@ fn run(o: &Options) -> Result<(), String> {
         None => None,
     };
     let commands = match o.script.as_deref() {
+        Some("-") | None => Vec::new(),
         Some(path) => commands(path)?,
-        None => Vec::new(),
     };
     let mut controller = Controller::new(target(o)?, o.timeout, record, !o.quiet && o.measure.is_none());
     match o.measure {
         Some(count) => measure(&mut controller, count, o)?,
+        None if o.script.as_deref() == Some("-") => as_they_come(&mut controller)?,
         None => controller.run(&commands)?,
     }
     controller.end();
     Ok(())
 }
 
+/// Commands of standard input, each when its last line has come.
+fn as_they_come(controller: &mut Controller) -> Result<(), String> {
+    controller.connect()?;
+    println!("ok");
+    let mut open = String::new();
+    for line in std::io::stdin().lines() {
+        open += &line.map_err(|e| e.to_string())?;
+        open += "\n";
+        match script::parse(&open) {
+            Err(why) if why == script::UNFINISHED => continue,
+            commands => controller.all(&commands?)?,
+        }
+        open.clear();
+        println!("ok");
+    }
+    Ok(())
+}
+
 fn commands(path: &str) -> Result<Vec<script::Command>, String> {
-    let read = if path == "-" { std::io::read_to_string(std::io::stdin()) } else { std::fs::read_to_string(path) };
-    let source = read.map_err(|e| format!("{path}: {e}"))?;
+    let source = std::fs::read_to_string(path).map_err(|e| format!("{path}: {e}"))?;
     script::parse(&source).map_err(|why| format!("{path}: {why}"))
 }
 
