@@ -5,6 +5,7 @@ association it is known what has to come out of it; the controllers' records say
 import os
 import pathlib
 import re
+import select
 import signal
 import subprocess
 import tempfile
@@ -71,7 +72,8 @@ class Lab:
             self.daemon.kill()
         self.daemon.wait()
         if kind is not None:
-            print("".join(self.text().splitlines(keepends=True)[-30:]))
+            lines = [line for line in self.text().splitlines() if ": Error 6 (" not in line]
+            print("\n".join(lines[-30:]))
         self.folder.cleanup()
 
     def text(self):
@@ -111,7 +113,7 @@ class Controller:
 
     def __init__(self, lab, name, options=(), sctp=False):
         Controller.count += 1
-        self.lab, self.name, self.waiting = lab, name, 0
+        self.lab, self.name, self.waiting, self.killed = lab, name, 0, False
         self.record = lab.dir / f"record-{Controller.count}"
         if sctp:
             where = ["--sctp", "127.0.0.1", "--from", f"127.0.0.1:{lab.ports[name]}", "--udp", str(20000 + Controller.count % 20000)]
@@ -137,9 +139,7 @@ class Controller:
     def join(self):
         """Waits until all commands are done."""
         while self.waiting:
-            line = self.process.stdout.readline()
-            need(line == "ok\n", f"{self.name}: {self.process.stderr.read().strip() if line == '' else line.strip()}")
-            self.waiting -= 1
+            self.said()
 
     def do(self, *commands):
         for command in commands:
@@ -149,13 +149,27 @@ class Controller:
     def fails(self, command):
         """Gives a command that cannot succeed: what is said of it."""
         self.start(command)
-        line = self.process.stdout.readline()
-        need(line == "", f"{self.name}: {command} succeeded")
+        said = self.process.stdout.read()
+        need(said.count("\n") < self.waiting, f"{self.name}: {command} succeeded")
         return self.process.stderr.read().strip()
 
+    def said(self):
+        """Takes what the process says: 'ok' for each command that is done."""
+        text = os.read(self.process.stdout.fileno(), 3 * self.waiting).decode()
+        need(text.startswith("ok\n"), f"{self.name}: {text.strip() or self.process.stderr.read().strip()}")
+        self.waiting -= text.count("\n")
+
+    def idle(self):
+        """Whether all commands are done, without waiting for them."""
+        while self.waiting and select.select([self.process.stdout], [], [], 0)[0]:
+            self.said()
+        return self.waiting == 0
+
     def kill(self):
+        self.killed = True
         self.process.kill()
         self.process.wait()
+        self.end()
 
     def end(self, kill=False):
         if kill:
@@ -228,24 +242,32 @@ def replayed(script, to):
 
 
 class Tape:
-    """What a peer has recorded, association by association, against what the journal says."""
+    """What a peer has recorded, association by association, against what the journal says. SCTP keeps the sequence within a stream alone: there the messages of each stream are compared
+    among themselves."""
 
-    def __init__(self, name, segments, whole):
-        self.name, self.whole, self.counted, self.missing, self.number = name, whole, 0, 0, 0
-        self.segments, self.open = iter(segments), False
+    def __init__(self, name, segments, whole, streams):
+        self.name, self.whole, self.counted, self.number = name, whole, 0, 0
+        self.segments, self.open, self.streams = iter(segments), False, streams
 
     def fault(self, what):
         raise Failure(f"{self.name}, association {self.number}: {what}")
 
+    def stream(self, message):
+        """Stream 1 is that of traffic, classes 4 and 6."""
+        return int(self.streams and message[4:6] in ("04", "06"))
+
+    def parted(self, messages):
+        return [iter([m for m in messages if self.stream(m) == stream]) for stream in (0, 1)]
+
     def begin(self):
-        self.number, self.open, self.missing = self.number + 1, True, 0
+        self.number, self.open, self.missing = self.number + 1, True, [0, 0]
         segment = next(self.segments, None)
         if segment is None:
             self.fault("nobody has a record of it")
-        self.sent, self.received = map(iter, segment)
+        self.sent, self.received = map(self.parted, segment)
 
     def event(self, message):
-        was = next(self.sent, None)
+        was = next(self.sent[self.stream(message)], None)
         if not self.open or was != message:
             self.fault(f"an event with {message}, and what was sent is {was}")
         self.counted += 1
@@ -253,11 +275,12 @@ class Tape:
     def due(self, message):
         if not self.open:
             return
-        got = next(self.received, None)
+        stream = self.stream(message)
+        got = next(self.received[stream], None)
         if got is None:
-            self.missing += 1
-        elif self.missing or got != message:
-            self.fault(f"received {got}, and due was {message} ({self.missing} were missing before)")
+            self.missing[stream] += 1
+        elif self.missing[stream] or got != message:
+            self.fault(f"received {got}, and due was {message}")
         else:
             self.counted += 1
 
@@ -266,11 +289,12 @@ class Tape:
         if not self.open:
             return
         self.open = False
-        left = next(self.received, None)
-        if left is not None:
-            self.fault(f"received {left}, and nothing more was due")
-        if self.whole and (self.missing or next(self.sent, None) is not None):
-            self.fault(f"{self.missing} messages that were due are missing, or one that was sent is no event")
+        for stream in (0, 1):
+            left = next(self.received[stream], None)
+            if left is not None:
+                self.fault(f"received {left}, and nothing more was due")
+            if self.whole and (self.missing[stream] or next(self.sent[stream], None) is not None):
+                self.fault(f"{self.missing[stream]} messages that were due are missing, or one that was sent is no event")
 
 
 def segments_of(lab, name):
@@ -279,7 +303,7 @@ def segments_of(lab, name):
         if controller.name == name:
             for sent, received in controller.segments():
                 if name == "links":
-                    sent = [m for m in sent if m[:6] == "010006" and m[6:8] not in ("03", "05", "06")]
+                    sent = [m for m in sent if m[:6] != "010006" or m[6:8] not in ("03", "05", "06")]
                     received = [m for m in received if m[:8] != "01000000"]
                 yield sent, received
 
@@ -302,7 +326,7 @@ def compared(lab, whole=True, dumps=()):
     replayed(journal, first).close()
     with open(journal) as lines, open(first) as answers, open(script, "w") as out:
         scripted(lines, answers, states, out)
-    tapes = {name: Tape(name, segments_of(lab, name), whole) for name in [*lab.names, "links"]}
+    tapes = {name: Tape(name, segments_of(lab, name), whole, lab.sctp and name != "links") for name in [*lab.names, "links"]}
     counts = {"events": 0, "orders": 0, "associations": 0}
     with open(journal) as lines, replayed(script, second) as answers:
         need(next(lines).startswith("plan ") and next(answers) == "0\n", "replay loads the plan")

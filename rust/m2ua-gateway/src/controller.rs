@@ -87,6 +87,27 @@ impl Controller {
         }
     }
 
+    /// More of standard input, added to what there is; `false` at its end. What the association brings meanwhile is taken in.
+    pub fn more(&mut self, input: &mut Vec<u8>) -> Result<bool, String> {
+        // more than std keeps for standard input, so that nothing stays there, where no descriptor tells of it
+        let mut bytes = [0; 1 << 16];
+        loop {
+            let stdin = std::io::stdin();
+            let ready = match &self.association {
+                Some(association) => os::wait_for_either(&stdin, association).map_err(|e| e.to_string())?,
+                None => (true, false),
+            };
+            if ready.1 {
+                self.take_in(Duration::ZERO)?;
+            }
+            if ready.0 {
+                let count = std::io::Read::read(&mut stdin.lock(), &mut bytes).map_err(|e| e.to_string())?;
+                input.extend(&bytes[..count]);
+                return Ok(count > 0);
+            }
+        }
+    }
+
     pub fn connect(&mut self) -> Result<(), String> {
         self.close();
         self.association = Some(self.target.connect(self.timeout)?);

@@ -141,8 +141,8 @@ impl Daemon {
             return self.happens(&Event::Message { asp: p, message });
         }
         match links::event_of(message, &self.engine.state) {
-            Ok(event) => self.happens(&event),
-            Err(code) => self.link_fault(code, message),
+            Some(event) => self.happens(&event),
+            None => self.link_fault(m2ua::sys::ERROR_INVALID_INTERFACE_ID, message),
         }
     }
 

@@ -38,6 +38,7 @@ pub fn text(plan: &Plan, engine: &Engine, peers: &[Peer], now: SystemTime) -> St
         let state = g.link_state(l).map_or(String::new(), |s| s.to_string());
         let _ = writeln!(out, "link {} as {} {state}", link.id, plan.ases[link.owner].name);
     }
+    let _ = writeln!(out, "memory {}", memory());
     let _ = writeln!(out, "state {}", state_line(g));
     for line in units(g, &engine.hold) {
         let _ = writeln!(out, "{line}");
@@ -57,6 +58,13 @@ fn association(peer: &Peer) -> String {
         c.sent,
         c.dropped
     )
+}
+
+/// What the process has of memory now, and at most had.
+fn memory() -> String {
+    let status = std::fs::read_to_string("/proc/self/status").unwrap_or_default();
+    let of = |name: &str| status.lines().find_map(|l| l.strip_prefix(name)).unwrap_or("?").trim().to_string();
+    format!("{} now, {} at most", of("VmRSS:"), of("VmHWM:"))
 }
 
 /// What `replay` answers to `state` (docs/SCRIPT.md).

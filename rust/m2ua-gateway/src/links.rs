@@ -35,23 +35,21 @@ fn unit(message: &[u8]) -> Option<Parameter<'_>> {
     parameters(message).find(|p| p.tag == sys::TAG_DATA_1 || p.tag == sys::TAG_DATA_2)
 }
 
-/// The event that a message of the link side is, or why it is none: the Error code that it is answered with.
-pub fn event_of<'a>(message: &'a [u8], g: &Gateway) -> Result<Event<'a>, u32> {
-    let reading = read(message).map_err(Refusal::code)?;
-    let link = g.link_place(reading.id);
-    match reading.message {
-        MessageType::EstablishConfirm => link.map(|link| Event::LinkUp { link }).ok_or(sys::ERROR_INVALID_INTERFACE_ID),
-        MessageType::ReleaseConfirm | MessageType::ReleaseIndication => {
-            link.map(|link| Event::LinkDown { link }).ok_or(sys::ERROR_INVALID_INTERFACE_ID)
-        }
-        _ => Ok(Event::LinkMessage { message }),
+/// The event that a message of the link side is; `None` where it tells of a link that the plan has not. What does not read, the gateway refuses.
+pub fn event_of<'a>(message: &'a [u8], g: &Gateway) -> Option<Event<'a>> {
+    let link = |id| g.link_place(id);
+    match read(message).map(|r| (r.message, r.id)) {
+        Ok((MessageType::EstablishConfirm, id)) => link(id).map(|link| Event::LinkUp { link }),
+        Ok((MessageType::ReleaseConfirm | MessageType::ReleaseIndication, id)) => link(id).map(|link| Event::LinkDown { link }),
+        _ => Some(Event::LinkMessage { message }),
     }
 }
 
 /// Why an event of the link side was refused, as an Error code: its type, its link, or else a value.
 pub fn why_refused(message: &[u8], g: &Gateway) -> u32 {
-    let Ok(reading) = read(message) else {
-        return sys::ERROR_PROTOCOL;
+    let reading = match read(message) {
+        Ok(reading) => reading,
+        Err(no) => return no.code(),
     };
     if !FOR_ASPS.contains(&reading.message) {
         return sys::ERROR_UNEXPECTED_MESSAGE;

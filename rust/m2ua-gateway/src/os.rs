@@ -251,6 +251,15 @@ pub fn wait_for(fd: &impl AsRawFd, write: bool, time: Duration) -> Result<bool> 
     done(count).map(|()| count > 0)
 }
 
+/// Waits until one of two descriptors can be read, and says which of them can.
+pub fn wait_for_either(one: &impl AsRawFd, other: &impl AsRawFd) -> Result<(bool, bool)> {
+    let entry = |fd: RawFd| PollFd { fd, events: POLLIN, seen: 0 };
+    let mut both = [entry(one.as_raw_fd()), entry(other.as_raw_fd())];
+    // Safety: two entries are lent.
+    done(unsafe { poll(both.as_mut_ptr(), 2, -1) })?;
+    Ok((both[0].seen != 0, both[1].seen != 0))
+}
+
 /// Milliseconds, rounded up, so that nobody wakes before the time.
 fn millis(time: Duration) -> c_int {
     time.as_nanos().div_ceil(1_000_000).try_into().unwrap_or(c_int::MAX)

@@ -141,16 +141,18 @@ fn run(o: &Options) -> Result<(), String> {
 fn as_they_come(controller: &mut Controller) -> Result<(), String> {
     controller.connect()?;
     println!("ok");
-    let mut open = String::new();
-    for line in std::io::stdin().lines() {
-        open += &line.map_err(|e| e.to_string())?;
-        open += "\n";
-        match script::parse(&open) {
-            Err(why) if why == script::UNFINISHED => continue,
-            commands => controller.all(&commands?)?,
+    let (mut input, mut open) = (Vec::new(), String::new());
+    while controller.more(&mut input)? {
+        while let Some(end) = input.iter().position(|byte| *byte == b'\n') {
+            open += &String::from_utf8_lossy(&input[..=end]);
+            input.drain(..=end);
+            match script::parse(&open) {
+                Err(why) if why == script::UNFINISHED => continue,
+                commands => controller.all(&commands?)?,
+            }
+            open.clear();
+            println!("ok");
         }
-        open.clear();
-        println!("ok");
     }
     Ok(())
 }
