@@ -147,8 +147,11 @@ class Controller:
             self.join()
 
     def fails(self, command):
-        """Gives a command that cannot succeed: what is said of it."""
-        self.start(command)
+        """Gives a command that cannot succeed: what is said of it. The process may have ended before, for the same reason."""
+        try:
+            self.start(command)
+        except BrokenPipeError:
+            self.waiting += 1
         said = self.process.stdout.read()
         need(said.count("\n") < self.waiting, f"{self.name}: {command} succeeded")
         return self.process.stderr.read().strip()
@@ -164,6 +167,13 @@ class Controller:
         while self.waiting and select.select([self.process.stdout], [], [], 0)[0]:
             self.said()
         return self.waiting == 0
+
+    def stop(self):
+        """It does nothing more, as a process that hangs."""
+        self.process.send_signal(signal.SIGSTOP)
+
+    def go_on(self):
+        self.process.send_signal(signal.SIGCONT)
 
     def kill(self):
         self.killed = True

@@ -17,7 +17,7 @@ A signalling gateway's M2UA side (RFC 3331) over the proved library. PLAN is a p
   --dead MS               SCTP: a peer that does not answer is lost within that time (default 5000)
   --links socket|loop     the link side is the process at DIR/links (default), or a simulated one: links start when asked to, units come back
   --recovery MS           the recovery time T(r) of an AS whose last active ASP is gone (default 2000)
-  --queue BYTES           the most that waits for one peer; with more it is disconnected (default 1048576, at least 65536)
+  --queue BYTES           the most that waits for one peer; with more it is disconnected (default 1048576, at least 262144)
   --stall MS              a peer that takes nothing for that time while something waits for it is disconnected (default 5000)
   --log all|changes|faults    every event and order in words (default); without these; only what goes wrong
   --journal FILE          each event as a line of a script for 'replay'
@@ -102,7 +102,7 @@ impl Options {
             "--dead" => self.dead = millis(option, value)?,
             "--links" => self.links = one_of(option, value, &[("socket", Links::Socket), ("loop", Links::Loop)])?,
             "--recovery" => self.recovery = millis(option, value)?,
-            "--queue" => self.queue = number(option, value, 65536, 1 << 30)?,
+            "--queue" => self.queue = number(option, value, 1 << 18, 1 << 30)?,
             "--stall" => self.stall = millis(option, value)?,
             "--log" => self.log = one_of(option, value, &[("all", Level::All), ("changes", Level::Changes), ("faults", Level::Faults)])?,
             "--journal" => self.journal = Some(value.into()),
@@ -146,9 +146,9 @@ mod tests {
 
     #[test]
     fn right_ones() {
-        let o = parsed("--sctp 127.0.0.1 --udp 9899 --dead 800 --links loop --queue 65536 --log changes --capture plan.txt --dir d").unwrap();
+        let o = parsed("--sctp 127.0.0.1 --udp 9899 --dead 800 --links loop --queue 262144 --log changes --capture plan.txt --dir d").unwrap();
         assert_eq!((o.sctp, o.udp, o.links), (Some("127.0.0.1:2904".parse().unwrap()), Some(9899), Links::Loop));
-        assert_eq!((o.dead, o.queue, o.log, o.capture), (Duration::from_millis(800), 65536, Level::Changes, true));
+        assert_eq!((o.dead, o.queue, o.log, o.capture), (Duration::from_millis(800), 262144, Level::Changes, true));
         assert_eq!(parsed("--sctp [::1]:7 p").unwrap().sctp, Some("[::1]:7".parse().unwrap()));
         assert_eq!(parsed("--sctp ::1 p").unwrap().sctp, Some("[::1]:2904".parse().unwrap()));
     }
@@ -161,7 +161,7 @@ mod tests {
             ("--udp 9 p", "--udp says how SCTP is sent: --sctp is missing"),
             ("--dead", "--dead takes a value"),
             ("--dead 9 p", "--dead: '9' is no number from 10 to 3600000"),
-            ("--queue 65535 p", "--queue: '65535' is no number from 65536 to 1073741824"),
+            ("--queue 65536 p", "--queue: '65536' is no number from 262144 to 1073741824"),
             ("--links up p", "--links: 'up' is none of socket, loop"),
             ("--sctp here p", "--sctp: 'here' is no address"),
             ("--fast x p", "no such option: --fast"),

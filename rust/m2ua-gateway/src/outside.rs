@@ -265,7 +265,8 @@ impl Outside {
             self.log.line(Level::Changes, format_args!("ASP {name} is {state}"));
         }
         for (a, name) in self.ases.iter().enumerate() {
-            if let Some(state) = is.as_state(a).filter(|s| was.as_state(a) != Some(*s)) {
+            let moved = (0..is.asps()).any(|p| was.is_active(a, p) != is.is_active(a, p));
+            if let Some(state) = is.as_state(a).filter(|s| moved || was.as_state(a) != Some(*s)) {
                 let active: Vec<&str> = (0..is.asps()).filter(|&p| is.is_active(a, p)).map(|p| self.peers[p].name.as_str()).collect();
                 let who = if active.is_empty() { String::new() } else { format!(": {}", active.join(", ")) };
                 self.log.line(Level::Changes, format_args!("AS {name} is {state}{who}"));

@@ -35,7 +35,7 @@ A script has a command to a line; what follows a '#' is a comment.
   repeat N .. end, sleep MS, close, connect, die (ends at once, as if killed)
 Parameters: link N[,N..]  range A-B[,A-B..]  mode override|load-share|broadcast  id N  data HEX|counter  data2 HEX|counter  correlation N  heartbeat HEX
   state N  event N  congestion N  discard N  action N  sequence N  result N  info WORD  code N  status inactive|active|pending|other-active
-Exit status: 0 all was done; 1 something waited for did not come, or the association is over; 2 wrong usage or script.";
+Exit status: 0 all was done; 1 something waited for did not come, the association is over, or the script is wrong; 2 wrong usage.";
 
 struct Options {
     unix: Option<String>,
