@@ -14,7 +14,20 @@ fn main() {
     }
     let out = std::env::var("OUT_DIR").expect("cargo sets OUT_DIR");
     let (object, archive) = (format!("{out}/sctp.o"), format!("{out}/libm2ua_sctp.a"));
-    run("gcc", &["-std=gnu11", "-O2", "-Wall", "-Wextra", "-Werror", "-c", "src/sctp.c", "-o", &object]);
+    run(
+        "gcc",
+        &[
+            "-std=gnu11",
+            "-O2",
+            "-Wall",
+            "-Wextra",
+            "-Werror",
+            "-c",
+            "src/sctp.c",
+            "-o",
+            &object,
+        ],
+    );
     run("ar", &["crs", &archive, &object]);
     println!("cargo:rustc-cfg=sctp");
     println!("cargo:rustc-link-search=native={out}");
@@ -24,5 +37,9 @@ fn main() {
 
 fn run(program: &str, words: &[&str]) {
     let done = Command::new(program).args(words).status();
-    assert!(done.is_ok_and(|s| s.success()), "{program} {} failed", words.join(" "));
+    assert!(
+        done.is_ok_and(|s| s.success()),
+        "{program} {} failed",
+        words.join(" ")
+    );
 }

@@ -2,7 +2,7 @@
 use crate::os;
 use crate::script::{Command, Said};
 use crate::sctp::Stack;
-use crate::transport::{Association, Batch, Received, Sent};
+use crate::transport::{Association, Batch, Received, Sent, BURST};
 use m2ua::sys;
 use m2ua_trace::script::Hex;
 use std::collections::VecDeque;
@@ -15,7 +15,11 @@ use std::time::{Duration, Instant};
 /// Where the other end is.
 pub enum Target {
     Unix(PathBuf),
-    Sctp { stack: Stack, from: SocketAddr, to: SocketAddr },
+    Sctp {
+        stack: Stack,
+        from: SocketAddr,
+        to: SocketAddr,
+    },
 }
 
 impl Target {
@@ -24,8 +28,14 @@ impl Target {
         let end = Instant::now() + time;
         loop {
             let (tried, name) = match self {
-                Target::Unix(path) => (os::seqpacket_connect(path).map(Association::Packets), path.display().to_string()),
-                Target::Sctp { stack, from, to } => (stack.connect(*from, *to).map(Association::Sctp), to.to_string()),
+                Target::Unix(path) => (
+                    os::seqpacket_connect(path).map(Association::Packets),
+                    path.display().to_string(),
+                ),
+                Target::Sctp { stack, from, to } => (
+                    stack.connect(*from, *to).map(Association::Sctp),
+                    to.to_string(),
+                ),
             };
             match tried {
                 Ok(association) => return Ok(association),
@@ -50,8 +60,22 @@ pub struct Controller {
 }
 
 impl Controller {
-    pub fn new(target: Target, timeout: Duration, record: Option<File>, verbose: bool) -> Controller {
-        Controller { target, timeout, record, verbose, association: None, inbox: VecDeque::new(), batch: Batch::new(), sent: 0 }
+    pub fn new(
+        target: Target,
+        timeout: Duration,
+        record: Option<File>,
+        verbose: bool,
+    ) -> Controller {
+        Controller {
+            target,
+            timeout,
+            record,
+            verbose,
+            association: None,
+            inbox: VecDeque::new(),
+            batch: Batch::new(),
+            sent: 0,
+        }
     }
 
     /// Runs a script over an association of its own.
@@ -74,7 +98,15 @@ impl Controller {
             Command::Wait(count, said) => self.wait(*count, said),
             Command::Expect(said) => {
                 let message = self.next(said)?;
-                if said.fits(&message) { Ok(()) } else { Err(format!("{} came where {} was expected", words(&message), said.text)) }
+                if said.fits(&message) {
+                    Ok(())
+                } else {
+                    Err(format!(
+                        "{} came where {} was expected",
+                        words(&message),
+                        said.text
+                    ))
+                }
             }
             Command::Sleep(time) => self.rest(Duration::from_millis(*time)),
             Command::Repeat(count, body) => (0..*count).try_for_each(|_| self.all(body)),
@@ -94,14 +126,17 @@ impl Controller {
         loop {
             let stdin = std::io::stdin();
             let ready = match &self.association {
-                Some(association) => os::wait_for_either(&stdin, association).map_err(|e| e.to_string())?,
+                Some(association) => {
+                    os::wait_for_either(&stdin, association).map_err(|e| e.to_string())?
+                }
                 None => (true, false),
             };
             if ready.1 {
                 self.take_in(Duration::ZERO)?;
             }
             if ready.0 {
-                let count = std::io::Read::read(&mut stdin.lock(), &mut bytes).map_err(|e| e.to_string())?;
+                let count = std::io::Read::read(&mut stdin.lock(), &mut bytes)
+                    .map_err(|e| e.to_string())?;
                 input.extend(&bytes[..count]);
                 return Ok(count > 0);
             }
@@ -157,7 +192,9 @@ impl Controller {
                     return Ok(());
                 }
                 Sent::Ended => return Err("the association is over".into()),
-                Sent::Later if Instant::now() >= end => return Err("the other end takes nothing more".into()),
+                Sent::Later if Instant::now() >= end => {
+                    return Err("the other end takes nothing more".into())
+                }
                 Sent::Later => self.take_in(Duration::from_millis(1))?,
             }
         }
@@ -187,7 +224,10 @@ impl Controller {
     /// Takes in what has come; `false` where that is nothing.
     fn taken(&mut self) -> Result<bool, String> {
         let mut batch = std::mem::take(&mut self.batch);
-        self.association.as_mut().ok_or("there is no association")?.receive(&mut batch);
+        self.association
+            .as_mut()
+            .ok_or("there is no association")?
+            .receive(&mut batch, BURST);
         for k in 0..batch.len() {
             match batch.get(k) {
                 (Received::Message(_), message) => {
@@ -214,17 +254,24 @@ impl Controller {
                 return Ok(message);
             }
             if Instant::now() >= end {
-                return Err(format!("nothing came within {} ms; waited for: {}", self.timeout.as_millis(), wanted.text));
+                return Err(format!(
+                    "nothing came within {} ms; waited for: {}",
+                    self.timeout.as_millis(),
+                    wanted.text
+                ));
             }
             let left = end.saturating_duration_since(Instant::now());
-            self.take_in(left).map_err(|why| format!("{why}; waited for: {}", wanted.text))?;
+            self.take_in(left)
+                .map_err(|why| format!("{why}; waited for: {}", wanted.text))?;
         }
     }
 
     fn wait(&mut self, count: usize, said: &Said) -> Result<(), String> {
         let mut found = 0;
         while found < count {
-            let message = self.next(said).map_err(|why| format!("{why} ({found} of {count} came)"))?;
+            let message = self
+                .next(said)
+                .map_err(|why| format!("{why} ({found} of {count} came)"))?;
             found += usize::from(said.fits(&message));
         }
         Ok(())
@@ -243,7 +290,12 @@ impl Controller {
     }
 
     /// Round trips of Beats of `bytes` bytes, `window` of them under way at a time: the time of each in nanoseconds, and of all.
-    pub fn measure(&mut self, count: usize, window: usize, bytes: usize) -> Result<(Vec<u64>, Duration), String> {
+    pub fn measure(
+        &mut self,
+        count: usize,
+        window: usize,
+        bytes: usize,
+    ) -> Result<(Vec<u64>, Duration), String> {
         let (mut begun, mut times) = (VecDeque::with_capacity(window), Vec::with_capacity(count));
         let mut beat = [1, 0, 3, 3, 0, 0, 0, 0, 0, 9, 0, 0].to_vec();
         beat.resize(12 + bytes.next_multiple_of(4), 7);
@@ -261,7 +313,10 @@ impl Controller {
             }
             for answer in std::mem::take(&mut self.inbox) {
                 let right = answer.len() == beat.len() && answer[8..] == beat[8..];
-                let sent: Instant = begun.pop_front().filter(|_| right).ok_or("an answer that is none came")?;
+                let sent: Instant = begun
+                    .pop_front()
+                    .filter(|_| right)
+                    .ok_or("an answer that is none came")?;
                 times.push(sent.elapsed().as_nanos() as u64);
             }
         }
@@ -271,8 +326,13 @@ impl Controller {
 
 fn words(message: &[u8]) -> String {
     match m2ua::read(message) {
-        Ok(reading) => match m2ua::parameter(message, sys::TAG_ERROR_CODE).or(m2ua::parameter(message, sys::TAG_STATUS)) {
-            Some(value) => format!("{reading}: {}", value.iter().fold(0, |n: u64, b| n * 256 + u64::from(*b))),
+        Ok(reading) => match m2ua::parameter(message, sys::TAG_ERROR_CODE)
+            .or(m2ua::parameter(message, sys::TAG_STATUS))
+        {
+            Some(value) => format!(
+                "{reading}: {}",
+                value.iter().fold(0, |n: u64, b| n * 256 + u64::from(*b))
+            ),
             None => reading.to_string(),
         },
         Err(no) => format!("{} bytes that do not read: {no}", message.len()),

@@ -37,7 +37,9 @@ impl Opened {
         for (p, listener) in self.listeners.iter().enumerate() {
             self.watch.add(listener, LISTENERS + p as u64)?;
         }
-        self.sctp.as_ref().map_or(Ok(()), |(stack, _)| self.watch.add(stack.wake(), WAKE))
+        self.sctp
+            .as_ref()
+            .map_or(Ok(()), |(stack, _)| self.watch.add(stack.wake(), WAKE))
     }
 }
 
@@ -76,10 +78,20 @@ impl Daemon {
 
     /// How long nothing is due: not at all where something has come that no descriptor tells.
     fn patience(&self) -> Option<Duration> {
-        if self.outside.peers.iter().any(|p| p.ready && !p.paused && is_sctp(&p.association)) {
+        if self
+            .outside
+            .peers
+            .iter()
+            .any(|p| p.ready && !p.paused && is_sctp(&p.association))
+        {
             return Some(Duration::ZERO);
         }
-        let stalls = self.outside.peers.iter().filter(|p| p.waiting().1 > 0).map(|p| p.progress + self.options.stall);
+        let stalls = self
+            .outside
+            .peers
+            .iter()
+            .filter(|p| p.waiting().1 > 0)
+            .map(|p| p.progress + self.options.stall);
         let due = self.timers.iter().flatten().copied().chain(stalls).min()?;
         Some(due.saturating_duration_since(Instant::now()))
     }
@@ -92,12 +104,11 @@ impl Daemon {
             n if n >= LISTENERS => self.accept((n - LISTENERS) as usize),
             n => {
                 let p = n as usize;
-                self.outside.flush(p);
+                self.outside.peers[p].unblock();
                 if ready.is_closed() && self.outside.peers[p].paused {
                     // what it sent last is not waited for
                     self.outside.lose(p, "the association is over");
                 }
-                self.settle();
                 self.read(p);
             }
         }
@@ -121,7 +132,12 @@ impl Daemon {
                 Received::Message(length) => self.message(p, bytes, length),
                 Received::Foreign(ppid) => {
                     let name = self.outside.peers[p].name.clone();
-                    self.outside.complain(p, format_args!("{name}: a message of payload protocol {ppid}, not 2, is passed over"))
+                    self.outside.complain(
+                        p,
+                        format_args!(
+                            "{name}: a message of payload protocol {ppid}, not 2, is passed over"
+                        ),
+                    )
                 }
                 Received::Restarted => self.outside.restarted(p),
                 Received::Ended => self.outside.lose(p, "the association is over"),
@@ -129,13 +145,19 @@ impl Daemon {
             self.settle();
         }
         self.batch = Some(batch);
+        self.deliver();
     }
 
     /// A message of an ASP is an event whatever it is; one of the link side says which event it is.
     fn message(&mut self, p: usize, message: &[u8], length: usize) {
         if length > message.len() {
             let name = self.outside.peers[p].name.clone();
-            self.outside.complain(p, format_args!("{name}: a message of {length} bytes; the longest that reads has 2048"));
+            self.outside.complain(
+                p,
+                format_args!(
+                    "{name}: a message of {length} bytes; the longest that reads has 2048"
+                ),
+            );
         }
         if p != self.outside.link_side() {
             return self.happens(&Event::Message { asp: p, message });
@@ -154,9 +176,20 @@ impl Daemon {
         }
         self.set_timers();
         for (order, message) in self.engine.orders() {
-            self.outside.carry_out(&order, message, event, &self.engine.state);
+            self.outside
+                .carry_out(&order, message, event, &self.engine.state);
         }
         self.outside.log_changes(&self.engine);
+    }
+
+    /// Sends what the events until here have ordered, with what follows from that.
+    fn deliver(&mut self) {
+        self.settle();
+        self.outside.flush();
+        while !self.outside.next.is_empty() {
+            self.settle();
+            self.outside.flush();
+        }
     }
 
     /// What follows from the events until here: lost associations, and what simulated links answer.
@@ -165,8 +198,11 @@ impl Daemon {
             match next {
                 Next::Event(happening) => self.happens(&happening.event()),
                 Next::LinksGone => {
-                    let busy: Vec<usize> = (0..self.engine.state.links()).filter(|&l| self.engine.state.raw().state[l] != 0).collect();
-                    busy.into_iter().for_each(|link| self.happens(&Event::LinkDown { link }));
+                    let busy: Vec<usize> = (0..self.engine.state.links())
+                        .filter(|&l| self.engine.state.raw().state[l] != 0)
+                        .collect();
+                    busy.into_iter()
+                        .for_each(|link| self.happens(&Event::LinkDown { link }));
                 }
             }
         }
@@ -175,15 +211,23 @@ impl Daemon {
     /// Of all events only a message of the link side is ever refused here, and it is answered by an Error.
     fn refused(&mut self, event: &Event<'_>, no: Refusal) {
         match event {
-            Event::LinkMessage { message } if no.code() == m2ua::sys::REFUSED_PLACE => self.link_fault(links::why_refused(message, &self.engine.state), message),
-            _ => self.outside.log.line(Level::Faults, format_args!("refused: {event}: {no}")),
+            Event::LinkMessage { message } if no.code() == m2ua::sys::REFUSED_PLACE => {
+                self.link_fault(links::why_refused(message, &self.engine.state), message)
+            }
+            _ => self
+                .outside
+                .log
+                .line(Level::Faults, format_args!("refused: {event}: {no}")),
         }
     }
 
     fn link_fault(&mut self, code: u32, message: &[u8]) {
         let side = self.outside.link_side();
         let text = Refusal::of(code).map_or(String::new(), |no| no.to_string());
-        self.outside.complain(side, format_args!("links: a message that is no event is answered by Error {text}"));
+        self.outside.complain(
+            side,
+            format_args!("links: a message that is no event is answered by Error {text}"),
+        );
         self.outside.send(side, &links::error(code, message), side);
     }
 
@@ -205,16 +249,18 @@ impl Daemon {
             if self.timers[a].is_some_and(|due| due <= now) {
                 self.timers[a] = None;
                 self.happens(&Event::Recovery { r#as: a });
-                self.settle();
             }
         }
         for p in 0..self.outside.peers.len() {
             let peer = &self.outside.peers[p];
             if peer.waiting().1 > 0 && peer.progress + self.options.stall <= now {
-                self.outside.lose(p, "it takes nothing while messages wait for it: disconnected");
-                self.settle();
+                self.outside.lose(
+                    p,
+                    "it takes nothing while messages wait for it: disconnected",
+                );
             }
         }
+        self.deliver();
     }
 
     /// A peer connects to its Unix socket. It has one association at a time.
@@ -224,7 +270,12 @@ impl Daemon {
             if self.outside.peers[p].association.is_none() {
                 match self.opened.watch.add(&association, p as u64) {
                     Ok(()) => self.interests[p] = (true, false),
-                    Err(e) => return self.outside.log.line(Level::Faults, format_args!("{}: cannot be watched: {e}", self.outside.peers[p].name)),
+                    Err(e) => {
+                        return self.outside.log.line(
+                            Level::Faults,
+                            format_args!("{}: cannot be watched: {e}", self.outside.peers[p].name),
+                        )
+                    }
                 }
             }
             self.begin(p, association, "");
@@ -234,10 +285,16 @@ impl Daemon {
     fn begin(&mut self, p: usize, association: Association, from: &str) {
         let (name, transport) = (self.outside.peers[p].name.clone(), association.transport());
         if self.outside.peers[p].association.is_some() {
-            self.outside.complain(p, format_args!("{name}: a second association ({transport}{from}) is refused"));
+            self.outside.complain(
+                p,
+                format_args!("{name}: a second association ({transport}{from}) is refused"),
+            );
             return association.close(true);
         }
-        self.outside.log.line(Level::Changes, format_args!("{name}: association ({transport}{from})"));
+        self.outside.log.line(
+            Level::Changes,
+            format_args!("{name}: association ({transport}{from})"),
+        );
         self.outside.begin(p, association);
     }
 
@@ -249,7 +306,12 @@ impl Daemon {
         os::calm(stack.wake());
         let new: Vec<_> = std::iter::from_fn(|| listener.accept()).collect();
         for (association, peer) in new {
-            match self.plan.asps.iter().position(|asp| asp.from.is_some_and(|from| from.is(peer))) {
+            match self
+                .plan
+                .asps
+                .iter()
+                .position(|asp| asp.from.is_some_and(|from| from.is(peer)))
+            {
                 Some(p) => self.begin(p, Association::Sctp(association), &format!(", {peer}")),
                 None => {
                     self.outside.log.line(Level::Changes, format_args!("sctp: an association of {peer}, where no ASP of the plan is from, is refused"));
@@ -257,7 +319,12 @@ impl Daemon {
                 }
             }
         }
-        for peer in self.outside.peers.iter_mut().filter(|p| is_sctp(&p.association)) {
+        for peer in self
+            .outside
+            .peers
+            .iter_mut()
+            .filter(|p| is_sctp(&p.association))
+        {
             peer.ready = true;
         }
     }
@@ -268,8 +335,7 @@ impl Daemon {
         }
         for p in 0..self.outside.peers.len() {
             if self.outside.peers[p].ready && is_sctp(&self.outside.peers[p].association) {
-                self.outside.flush(p);
-                self.settle();
+                self.outside.peers[p].unblock();
                 self.read(p);
             }
         }
@@ -282,9 +348,16 @@ impl Daemon {
             self.outside.sum_up(p);
             let peer = &mut self.outside.peers[p];
             peer.paused = full;
-            let interest = (!full, peer.waiting().1 > 0);
-            if interest != self.interests[p] && matches!(peer.association, Some(Association::Packets(_))) {
-                self.opened.watch.set(peer.association.as_ref().expect("there is one"), p as u64, interest.0, interest.1)?;
+            let interest = (!full, peer.blocked);
+            if interest != self.interests[p]
+                && matches!(peer.association, Some(Association::Packets(_)))
+            {
+                self.opened.watch.set(
+                    peer.association.as_ref().expect("there is one"),
+                    p as u64,
+                    interest.0,
+                    interest.1,
+                )?;
                 self.interests[p] = interest;
             }
         }
@@ -299,7 +372,9 @@ impl Daemon {
         outside.journalled(written);
         if let Some(Err(e)) = outside.capture.as_mut().map(|c| c.flush()) {
             outside.capture = None;
-            outside.log.line(Level::Faults, format_args!("capture: {e}; it ends here"));
+            outside
+                .log
+                .line(Level::Faults, format_args!("capture: {e}; it ends here"));
         }
     }
 
@@ -318,41 +393,77 @@ impl Daemon {
     fn dump(&mut self) {
         self.write_down();
         let path = self.options.dir.join("state");
-        let text = dump::text(&self.plan, &self.engine, &self.outside.peers, SystemTime::now());
+        let text = dump::text(
+            &self.plan,
+            &self.engine,
+            &self.outside.peers,
+            SystemTime::now(),
+        );
         match dump::write(&path, &text) {
-            Ok(()) => self.outside.log.line(Level::Changes, format_args!("dump: {} after {} events", path.display(), self.engine.events)),
-            Err(e) => self.outside.log.line(Level::Faults, format_args!("dump: {}: {e}", path.display())),
+            Ok(()) => self.outside.log.line(
+                Level::Changes,
+                format_args!(
+                    "dump: {} after {} events",
+                    path.display(),
+                    self.engine.events
+                ),
+            ),
+            Err(e) => self
+                .outside
+                .log
+                .line(Level::Faults, format_args!("dump: {}: {e}", path.display())),
         }
     }
 
     pub fn toggle_capture(&mut self) {
         let path = self.options.dir.join("m2ua.pcap");
         if let Some(mut capture) = self.outside.capture.take() {
-            let ended = capture.flush().map_or_else(|e| e.to_string(), |()| "ended".into());
-            return self.outside.log.line(Level::Changes, format_args!("capture: {ended}"));
+            let ended = capture
+                .flush()
+                .map_or_else(|e| e.to_string(), |()| "ended".into());
+            return self
+                .outside
+                .log
+                .line(Level::Changes, format_args!("capture: {ended}"));
         }
         match Capture::create(&path, SystemTime::now()) {
             Ok(capture) => {
                 self.outside.capture = Some(capture);
-                self.outside.log.line(Level::Changes, format_args!("capture: {}", path.display()));
+                self.outside
+                    .log
+                    .line(Level::Changes, format_args!("capture: {}", path.display()));
             }
-            Err(e) => self.outside.log.line(Level::Faults, format_args!("capture: {}: {e}", path.display())),
+            Err(e) => self.outside.log.line(
+                Level::Faults,
+                format_args!("capture: {}: {e}", path.display()),
+            ),
         }
     }
 
     /// Ends: no more is read, what waits is sent as far as it goes within a second, associations are closed in order.
     fn finish(mut self) -> Result<()> {
-        self.outside.log.line(Level::Faults, format_args!("m2ua-gateway: ends by a signal, after {} events", self.engine.events));
+        self.outside.log.line(
+            Level::Faults,
+            format_args!(
+                "m2ua-gateway: ends by a signal, after {} events",
+                self.engine.events
+            ),
+        );
+        self.outside.flush();
         let end = Instant::now() + Duration::from_secs(1);
         while Instant::now() < end && self.outside.peers.iter().any(|p| p.waiting().1 > 0) {
-            (0..self.outside.peers.len()).for_each(|p| self.outside.flush(p));
+            self.outside.peers.iter_mut().for_each(|p| p.unblock());
+            self.outside.flush();
             std::thread::sleep(Duration::from_millis(5));
         }
         for peer in &mut self.outside.peers {
             if let (Some(association), dropped) = peer.end() {
                 association.close(false);
                 if dropped > 0 {
-                    self.outside.log.line(Level::Faults, format_args!("{}: {dropped} messages that waited are dropped", peer.name));
+                    self.outside.log.line(
+                        Level::Faults,
+                        format_args!("{}: {dropped} messages that waited are dropped", peer.name),
+                    );
                 }
             }
         }

@@ -21,7 +21,12 @@ pub fn write(path: &Path, text: &str) -> Result<()> {
 pub fn text(plan: &Plan, engine: &Engine, peers: &[Peer], now: SystemTime) -> String {
     let g = &engine.state;
     let mut out = String::new();
-    let _ = writeln!(out, "# m2ua-gateway {}, {}", env!("CARGO_PKG_VERSION"), Stamp(now));
+    let _ = writeln!(
+        out,
+        "# m2ua-gateway {}, {}",
+        env!("CARGO_PKG_VERSION"),
+        Stamp(now)
+    );
     let _ = writeln!(out, "events {} refused {}", engine.events, engine.refused);
     let sound = Gateway::from_raw(*g.raw()).is_ok();
     let _ = writeln!(out, "sound {}", if sound { "yes" } else { "no" });
@@ -31,12 +36,29 @@ pub fn text(plan: &Plan, engine: &Engine, peers: &[Peer], now: SystemTime) -> St
     }
     for (a, r#as) in plan.ases.iter().enumerate() {
         let state = g.as_state(a).map_or(String::new(), |s| s.to_string());
-        let active: Vec<&str> = plan.asps.iter().enumerate().filter(|(p, _)| g.is_active(a, *p)).map(|(_, asp)| asp.name.as_str()).collect();
-        let _ = writeln!(out, "as {} {} {state} active [{}] held {}", r#as.name, r#as.mode, active.join(" "), g.held(a).count());
+        let active: Vec<&str> = plan
+            .asps
+            .iter()
+            .enumerate()
+            .filter(|(p, _)| g.is_active(a, *p))
+            .map(|(_, asp)| asp.name.as_str())
+            .collect();
+        let _ = writeln!(
+            out,
+            "as {} {} {state} active [{}] held {}",
+            r#as.name,
+            r#as.mode,
+            active.join(" "),
+            g.held(a).count()
+        );
     }
     for (l, link) in plan.links.iter().enumerate() {
         let state = g.link_state(l).map_or(String::new(), |s| s.to_string());
-        let _ = writeln!(out, "link {} as {} {state}", link.id, plan.ases[link.owner].name);
+        let _ = writeln!(
+            out,
+            "link {} as {} {state}",
+            link.id, plan.ases[link.owner].name
+        );
     }
     let _ = writeln!(out, "memory {}", memory());
     let _ = writeln!(out, "state {}", state_line(g));
@@ -63,16 +85,31 @@ fn association(peer: &Peer) -> String {
 /// What the process has of memory now, and at most had.
 fn memory() -> String {
     let status = std::fs::read_to_string("/proc/self/status").unwrap_or_default();
-    let of = |name: &str| status.lines().find_map(|l| l.strip_prefix(name)).unwrap_or("?").trim().to_string();
+    let of = |name: &str| {
+        status
+            .lines()
+            .find_map(|l| l.strip_prefix(name))
+            .unwrap_or("?")
+            .trim()
+            .to_string()
+    };
     format!("{} now, {} at most", of("VmRSS:"), of("VmHWM:"))
 }
 
 /// What `replay` answers to `state` (docs/SCRIPT.md).
 pub fn state_line(g: &Gateway) -> String {
-    let digits = |count: usize, of: &dyn Fn(usize) -> u8| (0..count).map(|i| char::from(b'0' + of(i))).collect::<String>();
+    let digits = |count: usize, of: &dyn Fn(usize) -> u8| {
+        (0..count)
+            .map(|i| char::from(b'0' + of(i)))
+            .collect::<String>()
+    };
     let mut pairs = Vec::new();
     for p in 0..g.asps() {
-        pairs.extend((0..g.ases()).filter(|&a| g.is_active(a, p)).map(|a| format!("{p}:{a}")));
+        pairs.extend(
+            (0..g.ases())
+                .filter(|&a| g.is_active(a, p))
+                .map(|a| format!("{p}:{a}")),
+        );
     }
     let mut held = Vec::new();
     for a in 0..g.ases() {
@@ -93,6 +130,11 @@ pub fn state_line(g: &Gateway) -> String {
 
 /// The bytes of the units held, with the AS and the place of each.
 fn units(g: &Gateway, hold: &Hold) -> Vec<String> {
-    let unit = |a: usize, k: usize| g.unit_bytes(hold, a, k).map(|bytes| format!("unit {a} {k} {}", Hex(bytes)));
-    (0..g.ases()).flat_map(|a| (0..g.held(a).count()).filter_map(move |k| unit(a, k))).collect()
+    let unit = |a: usize, k: usize| {
+        g.unit_bytes(hold, a, k)
+            .map(|bytes| format!("unit {a} {k} {}", Hex(bytes)))
+    };
+    (0..g.ases())
+        .flat_map(|a| (0..g.held(a).count()).filter_map(move |k| unit(a, k)))
+        .collect()
 }

@@ -33,38 +33,42 @@ impl Engine {
 
     /// Runs an event: the state becomes the next one, and the orders can be asked for. A refused one changes nothing and has no orders.
     pub fn run(&mut self, event: &Event<'_>) -> Result<(), Refusal> {
-        self.before = self.state;
-        match self.next(event) {
-            Ok(next) => {
-                self.state = next;
-                self.events += 1;
-                Ok(())
-            }
-            Err(no) => {
-                self.refused += 1;
-                Err(no)
-            }
-        }
-    }
-
-    fn next(&mut self, event: &Event<'_>) -> Result<Gateway, Refusal> {
-        let next = self.state.event(event, &mut self.hold, &mut self.orders)?;
+        let next = self
+            .state
+            .event(event, &mut self.hold, &mut self.orders)
+            .inspect_err(|_| self.refused += 1)?;
         if !self.orders.is_empty() {
             // from the state before the event, with room for all
-            let (count, _) = self.state.orders_into(event, &self.hold, 0, &mut self.lengths[..], &mut self.bytes)?;
-            assert_eq!(count, self.orders.len(), "room for the messages of every event");
+            let (count, _) = self.state.orders_into(
+                event,
+                &self.hold,
+                0,
+                &mut self.lengths[..],
+                &mut self.bytes,
+            )?;
+            assert_eq!(
+                count,
+                self.orders.len(),
+                "room for the messages of every event"
+            );
         }
-        Ok(next)
+        self.before = self.state;
+        self.state = next;
+        self.events += 1;
+        Ok(())
     }
 
     /// The orders of the last event in their sequence, each with its message; one to the link side has none.
     pub fn orders(&self) -> impl Iterator<Item = (Order, &[u8])> {
         let mut rest = &self.bytes[..];
-        self.orders.iter().zip(self.lengths.iter()).map(move |(order, length)| {
-            let (message, behind) = rest.split_at(*length as usize);
-            rest = behind;
-            (order, message)
-        })
+        self.orders
+            .iter()
+            .zip(self.lengths.iter())
+            .map(move |(order, length)| {
+                let (message, behind) = rest.split_at(*length as usize);
+                rest = behind;
+                (order, message)
+            })
     }
 
     /// The recovery timers to start and stop after the last event; `None` where no AS began or ceased to wait.
@@ -76,6 +80,9 @@ impl Engine {
     /// Whether the last event changed what an ASP is, or an AS: who is up, active, waits.
     pub fn has_changed(&self) -> bool {
         let (was, is) = (self.before.raw(), self.state.raw());
-        was.up != is.up || was.active != is.active || was.waiting != is.waiting || was.state != is.state
+        was.up != is.up
+            || was.active != is.active
+            || was.waiting != is.waiting
+            || was.state != is.state
     }
 }

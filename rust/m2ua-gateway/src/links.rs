@@ -3,7 +3,10 @@
 //!
 //! | from the gateway | an order to the link side: Data, Establish, Release, State, Data Retrieval Request |
 //! | to the gateway | Establish Confirm: the link is in service; Release Confirm, Release Indication: it is out of service; all else: a message for the ASPs |
-use m2ua::{parameters, protocol_data, read, sys, write, Event, Gateway, MessageType, Order, Parameter, Refusal};
+use m2ua::{
+    parameters, protocol_data, read, sys, write, Event, Gateway, MessageType, Order, Parameter,
+    Refusal,
+};
 use m2ua_trace::script::Happening;
 
 /// The message of an order to the link side. What the order's words do not say, a unit or a sequence number, stands in the ASP's message.
@@ -40,7 +43,9 @@ pub fn event_of<'a>(message: &'a [u8], g: &Gateway) -> Option<Event<'a>> {
     let link = |id| g.link_place(id);
     match read(message).map(|r| (r.message, r.id)) {
         Ok((MessageType::EstablishConfirm, id)) => link(id).map(|link| Event::LinkUp { link }),
-        Ok((MessageType::ReleaseConfirm | MessageType::ReleaseIndication, id)) => link(id).map(|link| Event::LinkDown { link }),
+        Ok((MessageType::ReleaseConfirm | MessageType::ReleaseIndication, id)) => {
+            link(id).map(|link| Event::LinkDown { link })
+        }
         _ => Some(Event::LinkMessage { message }),
     }
 }
@@ -73,7 +78,10 @@ const FOR_ASPS: [MessageType; 7] = [
 
 /// The Error that the link side gets for a message that is no event; with the identifier where that is what is wrong.
 pub fn error(code: u32, message: &[u8]) -> Vec<u8> {
-    let (code, id) = (code.to_be_bytes(), read(message).map_or(0, |r| r.id).to_be_bytes());
+    let (code, id) = (
+        code.to_be_bytes(),
+        read(message).map_or(0, |r| r.id).to_be_bytes(),
+    );
     let mut list = vec![Parameter::new(sys::TAG_ERROR_CODE, &code)];
     if u32::from_be_bytes(code) == sys::ERROR_INVALID_INTERFACE_ID {
         list.push(Parameter::new(sys::TAG_INTERFACE_ID, &id));
@@ -92,16 +100,30 @@ pub fn simulated(order: &Order, message: &[u8], g: &Gateway) -> Vec<Happening> {
     let answers = match order.message {
         MessageType::EstablishRequest => [place.map(Happening::LinkUp), None],
         MessageType::ReleaseRequest => [place.map(Happening::LinkDown), None],
-        MessageType::Data if !protocol_data(message).is_empty() => [Some(Happening::LinkMessage(message.to_vec())), None],
-        MessageType::StateRequest => [answer(MessageType::StateConfirm, &[link, Parameter::new(sys::TAG_STATE, &value)]), None],
+        MessageType::Data if !protocol_data(message).is_empty() => {
+            [Some(Happening::LinkMessage(message.to_vec())), None]
+        }
+        MessageType::StateRequest => [
+            answer(
+                MessageType::StateConfirm,
+                &[link, Parameter::new(sys::TAG_STATE, &value)],
+            ),
+            None,
+        ],
         MessageType::RetrievalRequest => {
             let action = Parameter::new(sys::TAG_RETRIEVAL_ACTION, &value);
             let zero = |tag| Parameter::new(tag, &[0, 0, 0, 0]);
             let (result, bsn) = (zero(sys::TAG_RETRIEVAL_RESULT), zero(sys::TAG_SEQUENCE));
             if order.value == sys::RETRIEVE_MESSAGES {
-                [answer(MessageType::RetrievalConfirm, &[link, action, result]), answer(MessageType::RetrievalComplete, &[link])]
+                [
+                    answer(MessageType::RetrievalConfirm, &[link, action, result]),
+                    answer(MessageType::RetrievalComplete, &[link]),
+                ]
             } else {
-                [answer(MessageType::RetrievalConfirm, &[link, action, result, bsn]), None]
+                [
+                    answer(MessageType::RetrievalConfirm, &[link, action, result, bsn]),
+                    None,
+                ]
             }
         }
         _ => [None, None],

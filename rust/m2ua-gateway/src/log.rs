@@ -33,7 +33,14 @@ pub struct Log<W> {
 
 impl<W: Write + AsRawFd> Log<W> {
     pub fn new(level: Level, out: W) -> Log<W> {
-        Log { level, out, text: String::new(), now: UNIX_EPOCH, stamp: String::new(), left_out: 0 }
+        Log {
+            level,
+            out,
+            text: String::new(),
+            now: UNIX_EPOCH,
+            stamp: String::new(),
+            left_out: 0,
+        }
     }
 
     pub fn says(&self, level: Level) -> bool {
@@ -67,7 +74,9 @@ impl<W: Write + AsRawFd> Log<W> {
     /// Writes what there is, as far as that takes no waiting. A file that cannot be written is nothing to fail for: there is nowhere to say it.
     pub fn flush(&mut self) {
         let mut written = 0;
-        while written < self.text.len() && os::wait_for(&self.out, true, Duration::ZERO).unwrap_or(false) {
+        while written < self.text.len()
+            && os::wait_for(&self.out, true, Duration::ZERO).unwrap_or(false)
+        {
             let end = (written + PIECE).min(self.text.len());
             match self.out.write(&self.text.as_bytes()[written..end]) {
                 Ok(0) | Err(_) => break,
@@ -81,7 +90,11 @@ impl<W: Write + AsRawFd> Log<W> {
         self.text.drain(..written);
         if self.left_out > 0 && self.text.len() < MOST / 2 {
             self.stamp();
-            let _ = writeln!(self.text, "{} log: {} lines left out, the log could not be written fast enough", self.stamp, self.left_out);
+            let _ = writeln!(
+                self.text,
+                "{} log: {} lines left out, the log could not be written fast enough",
+                self.stamp, self.left_out
+            );
             self.left_out = 0;
         }
     }
@@ -96,7 +109,12 @@ impl std::fmt::Display for Stamp {
         let (days, second) = (since.as_secs() / 86400, since.as_secs() % 86400);
         let (year, month, day) = date(days);
         let (hour, minute) = (second / 3600, second / 60 % 60);
-        write!(f, "{year}-{month:02}-{day:02}T{hour:02}:{minute:02}:{:02}.{:03}Z", second % 60, since.subsec_millis())
+        write!(
+            f,
+            "{year}-{month:02}-{day:02}T{hour:02}:{minute:02}:{:02}.{:03}Z",
+            second % 60,
+            since.subsec_millis()
+        )
     }
 }
 
@@ -127,10 +145,20 @@ mod tests {
 
     #[test]
     fn dates() {
-        for (day, is) in [(0, (1970, 1, 1)), (58, (1970, 2, 28)), (59, (1970, 3, 1)), (789, (1972, 2, 29)), (11016, (2000, 2, 29)), (20774, (2026, 11, 17))] {
+        for (day, is) in [
+            (0, (1970, 1, 1)),
+            (58, (1970, 2, 28)),
+            (59, (1970, 3, 1)),
+            (789, (1972, 2, 29)),
+            (11016, (2000, 2, 29)),
+            (20774, (2026, 11, 17)),
+        ] {
             assert_eq!(date(day), is);
         }
-        assert_eq!(Stamp(UNIX_EPOCH + Duration::from_millis(1_794_916_800_123)).to_string(), "2026-11-17T12:00:00.123Z");
+        assert_eq!(
+            Stamp(UNIX_EPOCH + Duration::from_millis(1_794_916_800_123)).to_string(),
+            "2026-11-17T12:00:00.123Z"
+        );
     }
 
     #[test]
@@ -153,7 +181,10 @@ mod tests {
         drop(log);
         let text = whole.join().unwrap();
         let lines: Vec<&str> = text.lines().collect();
-        assert!(lines.last().unwrap().ends_with("lines left out, the log could not be written fast enough"));
+        assert!(lines
+            .last()
+            .unwrap()
+            .ends_with("lines left out, the log could not be written fast enough"));
         for (k, line) in lines[..lines.len() - 1].iter().enumerate() {
             assert!(line.ends_with(&format!(" line {k:060}")), "{line}");
         }

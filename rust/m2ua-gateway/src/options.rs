@@ -97,14 +97,35 @@ impl Options {
     fn set(&mut self, option: &str, value: &str) -> Result<(), String> {
         match option {
             "--dir" => self.dir = value.into(),
-            "--sctp" => self.sctp = Some(address(value, m2ua::sys::PORT).ok_or(format!("--sctp: '{value}' is no address"))?),
+            "--sctp" => {
+                self.sctp = Some(
+                    address(value, m2ua::sys::PORT)
+                        .ok_or(format!("--sctp: '{value}' is no address"))?,
+                )
+            }
             "--udp" => self.udp = Some(number(option, value, 1, u16::MAX)?),
             "--dead" => self.dead = millis(option, value)?,
-            "--links" => self.links = one_of(option, value, &[("socket", Links::Socket), ("loop", Links::Loop)])?,
+            "--links" => {
+                self.links = one_of(
+                    option,
+                    value,
+                    &[("socket", Links::Socket), ("loop", Links::Loop)],
+                )?
+            }
             "--recovery" => self.recovery = millis(option, value)?,
             "--queue" => self.queue = number(option, value, 1 << 18, 1 << 30)?,
             "--stall" => self.stall = millis(option, value)?,
-            "--log" => self.log = one_of(option, value, &[("all", Level::All), ("changes", Level::Changes), ("faults", Level::Faults)])?,
+            "--log" => {
+                self.log = one_of(
+                    option,
+                    value,
+                    &[
+                        ("all", Level::All),
+                        ("changes", Level::Changes),
+                        ("faults", Level::Faults),
+                    ],
+                )?
+            }
             "--journal" => self.journal = Some(value.into()),
             _ => return Err(format!("no such option: {option}")),
         }
@@ -115,14 +136,24 @@ impl Options {
 fn one_of<T: Copy>(option: &str, value: &str, known: &[(&str, T)]) -> Result<T, String> {
     let names: Vec<&str> = known.iter().map(|(name, _)| *name).collect();
     let found = known.iter().find(|(name, _)| *name == value);
-    found.map(|(_, is)| *is).ok_or(format!("{option}: '{value}' is none of {}", names.join(", ")))
+    found.map(|(_, is)| *is).ok_or(format!(
+        "{option}: '{value}' is none of {}",
+        names.join(", ")
+    ))
 }
 
 /// A number within limits.
-pub fn number<T: FromStr + PartialOrd + std::fmt::Display>(option: &str, value: &str, least: T, most: T) -> Result<T, String> {
+pub fn number<T: FromStr + PartialOrd + std::fmt::Display>(
+    option: &str,
+    value: &str,
+    least: T,
+    most: T,
+) -> Result<T, String> {
     match value.parse() {
         Ok(number) if number >= least && number <= most => Ok(number),
-        _ => Err(format!("{option}: '{value}' is no number from {least} to {most}")),
+        _ => Err(format!(
+            "{option}: '{value}' is no number from {least} to {most}"
+        )),
     }
 }
 
@@ -132,8 +163,13 @@ fn millis(option: &str, value: &str) -> Result<Duration, String> {
 
 /// An address with a port, or with the usual one.
 pub fn address(word: &str, port: u16) -> Option<SocketAddr> {
-    let bare = word.strip_prefix('[').and_then(|w| w.strip_suffix(']')).unwrap_or(word);
-    word.parse().ok().or_else(|| Some(SocketAddr::new(bare.parse::<IpAddr>().ok()?, port)))
+    let bare = word
+        .strip_prefix('[')
+        .and_then(|w| w.strip_suffix(']'))
+        .unwrap_or(word);
+    word.parse()
+        .ok()
+        .or_else(|| Some(SocketAddr::new(bare.parse::<IpAddr>().ok()?, port)))
 }
 
 #[cfg(test)]
@@ -141,16 +177,37 @@ mod tests {
     use super::*;
 
     fn parsed(words: &str) -> Result<Options, String> {
-        Options::parse(&words.split_whitespace().map(String::from).collect::<Vec<_>>())
+        Options::parse(
+            &words
+                .split_whitespace()
+                .map(String::from)
+                .collect::<Vec<_>>(),
+        )
     }
 
     #[test]
     fn right_ones() {
         let o = parsed("--sctp 127.0.0.1 --udp 9899 --dead 800 --links loop --queue 262144 --log changes --capture plan.txt --dir d").unwrap();
-        assert_eq!((o.sctp, o.udp, o.links), (Some("127.0.0.1:2904".parse().unwrap()), Some(9899), Links::Loop));
-        assert_eq!((o.dead, o.queue, o.log, o.capture), (Duration::from_millis(800), 262144, Level::Changes, true));
-        assert_eq!(parsed("--sctp [::1]:7 p").unwrap().sctp, Some("[::1]:7".parse().unwrap()));
-        assert_eq!(parsed("--sctp ::1 p").unwrap().sctp, Some("[::1]:2904".parse().unwrap()));
+        assert_eq!(
+            (o.sctp, o.udp, o.links),
+            (
+                Some("127.0.0.1:2904".parse().unwrap()),
+                Some(9899),
+                Links::Loop
+            )
+        );
+        assert_eq!(
+            (o.dead, o.queue, o.log, o.capture),
+            (Duration::from_millis(800), 262144, Level::Changes, true)
+        );
+        assert_eq!(
+            parsed("--sctp [::1]:7 p").unwrap().sctp,
+            Some("[::1]:7".parse().unwrap())
+        );
+        assert_eq!(
+            parsed("--sctp ::1 p").unwrap().sctp,
+            Some("[::1]:2904".parse().unwrap())
+        );
     }
 
     #[test]
@@ -158,10 +215,16 @@ mod tests {
         for (words, why) in [
             ("", "the plan is missing"),
             ("a b", "one plan, and 'b' follows it"),
-            ("--udp 9 p", "--udp says how SCTP is sent: --sctp is missing"),
+            (
+                "--udp 9 p",
+                "--udp says how SCTP is sent: --sctp is missing",
+            ),
             ("--dead", "--dead takes a value"),
             ("--dead 9 p", "--dead: '9' is no number from 10 to 3600000"),
-            ("--queue 65536 p", "--queue: '65536' is no number from 262144 to 1073741824"),
+            (
+                "--queue 65536 p",
+                "--queue: '65536' is no number from 262144 to 1073741824",
+            ),
             ("--links up p", "--links: 'up' is none of socket, loop"),
             ("--sctp here p", "--sctp: 'here' is no address"),
             ("--fast x p", "no such option: --fast"),

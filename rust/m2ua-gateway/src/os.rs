@@ -90,7 +90,13 @@ impl Header {
 }
 
 // What a C compiler says of the structs.
-const _: () = assert!(size_of::<Header>() == 64 && std::mem::offset_of!(Header, length) == 56 && size_of::<Part>() == 16 && size_of::<UnixAddress>() == 110 && size_of::<PollFd>() == 8);
+const _: () = assert!(
+    size_of::<Header>() == 64
+        && std::mem::offset_of!(Header, length) == 56
+        && size_of::<Part>() == 16
+        && size_of::<UnixAddress>() == 110
+        && size_of::<PollFd>() == 8
+);
 
 extern "C" {
     fn socket(domain: c_int, kind: c_int, protocol: c_int) -> c_int;
@@ -99,7 +105,14 @@ extern "C" {
     fn listen(fd: c_int, backlog: c_int) -> c_int;
     fn accept4(fd: c_int, address: *mut c_void, length: *mut u32, flags: c_int) -> c_int;
     fn recv(fd: c_int, bytes: *mut u8, length: usize, flags: c_int) -> isize;
-    fn recvmmsg(fd: c_int, headers: *mut Header, count: u32, flags: c_int, timeout: *mut c_void) -> c_int;
+    fn recvmmsg(
+        fd: c_int,
+        headers: *mut Header,
+        count: u32,
+        flags: c_int,
+        timeout: *mut c_void,
+    ) -> c_int;
+    fn sendmmsg(fd: c_int, headers: *mut Header, count: u32, flags: c_int) -> c_int;
     fn send(fd: c_int, bytes: *const u8, length: usize, flags: c_int) -> isize;
     fn poll(fds: *mut PollFd, count: u64, timeout: c_int) -> c_int;
     fn epoll_create1(flags: c_int) -> c_int;
@@ -135,9 +148,15 @@ fn counted(count: isize) -> Result<usize> {
 
 fn address(path: &Path) -> Result<UnixAddress> {
     let bytes = OsStr::as_bytes(path.as_os_str());
-    let mut address = UnixAddress { family: AF_UNIX, path: [0; 108] };
+    let mut address = UnixAddress {
+        family: AF_UNIX,
+        path: [0; 108],
+    };
     if bytes.len() >= address.path.len() || bytes.contains(&0) {
-        return Err(Error::new(ErrorKind::InvalidInput, "a socket's path has at most 107 bytes"));
+        return Err(Error::new(
+            ErrorKind::InvalidInput,
+            "a socket's path has at most 107 bytes",
+        ));
     }
     address.path[..bytes.len()].copy_from_slice(bytes);
     Ok(address)
@@ -173,7 +192,14 @@ pub fn seqpacket_connect(path: &Path) -> Result<OwnedFd> {
 /// The next connection of a listening socket; `WouldBlock` where there is none.
 pub fn accept(listener: &OwnedFd) -> Result<OwnedFd> {
     // Safety: no address is asked for.
-    owned(unsafe { accept4(listener.as_raw_fd(), std::ptr::null_mut(), std::ptr::null_mut(), SOCK_CLOEXEC) })
+    owned(unsafe {
+        accept4(
+            listener.as_raw_fd(),
+            std::ptr::null_mut(),
+            std::ptr::null_mut(),
+            SOCK_CLOEXEC,
+        )
+    })
 }
 
 /// Room for `COUNT` packets of `SIZE` bytes that one call takes. What the headers point at lies in the same boxes for as long as these live.
@@ -187,19 +213,49 @@ pub struct Packets<const COUNT: usize, const SIZE: usize> {
 impl<const COUNT: usize, const SIZE: usize> Packets<COUNT, SIZE> {
     pub fn new() -> Self {
         let mut bytes = Box::new([[0; SIZE]; COUNT]);
-        let mut parts = Box::new([Part { start: std::ptr::null_mut(), length: SIZE }; COUNT]);
+        let mut parts = Box::new(
+            [Part {
+                start: std::ptr::null_mut(),
+                length: SIZE,
+            }; COUNT],
+        );
         let mut headers = Box::new([Header::NONE; COUNT]);
         for (k, header) in headers.iter_mut().enumerate() {
             parts[k].start = bytes[k].as_mut_ptr();
             (header.parts, header.part_count) = (&mut parts[k], 1);
         }
-        Packets { bytes, _parts: parts, headers }
+        Packets {
+            bytes,
+            _parts: parts,
+            headers,
+        }
     }
 
-    /// The packets that have come, without waiting: how many.
-    pub fn receive(&mut self, fd: &OwnedFd) -> Result<usize> {
+    /// The packets that have come, up to `most`, without waiting: how many.
+    pub fn receive(&mut self, fd: &OwnedFd, most: usize) -> Result<usize> {
+        if most == 1 {
+            // Safety: the array is lent whole.
+            let length = counted(unsafe {
+                recv(
+                    fd.as_raw_fd(),
+                    self.bytes[0].as_mut_ptr(),
+                    SIZE,
+                    MSG_DONTWAIT | MSG_TRUNC,
+                )
+            })?;
+            self.headers[0].length = length as u32;
+            return Ok(1);
+        }
         // Safety: each header has one part, which is one array of `bytes`; nobody else has them during the call.
-        let count = unsafe { recvmmsg(fd.as_raw_fd(), self.headers.as_mut_ptr(), COUNT as u32, MSG_DONTWAIT | MSG_TRUNC, std::ptr::null_mut()) };
+        let count = unsafe {
+            recvmmsg(
+                fd.as_raw_fd(),
+                self.headers.as_mut_ptr(),
+                most.min(COUNT) as u32,
+                MSG_DONTWAIT | MSG_TRUNC,
+                std::ptr::null_mut(),
+            )
+        };
         counted(count as isize)
     }
 
@@ -226,26 +282,76 @@ impl<const COUNT: usize, const SIZE: usize> Default for Packets<COUNT, SIZE> {
 
 /// Whether the peer has closed, and nothing but empty packets is left of what it sent.
 pub fn is_ended(fd: &OwnedFd) -> bool {
-    let mut one = PollFd { fd: fd.as_raw_fd(), events: POLLIN | POLLRDHUP, seen: 0 };
+    let mut one = PollFd {
+        fd: fd.as_raw_fd(),
+        events: POLLIN | POLLRDHUP,
+        seen: 0,
+    };
     let mut byte = [0];
     // Safety: one entry, and one byte, are lent.
     unsafe {
         poll(&mut one, 1, 0) >= 0
             && one.seen & (POLLHUP | POLLRDHUP) != 0
-            && recv(fd.as_raw_fd(), byte.as_mut_ptr(), 1, MSG_PEEK | MSG_DONTWAIT) <= 0
+            && recv(
+                fd.as_raw_fd(),
+                byte.as_mut_ptr(),
+                1,
+                MSG_PEEK | MSG_DONTWAIT,
+            ) <= 0
     }
 }
 
 /// Sends one packet whole, or none of it: `WouldBlock` where there is no room.
 pub fn transmit(fd: &OwnedFd, bytes: &[u8]) -> Result<()> {
     // Safety: the slice is lent whole.
-    counted(unsafe { send(fd.as_raw_fd(), bytes.as_ptr(), bytes.len(), MSG_NOSIGNAL | MSG_DONTWAIT) }).map(|_| ())
+    counted(unsafe {
+        send(
+            fd.as_raw_fd(),
+            bytes.as_ptr(),
+            bytes.len(),
+            MSG_NOSIGNAL | MSG_DONTWAIT,
+        )
+    })
+    .map(|_| ())
+}
+
+/// Sends packets one by one, each whole, as far as there is room: how many. `WouldBlock` where there is none for the first.
+pub fn transmit_all<'a>(fd: &OwnedFd, packets: impl Iterator<Item = &'a [u8]>) -> Result<usize> {
+    const MOST: usize = 32;
+    let mut parts = [Part {
+        start: std::ptr::null_mut(),
+        length: 0,
+    }; MOST];
+    let mut headers = [Header::NONE; MOST];
+    let mut count = 0;
+    for ((packet, part), header) in packets.zip(&mut parts).zip(&mut headers) {
+        // the kernel only reads there
+        *part = Part {
+            start: packet.as_ptr().cast_mut(),
+            length: packet.len(),
+        };
+        (header.parts, header.part_count) = (part, 1);
+        count += 1;
+    }
+    // Safety: `count` headers have a part each, which is a slice that is lent through the call.
+    counted(unsafe {
+        sendmmsg(
+            fd.as_raw_fd(),
+            headers.as_mut_ptr(),
+            count,
+            MSG_NOSIGNAL | MSG_DONTWAIT,
+        )
+    } as isize)
 }
 
 /// Waits until a descriptor can be read, or written; `false` where the time is over first.
 pub fn wait_for(fd: &impl AsRawFd, write: bool, time: Duration) -> Result<bool> {
     let events = if write { POLLOUT } else { POLLIN };
-    let mut one = PollFd { fd: fd.as_raw_fd(), events, seen: 0 };
+    let mut one = PollFd {
+        fd: fd.as_raw_fd(),
+        events,
+        seen: 0,
+    };
     // Safety: one entry is lent.
     let count = unsafe { poll(&mut one, 1, millis(time)) };
     done(count).map(|()| count > 0)
@@ -253,7 +359,11 @@ pub fn wait_for(fd: &impl AsRawFd, write: bool, time: Duration) -> Result<bool> 
 
 /// Waits until one of two descriptors can be read, and says which of them can.
 pub fn wait_for_either(one: &impl AsRawFd, other: &impl AsRawFd) -> Result<(bool, bool)> {
-    let entry = |fd: RawFd| PollFd { fd, events: POLLIN, seen: 0 };
+    let entry = |fd: RawFd| PollFd {
+        fd,
+        events: POLLIN,
+        seen: 0,
+    };
     let mut both = [entry(one.as_raw_fd()), entry(other.as_raw_fd())];
     // Safety: two entries are lent.
     done(unsafe { poll(both.as_mut_ptr(), 2, -1) })?;
@@ -262,7 +372,10 @@ pub fn wait_for_either(one: &impl AsRawFd, other: &impl AsRawFd) -> Result<(bool
 
 /// Milliseconds, rounded up, so that nobody wakes before the time.
 fn millis(time: Duration) -> c_int {
-    time.as_nanos().div_ceil(1_000_000).try_into().unwrap_or(c_int::MAX)
+    time.as_nanos()
+        .div_ceil(1_000_000)
+        .try_into()
+        .unwrap_or(c_int::MAX)
 }
 
 /// A set of watched descriptors, each under a number.
@@ -300,7 +413,14 @@ impl Epoll {
     pub fn wait<'a>(&self, ready: &'a mut [Ready], time: Option<Duration>) -> Result<&'a [Ready]> {
         let time = time.map_or(-1, millis);
         // Safety: the slice is lent whole.
-        let count = unsafe { epoll_wait(self.0.as_raw_fd(), ready.as_mut_ptr(), ready.len() as c_int, time) };
+        let count = unsafe {
+            epoll_wait(
+                self.0.as_raw_fd(),
+                ready.as_mut_ptr(),
+                ready.len() as c_int,
+                time,
+            )
+        };
         match done(count) {
             Ok(()) => Ok(&ready[..count as usize]),
             Err(e) if e.kind() == ErrorKind::Interrupted => Ok(&[]),
@@ -310,7 +430,10 @@ impl Epoll {
 }
 
 impl Ready {
-    pub const NONE: Ready = Ready { events: 0, number: 0 };
+    pub const NONE: Ready = Ready {
+        events: 0,
+        number: 0,
+    };
 
     /// The number of the descriptor.
     pub fn number(&self) -> u64 {

@@ -44,7 +44,17 @@ impl Outside {
     pub fn new(peers: Vec<Peer>, ases: Vec<String>, links: Links, log: Log<Stderr>) -> Outside {
         let now = Instant::now();
         let complaints = vec![(now, 0); peers.len()];
-        Outside { peers, ases, links, log, journal: None, capture: None, next: VecDeque::new(), now, complaints }
+        Outside {
+            peers,
+            ases,
+            links,
+            log,
+            journal: None,
+            capture: None,
+            next: VecDeque::new(),
+            now,
+            complaints,
+        }
     }
 
     /// The place of the link side among the peers.
@@ -68,7 +78,11 @@ impl Outside {
     }
 
     fn end_of(&self, p: usize) -> End {
-        if p == self.link_side() { End::LinkSide } else { End::Asp(p) }
+        if p == self.link_side() {
+            End::LinkSide
+        } else {
+            End::Asp(p)
+        }
     }
 
     /// Writes an event down before it is run: in the journal, in the log, and as a packet in the capture.
@@ -89,16 +103,21 @@ impl Outside {
     pub fn journalled(&mut self, written: Option<Result<()>>) {
         if let Some(Err(e)) = written {
             self.journal = None;
-            self.log.line(Level::Faults, format_args!("journal: {e}; it ends here"));
+            self.log
+                .line(Level::Faults, format_args!("journal: {e}; it ends here"));
         }
     }
 
     fn log_event(&mut self, event: &Event<'_>, g: &Gateway) {
         let text = event.to_string();
-        let words = text.split_once(": ").map_or(text.as_str(), |(_, words)| words);
+        let words = text
+            .split_once(": ")
+            .map_or(text.as_str(), |(_, words)| words);
         let id = |link: usize| g.interface_id(link).unwrap_or_default();
         let line = match *event {
-            Event::Message { asp, .. } | Event::Lost { asp } => format!("{}: {words}", self.peers[asp].name),
+            Event::Message { asp, .. } | Event::Lost { asp } => {
+                format!("{}: {words}", self.peers[asp].name)
+            }
             Event::Recovery { r#as } => format!("AS {}: recovery time over", self.ases[r#as]),
             Event::LinkUp { link } => format!("links: link {} in service", id(link)),
             Event::LinkDown { link } => format!("links: link {} out of service", id(link)),
@@ -114,7 +133,8 @@ impl Outside {
         let written = capture.message(end, from_gateway, message);
         if written.is_err() || capture.is_full() {
             let why = written.err().map_or("it is full".into(), |e| e.to_string());
-            self.log.line(Level::Faults, format_args!("capture: {why}; it ends here"));
+            self.log
+                .line(Level::Faults, format_args!("capture: {why}; it ends here"));
             self.capture = None;
         }
     }
@@ -126,7 +146,10 @@ impl Outside {
             Addressee::Asp(p) => self.send(p, message, p),
             Addressee::LinkSide => match links::message_of(order, event) {
                 Ok(message) => self.to_links(order, &message, event, g),
-                Err(no) => self.log.line(Level::Faults, format_args!("links: {order} cannot be written: {no}")),
+                Err(no) => self.log.line(
+                    Level::Faults,
+                    format_args!("links: {order} cannot be written: {no}"),
+                ),
             },
         }
     }
@@ -141,9 +164,14 @@ impl Outside {
             Addressee::LinkSide => (self.link_side(), "links"),
         };
         let text = order.to_string();
-        let words = text.split_once(": ").map_or(text.as_str(), |(_, words)| words);
+        let words = text
+            .split_once(": ")
+            .map_or(text.as_str(), |(_, words)| words);
         let line = match (order.message, Status::of(order.value)) {
-            (MessageType::Notify, Some(status)) => format!("to {name}: Notify, AS {} {status}", self.ases[order.subject as usize]),
+            (MessageType::Notify, Some(status)) => format!(
+                "to {name}: Notify, AS {} {status}",
+                self.ases[order.subject as usize]
+            ),
             _ => format!("to {name}: {words}"),
         };
         if self.log.says(Level::All) {
@@ -157,12 +185,25 @@ impl Outside {
         let side = self.link_side();
         if self.links == Links::Loop {
             self.captured(End::LinkSide, true, message);
-            return self.next.extend(links::simulated(order, message, g).into_iter().map(Next::Event));
+            return self.next.extend(
+                links::simulated(order, message, g)
+                    .into_iter()
+                    .map(Next::Event),
+            );
         }
         if self.peers[side].association.is_none() {
-            self.complain(side, format_args!("links: not connected, {} of link {} is not carried out", order.message, order.subject));
-            let link = g.link_place(order.subject).filter(|&l| g.raw().state[l] != 0);
-            self.next.extend(link.map(|l| Next::Event(Happening::LinkDown(l))));
+            self.complain(
+                side,
+                format_args!(
+                    "links: not connected, {} of link {} is not carried out",
+                    order.message, order.subject
+                ),
+            );
+            let link = g
+                .link_place(order.subject)
+                .filter(|&l| g.raw().state[l] != 0);
+            self.next
+                .extend(link.map(|l| Next::Event(Happening::LinkDown(l))));
             return;
         }
         let origin = match event {
@@ -178,22 +219,26 @@ impl Outside {
         match fate {
             Fate::Taken => self.captured(self.end_of(p), true, message),
             Fate::Absent => {}
-            Fate::Ended => self.lose(p, "the association is over"),
             Fate::Overflow => self.lose(p, "too much waits for it: disconnected"),
         }
     }
 
-    /// Sends what waits for a peer.
-    pub fn flush(&mut self, p: usize) {
-        if !self.peers[p].flush(self.now) {
-            self.lose(p, "the association is over");
+    /// Sends what waits, to all peers.
+    pub fn flush(&mut self) {
+        for p in 0..self.peers.len() {
+            if !self.peers[p].flush(self.now) {
+                self.lose(p, "the association is over");
+            }
         }
     }
 
     /// An association begins.
     pub fn begin(&mut self, p: usize, association: Association) {
         let name = &self.peers[p].name;
-        let written = self.journal.as_mut().map(|j| j.note(format_args!("{name} begins")));
+        let written = self
+            .journal
+            .as_mut()
+            .map(|j| j.note(format_args!("{name} begins")));
         self.journalled(written);
         self.peers[p].begin(association, self.now);
     }
@@ -218,16 +263,28 @@ impl Outside {
 
     fn lost(&mut self, p: usize, why: &str, dropped: usize) {
         let name = self.peers[p].name.clone();
-        let waited = if dropped > 0 { format!(", {dropped} messages that waited are dropped") } else { String::new() };
-        self.log.line(Level::Changes, format_args!("{name}: {why}{waited}"));
-        let written = self.journal.as_mut().map(|j| j.note(format_args!("{name} ends")));
+        let waited = if dropped > 0 {
+            format!(", {dropped} messages that waited are dropped")
+        } else {
+            String::new()
+        };
+        self.log
+            .line(Level::Changes, format_args!("{name}: {why}{waited}"));
+        let written = self
+            .journal
+            .as_mut()
+            .map(|j| j.note(format_args!("{name} ends")));
         self.journalled(written);
         let end = self.end_of(p);
         if let Some(capture) = &mut self.capture {
             // a capture that cannot be written is told of at the next message
             let _ = capture.lost(end);
         }
-        self.next.push_back(if p == self.link_side() { Next::LinksGone } else { Next::Event(Happening::Lost(p)) });
+        self.next.push_back(if p == self.link_side() {
+            Next::LinksGone
+        } else {
+            Next::Event(Happening::Lost(p))
+        });
     }
 
     /// A line about what a peer does wrong: the first few in a second, then how many more there were.
@@ -249,7 +306,10 @@ impl Outside {
         let (until, count) = self.complaints[p];
         if self.now >= until && count > COMPLAINTS {
             let (name, more) = (self.peers[p].name.clone(), count - COMPLAINTS);
-            self.log.line(Level::Changes, format_args!("{name}: {more} more such lines"));
+            self.log.line(
+                Level::Changes,
+                format_args!("{name}: {more} more such lines"),
+            );
             self.complaints[p].1 = 0;
         }
     }
@@ -262,19 +322,32 @@ impl Outside {
         }
         for p in (0..is.asps()).filter(|&p| was.is_up(p) != is.is_up(p)) {
             let (name, state) = (&self.peers[p].name, if is.is_up(p) { "up" } else { "down" });
-            self.log.line(Level::Changes, format_args!("ASP {name} is {state}"));
+            self.log
+                .line(Level::Changes, format_args!("ASP {name} is {state}"));
         }
         for (a, name) in self.ases.iter().enumerate() {
             let moved = (0..is.asps()).any(|p| was.is_active(a, p) != is.is_active(a, p));
-            if let Some(state) = is.as_state(a).filter(|s| moved || was.as_state(a) != Some(*s)) {
-                let active: Vec<&str> = (0..is.asps()).filter(|&p| is.is_active(a, p)).map(|p| self.peers[p].name.as_str()).collect();
-                let who = if active.is_empty() { String::new() } else { format!(": {}", active.join(", ")) };
-                self.log.line(Level::Changes, format_args!("AS {name} is {state}{who}"));
+            if let Some(state) = is
+                .as_state(a)
+                .filter(|s| moved || was.as_state(a) != Some(*s))
+            {
+                let active: Vec<&str> = (0..is.asps())
+                    .filter(|&p| is.is_active(a, p))
+                    .map(|p| self.peers[p].name.as_str())
+                    .collect();
+                let who = if active.is_empty() {
+                    String::new()
+                } else {
+                    format!(": {}", active.join(", "))
+                };
+                self.log
+                    .line(Level::Changes, format_args!("AS {name} is {state}{who}"));
             }
         }
         for l in (0..is.links()).filter(|&l| was.link_state(l) != is.link_state(l)) {
             if let (Some(id), Some(state)) = (is.interface_id(l), is.link_state(l)) {
-                self.log.line(Level::Changes, format_args!("link {id} is {state}"));
+                self.log
+                    .line(Level::Changes, format_args!("link {id} is {state}"));
             }
         }
     }

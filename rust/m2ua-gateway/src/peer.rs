@@ -1,23 +1,7 @@
 //! A peer: an ASP, or the link side; its association while it has one, and what waits to be sent.
+use crate::queue::{Queue, ENTRY};
 use crate::transport::{Association, Batch, Sent, BURST};
-use std::collections::VecDeque;
 use std::time::Instant;
-
-/// What a message costs in a queue beside its bytes: the queue's own entry and the allocator's.
-const ENTRY: usize = 64;
-
-/// Messages that wait until the transport has room again, oldest first. Each has an origin: the ASP whose message it came from, where that matters.
-#[derive(Default)]
-struct Queue {
-    messages: VecDeque<(Box<[u8]>, usize)>,
-    bytes: usize,
-}
-
-impl Queue {
-    fn cost(message: &[u8]) -> usize {
-        message.len() + ENTRY
-    }
-}
 
 /// What a peer has received and sent since the start. Every message to it is sent, waits, or is dropped with its association.
 #[derive(Clone, Copy, Default)]
@@ -32,12 +16,10 @@ pub struct Counts {
 /// What has become of a message to a peer.
 #[derive(Clone, Copy, Debug, PartialEq, Eq)]
 pub enum Fate {
-    /// It is sent, or waits.
+    /// It waits, for the end of this turn at least.
     Taken,
     /// There is no association.
     Absent,
-    /// The association is over.
-    Ended,
     /// Too much waits already.
     Overflow,
 }
@@ -54,10 +36,13 @@ pub struct Peer {
     /// There may be something to read, which nobody else tells.
     pub ready: bool,
     pub counts: Counts,
+    /// How often was looked for messages, and whether there were several the last time.
+    looks: u8,
+    many: bool,
     queue: Queue,
     limit: usize,
-    /// What waits here, by origin.
-    shares: Vec<usize>,
+    /// The transport has no room: until it says so nothing is sent.
+    pub blocked: bool,
 }
 
 impl Peer {
@@ -71,9 +56,11 @@ impl Peer {
             paused: false,
             ready: false,
             counts: Counts::default(),
-            queue: Queue::default(),
+            looks: 0,
+            many: false,
+            queue: Queue::new(origins),
             limit,
-            shares: vec![0; origins],
+            blocked: false,
         }
     }
 
@@ -81,62 +68,52 @@ impl Peer {
         self.association = Some(association);
         self.progress = now;
         self.ready = true;
-        self.paused = false;
+        (self.paused, self.blocked) = (false, false);
         self.counts.associations += 1;
     }
 
     /// Takes the association away, and drops what waits for it: how many messages that is.
     pub fn end(&mut self) -> (Option<Association>, usize) {
-        let dropped = self.queue.messages.len();
-        self.queue = Queue::default();
-        self.shares.fill(0);
+        let dropped = self.queue.clear();
         self.counts.dropped += dropped as u64;
         self.ready = false;
         (self.association.take(), dropped)
     }
 
-    /// What has come. Less than goes into a batch is all there is.
+    /// What has come. To look for a second message where there is none costs as much as half a message: so that is done now and then, and as long as there is one.
     pub fn receive(&mut self, batch: &mut Batch) {
         batch.clear();
+        self.looks = self.looks.wrapping_add(1);
+        let most = if self.many || self.looks.is_multiple_of(8) {
+            BURST
+        } else {
+            1
+        };
         if let Some(association) = &mut self.association {
-            association.receive(batch);
+            association.receive(batch, most);
         }
+        self.many = batch.len() > 1;
         self.ready = batch.len() == BURST;
         self.counts.received += batch.messages() as u64;
     }
 
-    /// Sends a message, or lets it wait behind those that do.
+    /// Lets a message wait until the next flush. Where too much waits, what can be sent is sent first.
     pub fn send(&mut self, message: &[u8], origin: usize, now: Instant) -> Fate {
         self.counts.ordered += 1;
-        let fate = self.fate(message, origin, now);
-        if !matches!(fate, Fate::Taken) {
-            self.counts.dropped += 1;
-        }
+        let fate = if self.association.is_none() {
+            Fate::Absent
+        } else if self.has_room(message) || (self.flush(now) && self.has_room(message)) {
+            self.queue.push(message, origin);
+            return Fate::Taken;
+        } else {
+            Fate::Overflow
+        };
+        self.counts.dropped += 1;
         fate
     }
 
-    fn fate(&mut self, message: &[u8], origin: usize, now: Instant) -> Fate {
-        let Some(association) = &self.association else {
-            return Fate::Absent;
-        };
-        if self.queue.messages.is_empty() {
-            match association.send(message) {
-                Sent::Done => {
-                    self.counts.sent += 1;
-                    return Fate::Taken;
-                }
-                Sent::Ended => return Fate::Ended,
-                Sent::Later => self.progress = now,
-            }
-        }
-        let cost = Queue::cost(message);
-        if self.queue.bytes + cost > self.limit {
-            return Fate::Overflow;
-        }
-        self.queue.bytes += cost;
-        self.shares[origin] += cost;
-        self.queue.messages.push_back((message.into(), origin));
-        Fate::Taken
+    fn has_room(&self, message: &[u8]) -> bool {
+        self.queue.cost() + message.len() + ENTRY <= self.limit
     }
 
     /// Sends what waits, as far as the transport takes it; `false` where the association is over.
@@ -144,29 +121,40 @@ impl Peer {
         let Some(association) = &self.association else {
             return true;
         };
-        while let Some((message, origin)) = self.queue.messages.front() {
-            match association.send(message) {
-                Sent::Done => {}
-                Sent::Later => return true,
+        while !self.blocked && !self.queue.is_empty() {
+            let (count, rest) = match self.queue.only() {
+                Some(message) => match association.send(message) {
+                    Sent::Done => (1, Sent::Done),
+                    other => (0, other),
+                },
+                None => association.send_all(self.queue.iter()),
+            };
+            self.queue.pop(count);
+            self.counts.sent += count as u64;
+            match rest {
                 Sent::Ended => return false,
+                Sent::Later => self.blocked = true,
+                Sent::Done => {}
             }
-            let cost = Queue::cost(message);
-            self.shares[*origin] -= cost;
-            self.queue.bytes -= cost;
-            self.queue.messages.pop_front();
-            self.counts.sent += 1;
-            self.progress = now;
+            if count > 0 || self.blocked {
+                self.progress = now;
+            }
         }
         true
     }
 
+    /// The transport has room again.
+    pub fn unblock(&mut self) {
+        self.blocked = false;
+    }
+
     /// How many bytes wait, and how many messages.
     pub fn waiting(&self) -> (usize, usize) {
-        (self.queue.bytes, self.queue.messages.len())
+        (self.queue.cost(), self.queue.len())
     }
 
     /// How many of the bytes that wait come from an origin.
     pub fn share(&self, origin: usize) -> usize {
-        self.shares[origin]
+        self.queue.share(origin)
     }
 }

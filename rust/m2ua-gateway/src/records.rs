@@ -47,7 +47,12 @@ impl Capture {
     pub fn create(path: &Path, now: SystemTime) -> Result<Capture> {
         let mut out = BufWriter::with_capacity(1 << 16, File::create(path)?);
         out.write_all(&capture::header())?;
-        let mut made = Capture { out, associations: Associations::new(), room: MOST, time: (0, 0) };
+        let mut made = Capture {
+            out,
+            associations: Associations::new(),
+            room: MOST,
+            time: (0, 0),
+        };
         made.set_time(now);
         Ok(made)
     }
@@ -64,7 +69,9 @@ impl Capture {
 
     /// A message to the gateway, or from it.
     pub fn message(&mut self, end: End, from_gateway: bool, message: &[u8]) -> Result<()> {
-        let record = self.associations.message(end, from_gateway, message, self.time);
+        let record = self
+            .associations
+            .message(end, from_gateway, message, self.time);
         self.put(&record)
     }
 

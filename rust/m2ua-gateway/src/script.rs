@@ -39,12 +39,20 @@ pub enum Command {
 pub fn name_of(message: MessageType) -> String {
     let text = message.to_string();
     let words = text.strip_prefix("ASP ").unwrap_or(&text).to_lowercase();
-    let short = words.replace("heartbeat", "beat").replace("data retrieval complete indication", "retrieval complete").replace("data retrieval", "retrieval");
-    short.replace("data acknowledge", "data ack").replace(' ', "-")
+    let short = words
+        .replace("heartbeat", "beat")
+        .replace("data retrieval complete indication", "retrieval complete")
+        .replace("data retrieval", "retrieval");
+    short
+        .replace("data acknowledge", "data ack")
+        .replace(' ', "-")
 }
 
 fn message_named(name: &str) -> Option<MessageType> {
-    MessageType::ALL.iter().copied().find(|m| name_of(*m) == name)
+    MessageType::ALL
+        .iter()
+        .copied()
+        .find(|m| name_of(*m) == name)
 }
 
 /// The parameters that have one number.
@@ -62,10 +70,18 @@ const NUMBERS: [(&str, u16); 10] = [
 ];
 
 /// Those that have bytes.
-const BYTES: [(&str, u16); 3] = [("data", sys::TAG_DATA_1), ("data2", sys::TAG_DATA_2), ("heartbeat", sys::TAG_HEARTBEAT)];
+const BYTES: [(&str, u16); 3] = [
+    ("data", sys::TAG_DATA_1),
+    ("data2", sys::TAG_DATA_2),
+    ("heartbeat", sys::TAG_HEARTBEAT),
+];
 
 /// Numbers that have names.
-const MODES: [(&str, u32); 3] = [("override", sys::MODE_OVERRIDE), ("load-share", sys::MODE_LOADSHARE), ("broadcast", sys::MODE_BROADCAST)];
+const MODES: [(&str, u32); 3] = [
+    ("override", sys::MODE_OVERRIDE),
+    ("load-share", sys::MODE_LOADSHARE),
+    ("broadcast", sys::MODE_BROADCAST),
+];
 const STATUSES: [(&str, u32); 4] = [
     ("inactive", sys::STATUS_AS_INACTIVE),
     ("active", sys::STATUS_AS_ACTIVE),
@@ -74,7 +90,8 @@ const STATUSES: [(&str, u32); 4] = [
 ];
 
 fn number(word: &str) -> Result<u32, String> {
-    word.parse().map_err(|_| format!("'{word}' is no number of 32 bits"))
+    word.parse()
+        .map_err(|_| format!("'{word}' is no number of 32 bits"))
 }
 
 /// Numbers that are joined by commas, each as its four bytes.
@@ -84,15 +101,24 @@ fn numbers(word: &str) -> Result<Vec<u8>, String> {
 }
 
 fn named(word: &str, known: &[(&str, u32)]) -> Result<Vec<u8>, String> {
-    let found = known.iter().find(|(name, _)| *name == word).map(|(_, n)| *n);
-    found.map_or_else(|| number(word), Ok).map(|n| n.to_be_bytes().to_vec())
+    let found = known
+        .iter()
+        .find(|(name, _)| *name == word)
+        .map(|(_, n)| *n);
+    found
+        .map_or_else(|| number(word), Ok)
+        .map(|n| n.to_be_bytes().to_vec())
 }
 
 /// A parameter from its name and its word.
 fn parameter(name: &str, word: &str) -> Result<(u16, Value), String> {
     let found = |list: &[(&str, u16)]| list.iter().find(|(n, _)| *n == name).map(|(_, tag)| *tag);
     if let Some(tag) = found(&BYTES) {
-        let value = if word == "counter" { Value::Counter } else { Value::Bytes(bytes(word)?) };
+        let value = if word == "counter" {
+            Value::Counter
+        } else {
+            Value::Bytes(bytes(word)?)
+        };
         return Ok((tag, value));
     }
     if let Some(tag) = found(&NUMBERS) {
@@ -100,7 +126,10 @@ fn parameter(name: &str, word: &str) -> Result<(u16, Value), String> {
     }
     let (tag, value) = match name {
         "link" => (sys::TAG_INTERFACE_ID, numbers(word)?),
-        "range" => (sys::TAG_INTERFACE_ID_RANGE, numbers(&word.replace('-', ","))?),
+        "range" => (
+            sys::TAG_INTERFACE_ID_RANGE,
+            numbers(&word.replace('-', ","))?,
+        ),
         "mode" => (sys::TAG_TRAFFIC_MODE, named(word, &MODES)?),
         "status" => (sys::TAG_STATUS, named(word, &STATUSES)?),
         "info" => (sys::TAG_INFO, word.as_bytes().to_vec()),
@@ -113,26 +142,46 @@ fn said(words: &[&str]) -> Result<Said, String> {
     let [name, rest @ ..] = words else {
         return Err("a message is missing".into());
     };
-    let message = message_named(name).ok_or_else(|| format!("no such command or message: {name}"))?;
+    let message =
+        message_named(name).ok_or_else(|| format!("no such command or message: {name}"))?;
     if rest.len() % 2 == 1 {
         return Err(format!("'{}' has no value", rest[rest.len() - 1]));
     }
-    let parameters: Result<Vec<_>, String> = rest.chunks(2).map(|pair| parameter(pair[0], pair[1])).collect();
-    Ok(Said { text: words.join(" "), message, parameters: parameters? })
+    let parameters: Result<Vec<_>, String> = rest
+        .chunks(2)
+        .map(|pair| parameter(pair[0], pair[1]))
+        .collect();
+    Ok(Said {
+        text: words.join(" "),
+        message,
+        parameters: parameters?,
+    })
 }
 
 impl Said {
     /// The bytes, after so many messages.
     pub fn written(&self, sent: u32) -> Result<Vec<u8>, String> {
-        let values: Vec<Vec<u8>> = self.parameters.iter().map(|(_, value)| value.bytes(sent)).collect();
-        let list: Vec<Parameter<'_>> = self.parameters.iter().zip(&values).map(|((tag, _), value)| Parameter::new(*tag, value)).collect();
-        write(self.message, &list).map_err(|no| format!("{} cannot be written: {no}", name_of(self.message)))
+        let values: Vec<Vec<u8>> = self
+            .parameters
+            .iter()
+            .map(|(_, value)| value.bytes(sent))
+            .collect();
+        let list: Vec<Parameter<'_>> = self
+            .parameters
+            .iter()
+            .zip(&values)
+            .map(|((tag, _), value)| Parameter::new(*tag, value))
+            .collect();
+        write(self.message, &list)
+            .map_err(|no| format!("{} cannot be written: {no}", name_of(self.message)))
     }
 
     /// Whether a message fits.
     pub fn fits(&self, message: &[u8]) -> bool {
         let has = |(tag, value): &(u16, Value)| match value {
-            Value::Bytes(wanted) => parameters(message).any(|p| p.tag == *tag && p.value == &wanted[..]),
+            Value::Bytes(wanted) => {
+                parameters(message).any(|p| p.tag == *tag && p.value == &wanted[..])
+            }
             Value::Counter => parameters(message).any(|p| p.tag == *tag),
         };
         read(message).is_ok_and(|r| r.message == self.message) && self.parameters.iter().all(has)
@@ -173,7 +222,12 @@ pub fn parse(source: &str) -> Result<Vec<Command>, String> {
     let mut open: Vec<(usize, Vec<Command>)> = vec![(1, Vec::new())];
     for (i, line) in source.lines().enumerate() {
         let at = |why: String| format!("line {}: {why}", i + 1);
-        let words: Vec<&str> = line.split('#').next().unwrap_or_default().split_whitespace().collect();
+        let words: Vec<&str> = line
+            .split('#')
+            .next()
+            .unwrap_or_default()
+            .split_whitespace()
+            .collect();
         match words[..] {
             [] => {}
             ["repeat", n] => open.push((number(n).map_err(at)? as usize, Vec::new())),
@@ -204,28 +258,71 @@ mod tests {
     #[test]
     fn every_message_has_a_name_of_its_own() {
         let names: Vec<String> = MessageType::ALL.iter().map(|m| name_of(*m)).collect();
-        assert_eq!(names[..8], ["error", "notify", "up", "down", "beat", "up-ack", "down-ack", "beat-ack"]);
-        assert_eq!(names[12..], ["data", "establish-request", "establish-confirm", "release-request", "release-confirm", "release-indication", "state-request", "state-confirm", "state-indication", "retrieval-request", "retrieval-confirm", "retrieval-indication", "retrieval-complete", "congestion-indication", "data-ack"]);
+        assert_eq!(
+            names[..8],
+            ["error", "notify", "up", "down", "beat", "up-ack", "down-ack", "beat-ack"]
+        );
+        assert_eq!(
+            names[12..],
+            [
+                "data",
+                "establish-request",
+                "establish-confirm",
+                "release-request",
+                "release-confirm",
+                "release-indication",
+                "state-request",
+                "state-confirm",
+                "state-indication",
+                "retrieval-request",
+                "retrieval-confirm",
+                "retrieval-indication",
+                "retrieval-complete",
+                "congestion-indication",
+                "data-ack"
+            ]
+        );
     }
 
     #[test]
     fn sample_m() {
         let parsed = parse("active mode override range 100-115 # M").unwrap();
-        let [Command::Send(m)] = &parsed[..] else { panic!("{parsed:?}") };
-        assert_eq!(m.written(0).unwrap(), [1, 0, 4, 1, 0, 0, 0, 28, 0, 11, 0, 8, 0, 0, 0, 1, 0, 8, 0, 12, 0, 0, 0, 100, 0, 0, 0, 115]);
+        let [Command::Send(m)] = &parsed[..] else {
+            panic!("{parsed:?}")
+        };
+        assert_eq!(
+            m.written(0).unwrap(),
+            [
+                1, 0, 4, 1, 0, 0, 0, 28, 0, 11, 0, 8, 0, 0, 0, 1, 0, 8, 0, 12, 0, 0, 0, 100, 0, 0,
+                0, 115
+            ]
+        );
         assert!(m.fits(&m.written(0).unwrap()));
         let wanted = parse("wait 3 for active mode load-share").unwrap();
-        let [Command::Wait(3, other)] = &wanted[..] else { panic!("{wanted:?}") };
+        let [Command::Wait(3, other)] = &wanted[..] else {
+            panic!("{wanted:?}")
+        };
         assert!(!other.fits(&m.written(0).unwrap()));
     }
 
     #[test]
     fn loops_and_counters() {
-        let parsed = parse("repeat 2\n repeat 3\n data link 7 data counter\n end\n sleep 5\nend\ndie").unwrap();
-        let [Command::Repeat(2, outer), Command::Die] = &parsed[..] else { panic!("{parsed:?}") };
-        let [Command::Repeat(3, inner), Command::Sleep(5)] = &outer[..] else { panic!("{outer:?}") };
-        let [Command::Send(data)] = &inner[..] else { panic!("{inner:?}") };
-        assert_eq!(m2ua::protocol_data(&data.written(258).unwrap()), [0, 0, 1, 2]);
+        let parsed =
+            parse("repeat 2\n repeat 3\n data link 7 data counter\n end\n sleep 5\nend\ndie")
+                .unwrap();
+        let [Command::Repeat(2, outer), Command::Die] = &parsed[..] else {
+            panic!("{parsed:?}")
+        };
+        let [Command::Repeat(3, inner), Command::Sleep(5)] = &outer[..] else {
+            panic!("{outer:?}")
+        };
+        let [Command::Send(data)] = &inner[..] else {
+            panic!("{inner:?}")
+        };
+        assert_eq!(
+            m2ua::protocol_data(&data.written(258).unwrap()),
+            [0, 0, 1, 2]
+        );
     }
 
     #[test]

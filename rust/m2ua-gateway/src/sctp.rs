@@ -29,7 +29,11 @@ impl Address {
                 6
             }
         };
-        Address { family, bytes, port: at.port() }
+        Address {
+            family,
+            bytes,
+            port: at.port(),
+        }
     }
 
     fn socket_address(&self) -> SocketAddr {
@@ -80,7 +84,9 @@ impl Stack {
     /// Starts the stack: inside UDP from a port of this side, or over IP where no port is given.
     pub fn start(udp_port: Option<u16>, terms: Terms) -> Result<Stack> {
         if !cfg!(sctp) {
-            return Err(Error::other("compiled without SCTP: libusrsctp was not installed (tools/setup)"));
+            return Err(Error::other(
+                "compiled without SCTP: libusrsctp was not installed (tools/setup)",
+            ));
         }
         match udp_port {
             // the stack does not tell whether it could have its port
@@ -91,7 +97,10 @@ impl Stack {
             },
         }
         c::start(udp_port.unwrap_or(0));
-        Ok(Stack { wake: Arc::new(crate::os::wake_file()?), terms })
+        Ok(Stack {
+            wake: Arc::new(crate::os::wake_file()?),
+            terms,
+        })
     }
 
     /// The counter that is raised.
@@ -101,12 +110,20 @@ impl Stack {
 
     pub fn listen(&self, at: SocketAddr) -> Result<Listener> {
         let socket = c::listen(&Address::of(at), &self.terms, self.wake.as_raw_fd())?;
-        Ok(Listener { socket, wake: self.wake.clone() })
+        Ok(Listener {
+            socket,
+            wake: self.wake.clone(),
+        })
     }
 
     /// Waits for an association with a peer.
     pub fn connect(&self, from: SocketAddr, to: SocketAddr) -> Result<Association> {
-        let socket = c::connect(&Address::of(from), &Address::of(to), &self.terms, self.wake.as_raw_fd())?;
+        let socket = c::connect(
+            &Address::of(from),
+            &Address::of(to),
+            &self.terms,
+            self.wake.as_raw_fd(),
+        )?;
         Ok(Association::new(socket, self.wake.clone()))
     }
 
@@ -121,7 +138,10 @@ impl Listener {
     pub fn accept(&self) -> Option<(Association, SocketAddr)> {
         let mut peer = Address::default();
         let socket = c::accept(self.socket, &mut peer, self.wake.as_raw_fd())?;
-        Some((Association::new(socket, self.wake.clone()), peer.socket_address()))
+        Some((
+            Association::new(socket, self.wake.clone()),
+            peer.socket_address(),
+        ))
     }
 
     pub fn close(self) {
@@ -131,7 +151,12 @@ impl Listener {
 
 impl Association {
     fn new(socket: c::Socket, wake: Arc<OwnedFd>) -> Association {
-        Association { socket, wake, part: Vec::new(), length: 0 }
+        Association {
+            socket,
+            wake,
+            part: Vec::new(),
+            length: 0,
+        }
     }
 
     /// The next message; `None` where there is none. A long one comes in pieces: of these the first bytes are kept, and the rest is counted.
@@ -142,7 +167,11 @@ impl Association {
                 c::PIECE | c::END => {
                     if let Some(whole) = self.piece(bytes, length, kind == c::END) {
                         let ours = ppid == m2ua::sys::PPID;
-                        return Some(if ours { Received::Message(whole) } else { Received::Foreign(ppid) });
+                        return Some(if ours {
+                            Received::Message(whole)
+                        } else {
+                            Received::Foreign(ppid)
+                        });
                     }
                 }
                 c::NOTHING => return None,
@@ -213,9 +242,26 @@ mod c {
         fn m2ua_sctp_start(udp_port: u16);
         fn m2ua_sctp_listen(at: *const Address, terms: *const Terms, wake: c_int) -> *mut c_void;
         fn m2ua_sctp_accept(listener: *mut c_void, peer: *mut Address, wake: c_int) -> *mut c_void;
-        fn m2ua_sctp_connect(from: *const Address, to: *const Address, terms: *const Terms, wake: c_int) -> *mut c_void;
-        fn m2ua_sctp_receive(socket: *mut c_void, bytes: *mut u8, size: usize, length: *mut usize, ppid: *mut u32) -> c_int;
-        fn m2ua_sctp_send(socket: *mut c_void, bytes: *const u8, length: usize, stream: u16, ppid: u32) -> c_int;
+        fn m2ua_sctp_connect(
+            from: *const Address,
+            to: *const Address,
+            terms: *const Terms,
+            wake: c_int,
+        ) -> *mut c_void;
+        fn m2ua_sctp_receive(
+            socket: *mut c_void,
+            bytes: *mut u8,
+            size: usize,
+            length: *mut usize,
+            ppid: *mut u32,
+        ) -> c_int;
+        fn m2ua_sctp_send(
+            socket: *mut c_void,
+            bytes: *const u8,
+            length: usize,
+            stream: u16,
+            ppid: u32,
+        ) -> c_int;
         fn m2ua_sctp_close(socket: *mut c_void, abort: c_int);
         fn m2ua_sctp_stop(most: u32) -> c_int;
     }
@@ -250,7 +296,15 @@ mod c {
 
     pub fn receive(socket: Socket, bytes: &mut [u8]) -> (c_int, usize, u32) {
         let (mut length, mut ppid) = (0, 0);
-        let kind = unsafe { m2ua_sctp_receive(socket.0, bytes.as_mut_ptr(), bytes.len(), &mut length, &mut ppid) };
+        let kind = unsafe {
+            m2ua_sctp_receive(
+                socket.0,
+                bytes.as_mut_ptr(),
+                bytes.len(),
+                &mut length,
+                &mut ppid,
+            )
+        };
         (kind, length.min(bytes.len()), ppid)
     }
 

@@ -29,9 +29,17 @@ pub fn plan_of(path: &Path) -> Result<(Plan, Vec<u8>), String> {
     let bytes = std::fs::read(path).map_err(|e| said(e.to_string()))?;
     if m2ua_plan::is_text(&bytes) {
         let text = String::from_utf8_lossy(&bytes);
-        let lines = |problems: Vec<m2ua_plan::Problem>| problems.iter().map(|p| said(p.to_string())).collect::<Vec<_>>().join("\n");
+        let lines = |problems: Vec<m2ua_plan::Problem>| {
+            problems
+                .iter()
+                .map(|p| said(p.to_string()))
+                .collect::<Vec<_>>()
+                .join("\n")
+        };
         let file = m2ua_plan::compile(&text).map_err(lines)?;
-        return m2ua_plan::parse(&text).map(|plan| (plan, file)).map_err(lines);
+        return m2ua_plan::parse(&text)
+            .map(|plan| (plan, file))
+            .map_err(lines);
     }
     let gateway = Gateway::load(&bytes).map_err(|no| said(no.to_string()))?;
     Ok((Plan::of(&gateway), bytes))
@@ -42,13 +50,21 @@ pub fn daemon(options: Options) -> Result<Daemon, String> {
     let (plan, file) = plan_of(&options.plan)?;
     let state = Gateway::load(&file).map_err(|no| no.to_string())?;
     // before any thread of the SCTP stack is there, so that no signal ends the process elsewhere
-    let signals = Signals::new(&[os::SIGTERM, os::SIGINT, os::SIGUSR1, os::SIGUSR2]).map_err(|e| format!("signals: {e}"))?;
+    let signals = Signals::new(&[os::SIGTERM, os::SIGINT, os::SIGUSR1, os::SIGUSR2])
+        .map_err(|e| format!("signals: {e}"))?;
     let peers = peers_of(&plan, &options);
     let ases = plan.ases.iter().map(|r#as| r#as.name.clone()).collect();
-    let mut outside = Outside::new(peers, ases, options.links, Log::new(options.log, std::io::stderr()));
+    let mut outside = Outside::new(
+        peers,
+        ases,
+        options.links,
+        Log::new(options.log, std::io::stderr()),
+    );
     outside.set_time(Instant::now(), SystemTime::now());
     outside.journal = match &options.journal {
-        Some(path) => Some(Journal::create(path, &file).map_err(|e| format!("{}: {e}", path.display()))?),
+        Some(path) => {
+            Some(Journal::create(path, &file).map_err(|e| format!("{}: {e}", path.display()))?)
+        }
         None => None,
     };
     let opened = opened(&options, &mut outside, signals)?;
@@ -80,7 +96,10 @@ fn peers_of(plan: &Plan, options: &Options) -> Vec<Peer> {
 
 fn opened(options: &Options, outside: &mut Outside, signals: Signals) -> Result<Opened, String> {
     let watch = Epoll::new().map_err(|e| format!("epoll: {e}"))?;
-    let made = std::fs::DirBuilder::new().recursive(true).mode(0o700).create(&options.dir);
+    let made = std::fs::DirBuilder::new()
+        .recursive(true)
+        .mode(0o700)
+        .create(&options.dir);
     made.map_err(|e| format!("{}: {e}", options.dir.display()))?;
     let mut listeners = Vec::new();
     for peer in &outside.peers {
@@ -90,7 +109,12 @@ fn opened(options: &Options, outside: &mut Outside, signals: Signals) -> Result<
         Some(at) => Some(sctp(at, options, outside)?),
         None => None,
     };
-    Ok(Opened { watch, signals, listeners, sctp })
+    Ok(Opened {
+        watch,
+        signals,
+        listeners,
+        sctp,
+    })
 }
 
 /// A listening Unix socket. One that a process left behind, which is no more, is taken away.
@@ -102,7 +126,12 @@ fn listener(path: &Path) -> Result<OwnedFd, String> {
     }
     match os::seqpacket_connect(path) {
         Err(e) if e.kind() == ErrorKind::ConnectionRefused => {}
-        Ok(_) => return Err(format!("{}: a running process has this socket", path.display())),
+        Ok(_) => {
+            return Err(format!(
+                "{}: a running process has this socket",
+                path.display()
+            ))
+        }
         Err(e) => return Err(said(e)),
     }
     std::fs::remove_file(path).map_err(said)?;
@@ -110,8 +139,16 @@ fn listener(path: &Path) -> Result<OwnedFd, String> {
 }
 
 /// The SCTP stack: over IP if that may be, else inside UDP.
-fn sctp(at: SocketAddr, options: &Options, outside: &mut Outside) -> Result<(Stack, Listener), String> {
-    let terms = Terms { udp_port: 0, dead: options.dead.as_millis() as u32, buffer: BUFFER };
+fn sctp(
+    at: SocketAddr,
+    options: &Options,
+    outside: &mut Outside,
+) -> Result<(Stack, Listener), String> {
+    let terms = Terms {
+        udp_port: 0,
+        dead: options.dead.as_millis() as u32,
+        buffer: BUFFER,
+    };
     let mut udp = options.udp;
     let stack = match Stack::start(udp, terms) {
         Err(e) if udp.is_none() && e.kind() == ErrorKind::PermissionDenied => {
@@ -123,7 +160,9 @@ fn sctp(at: SocketAddr, options: &Options, outside: &mut Outside) -> Result<(Sta
     let way = udp.map_or("over IP".into(), |port| format!("inside UDP, port {port}"));
     let stack = stack.map_err(|e| format!("SCTP {way}: {e}"))?;
     let listener = stack.listen(at).map_err(|e| format!("SCTP {at}: {e}"))?;
-    outside.log.line(Level::Faults, format_args!("sctp: listens at {at}, {way}"));
+    outside
+        .log
+        .line(Level::Faults, format_args!("sctp: listens at {at}, {way}"));
     Ok((stack, listener))
 }
 
@@ -131,7 +170,13 @@ fn sctp(at: SocketAddr, options: &Options, outside: &mut Outside) -> Result<(Sta
 fn ready(daemon: &mut Daemon) {
     let (plan, dir) = (&daemon.plan, daemon.options.dir.display());
     let counts = (plan.asps.len(), plan.ases.len(), plan.links.len());
-    let line = format_args!("m2ua-gateway {}: ready, {} ASPs, {} ASes, {} links, sockets in {dir}", env!("CARGO_PKG_VERSION"), counts.0, counts.1, counts.2);
+    let line = format_args!(
+        "m2ua-gateway {}: ready, {} ASPs, {} ASes, {} links, sockets in {dir}",
+        env!("CARGO_PKG_VERSION"),
+        counts.0,
+        counts.1,
+        counts.2
+    );
     daemon.outside.log.line(Level::Faults, line);
     daemon.outside.log.flush();
     if let (Some(path), Ok(socket)) = (std::env::var_os("NOTIFY_SOCKET"), UnixDatagram::unbound()) {

@@ -31,7 +31,10 @@ pub struct Batch {
 
 impl Batch {
     pub fn new() -> Batch {
-        Batch { packets: Packets::new(), received: Vec::with_capacity(BURST) }
+        Batch {
+            packets: Packets::new(),
+            received: Vec::with_capacity(BURST),
+        }
     }
 
     pub fn clear(&mut self) {
@@ -53,20 +56,27 @@ impl Batch {
 
     /// How many messages there are.
     pub fn messages(&self) -> usize {
-        self.received.iter().filter(|r| matches!(r, Received::Message(_))).count()
+        self.received
+            .iter()
+            .filter(|r| matches!(r, Received::Message(_)))
+            .count()
     }
 
     /// Takes packets of a Unix socket. An empty one looks like the end, of which there is no end: where only such are left and the peer has closed, it is the end.
-    fn take_packets(&mut self, socket: &OwnedFd) {
-        let count = match self.packets.receive(socket) {
+    fn take_packets(&mut self, socket: &OwnedFd, most: usize) {
+        let count = match self.packets.receive(socket, most) {
             Ok(count) => count,
             Err(e) if matches!(e.kind(), ErrorKind::WouldBlock | ErrorKind::Interrupted) => 0,
             Err(_) => return self.received.push(Received::Ended),
         };
-        let full = (0..count).rev().find(|&k| self.packets.length(k) > 0).map_or(0, |k| k + 1);
+        let full = (0..count)
+            .rev()
+            .find(|&k| self.packets.length(k) > 0)
+            .map_or(0, |k| k + 1);
         let ended = full < count && os::is_ended(socket);
         let messages = if ended { full } else { count };
-        self.received.extend((0..messages).map(|k| Received::Message(self.packets.length(k))));
+        self.received
+            .extend((0..messages).map(|k| Received::Message(self.packets.length(k))));
         if ended {
             self.received.push(Received::Ended);
         }
@@ -113,11 +123,11 @@ pub enum Association {
 }
 
 impl Association {
-    /// What has come, without waiting; nothing where the batch is empty behind it.
-    pub fn receive(&mut self, batch: &mut Batch) {
+    /// What has come, without waiting; nothing where the batch is empty behind it. Of a Unix socket, which tells by itself that more is there, at most so much.
+    pub fn receive(&mut self, batch: &mut Batch, most: usize) {
         batch.clear();
         match self {
-            Association::Packets(socket) => batch.take_packets(socket),
+            Association::Packets(socket) => batch.take_packets(socket, most),
             Association::Sctp(association) => batch.take_sctp(association),
         }
     }
@@ -126,7 +136,26 @@ impl Association {
     pub fn send(&self, message: &[u8]) -> Sent {
         match self {
             Association::Packets(socket) => sent(os::transmit(socket, message)),
-            Association::Sctp(association) => association.send(message, stream(message), m2ua::sys::PPID),
+            Association::Sctp(association) => {
+                association.send(message, stream(message), m2ua::sys::PPID)
+            }
+        }
+    }
+
+    /// Sends some messages, each whole, as far as there is room: how many, and what became of the next one. There is one at least.
+    pub fn send_all<'a>(&self, mut messages: impl Iterator<Item = &'a [u8]>) -> (usize, Sent) {
+        if let Association::Packets(socket) = self {
+            return match os::transmit_all(socket, messages) {
+                Ok(count) => (count, Sent::Done),
+                Err(e) => (0, sent(Err(e))),
+            };
+        }
+        let mut count = 0;
+        loop {
+            match messages.next().map(|message| self.send(message)) {
+                Some(Sent::Done) => count += 1,
+                other => return (count, other.unwrap_or(Sent::Done)),
+            }
         }
     }
 

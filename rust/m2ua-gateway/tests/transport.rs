@@ -18,7 +18,7 @@ fn pair(name: &str) -> (Association, OwnedFd) {
 }
 
 fn received(association: &mut Association, batch: &mut Batch) -> Vec<(Received, Vec<u8>)> {
-    association.receive(batch);
+    association.receive(batch, BURST);
     (0..batch.len())
         .map(|k| (batch.get(k).0, batch.get(k).1.to_vec()))
         .collect()
@@ -34,7 +34,10 @@ fn boundaries_are_kept_and_the_end_is_told() {
     let got = received(&mut here, &mut batch);
     let lengths: Vec<Received> = got.iter().map(|(r, _)| *r).collect();
     assert_eq!(lengths, [3, 0, 100_000, 4].map(Received::Message));
-    assert_eq!((&got[0].1[..], &got[1].1[..], &got[3].1[..]), (&b"one"[..], &b""[..], &b"four"[..]));
+    assert_eq!(
+        (&got[0].1[..], &got[1].1[..], &got[3].1[..]),
+        (&b"one"[..], &b""[..], &b"four"[..])
+    );
     assert_eq!(got[2].1, [7; READ]);
     // an empty packet, a message, and then the end
     os::transmit(&there, b"").unwrap();
@@ -42,14 +45,20 @@ fn boundaries_are_kept_and_the_end_is_told() {
     drop(there);
     let got = received(&mut here, &mut batch);
     let kinds: Vec<Received> = got.iter().map(|(r, _)| *r).collect();
-    assert_eq!(kinds, [Received::Message(0), Received::Message(4), Received::Ended]);
+    assert_eq!(
+        kinds,
+        [Received::Message(0), Received::Message(4), Received::Ended]
+    );
 }
 
 #[test]
 fn an_empty_packet_alone_is_no_end() {
     let ((mut here, there), mut batch) = (pair("empty"), Batch::new());
     os::transmit(&there, b"").unwrap();
-    assert_eq!(received(&mut here, &mut batch), [(Received::Message(0), vec![])]);
+    assert_eq!(
+        received(&mut here, &mut batch),
+        [(Received::Message(0), vec![])]
+    );
     drop(there);
     assert_eq!(received(&mut here, &mut batch), [(Received::Ended, vec![])]);
 }
@@ -81,22 +90,36 @@ fn a_queue_is_bounded_and_nothing_is_lost() {
             Fate::Taken => taken += 1,
             other => break other,
         }
+        // at the end of a turn
+        if taken.is_multiple_of(10) {
+            assert!(peer.flush(Instant::now()));
+        }
     };
     assert_eq!(fate, Fate::Overflow);
     let (bytes, waiting) = peer.waiting();
     assert!(bytes <= 65536 && bytes + 264 > 65536 && waiting == 65536 / 264);
-    assert_eq!((0..3).map(|origin| peer.share(origin)).sum::<usize>(), bytes);
+    assert_eq!(
+        (0..3).map(|origin| peer.share(origin)).sum::<usize>(),
+        bytes
+    );
     // the other end reads all of it, in its sequence
     let (mut there, mut batch, mut next) = (Association::Packets(there), Batch::new(), 0u32);
     while next < taken {
         for (what, message) in received(&mut there, &mut batch) {
-            assert_eq!((what, &message[..4]), (Received::Message(200), &next.to_be_bytes()[..]));
+            assert_eq!(
+                (what, &message[..4]),
+                (Received::Message(200), &next.to_be_bytes()[..])
+            );
             next += 1;
         }
+        peer.unblock();
         assert!(peer.flush(Instant::now()));
     }
     let counts = peer.counts;
-    assert_eq!((counts.ordered, counts.sent, counts.dropped), (u64::from(taken) + 2, u64::from(taken), 2));
+    assert_eq!(
+        (counts.ordered, counts.sent, counts.dropped),
+        (u64::from(taken) + 2, u64::from(taken), 2)
+    );
     assert_eq!((peer.waiting(), peer.share(0)), ((0, 0), 0));
     // what waits when the association ends is dropped, and counted
     while peer.waiting().1 < 5 {

@@ -112,10 +112,25 @@ fn target(o: &Options) -> Result<Target, String> {
     let Some(to) = o.sctp else {
         return Ok(Target::Unix(o.unix.clone().unwrap_or_default().into()));
     };
-    let terms = Terms { udp_port: if o.udp.is_some() { o.gateway_udp } else { 0 }, dead: o.dead, buffer: 1 << 18 };
+    let terms = Terms {
+        udp_port: if o.udp.is_some() { o.gateway_udp } else { 0 },
+        dead: o.dead,
+        buffer: 1 << 18,
+    };
     let stack = Stack::start(o.udp, terms).map_err(|e| format!("SCTP: {e}"))?;
-    let any = SocketAddr::new(if to.is_ipv4() { [0, 0, 0, 0].into() } else { [0; 16].into() }, 0);
-    Ok(Target::Sctp { stack, from: o.from.unwrap_or(any), to })
+    let any = SocketAddr::new(
+        if to.is_ipv4() {
+            [0, 0, 0, 0].into()
+        } else {
+            [0; 16].into()
+        },
+        0,
+    );
+    Ok(Target::Sctp {
+        stack,
+        from: o.from.unwrap_or(any),
+        to,
+    })
 }
 
 fn run(o: &Options) -> Result<(), String> {
@@ -127,7 +142,12 @@ fn run(o: &Options) -> Result<(), String> {
         Some("-") | None => Vec::new(),
         Some(path) => commands(path)?,
     };
-    let mut controller = Controller::new(target(o)?, o.timeout, record, !o.quiet && o.measure.is_none());
+    let mut controller = Controller::new(
+        target(o)?,
+        o.timeout,
+        record,
+        !o.quiet && o.measure.is_none(),
+    );
     match o.measure {
         Some(count) => measure(&mut controller, count, o)?,
         None if o.script.as_deref() == Some("-") => as_they_come(&mut controller)?,

@@ -28,7 +28,8 @@ fn main() -> ExitCode {
     match ended {
         Ok(()) => ExitCode::SUCCESS,
         Err(why) => {
-            why.lines().for_each(|line| eprintln!("m2ua-gateway: {line}"));
+            why.lines()
+                .for_each(|line| eprintln!("m2ua-gateway: {line}"));
             ExitCode::from(1)
         }
     }

@@ -1,0 +1,136 @@
+//! Messages that wait for a peer, oldest first, one behind the other in one buffer. Each has an origin: the ASP whose message it came from, where that matters.
+use std::collections::VecDeque;
+
+/// What a message costs beside its bytes: its entry, twice, since a list that grows has room for as much again.
+pub const ENTRY: usize = 64;
+
+#[derive(Clone, Copy)]
+struct Entry {
+    length: usize,
+    origin: usize,
+}
+
+pub struct Queue {
+    /// The bytes of the messages from `start` on; those before it are sent.
+    bytes: Vec<u8>,
+    start: usize,
+    entries: VecDeque<Entry>,
+    /// What waits, by origin, and in all.
+    shares: Vec<usize>,
+    cost: usize,
+}
+
+impl Queue {
+    pub fn new(origins: usize) -> Queue {
+        Queue {
+            bytes: Vec::new(),
+            start: 0,
+            entries: VecDeque::new(),
+            shares: vec![0; origins],
+            cost: 0,
+        }
+    }
+
+    pub fn len(&self) -> usize {
+        self.entries.len()
+    }
+
+    pub fn is_empty(&self) -> bool {
+        self.entries.is_empty()
+    }
+
+    /// What waits, in bytes, with what each message costs beside its own.
+    pub fn cost(&self) -> usize {
+        self.cost
+    }
+
+    /// How much of it comes from an origin.
+    pub fn share(&self, origin: usize) -> usize {
+        self.shares[origin]
+    }
+
+    pub fn push(&mut self, message: &[u8], origin: usize) {
+        self.bytes.extend(message);
+        self.entries.push_back(Entry {
+            length: message.len(),
+            origin,
+        });
+        self.shares[origin] += message.len() + ENTRY;
+        self.cost += message.len() + ENTRY;
+    }
+
+    /// The message, where there is one alone.
+    pub fn only(&self) -> Option<&[u8]> {
+        (self.entries.len() == 1).then(|| &self.bytes[self.start..])
+    }
+
+    /// The messages, oldest first.
+    pub fn iter(&self) -> impl Iterator<Item = &[u8]> {
+        let mut rest = &self.bytes[self.start..];
+        self.entries.iter().map(move |entry| {
+            let (message, behind) = rest.split_at(entry.length);
+            rest = behind;
+            message
+        })
+    }
+
+    /// Takes the oldest messages away.
+    pub fn pop(&mut self, count: usize) {
+        for entry in self.entries.drain(..count) {
+            self.start += entry.length;
+            self.shares[entry.origin] -= entry.length + ENTRY;
+            self.cost -= entry.length + ENTRY;
+        }
+        if self.entries.is_empty() {
+            self.bytes.clear();
+            self.start = 0;
+        } else if self.start > self.bytes.len() / 2 {
+            // what is sent is given up before it is more than what waits
+            self.bytes.drain(..self.start);
+            self.start = 0;
+        }
+    }
+
+    /// Takes all away: how many there were. The room is given back.
+    pub fn clear(&mut self) -> usize {
+        let count = self.len();
+        *self = Queue::new(self.shares.len());
+        count
+    }
+}
+
+#[cfg(test)]
+mod tests {
+    use super::*;
+
+    #[test]
+    fn a_queue_keeps_sequence_and_shares() {
+        let mut queue = Queue::new(2);
+        let (mut pushed, mut popped) = (0u32, 0u32);
+        for round in 0..1000usize {
+            for _ in 0..round % 7 {
+                let message = vec![pushed as u8; pushed as usize % 50];
+                queue.push(&message, pushed as usize % 2);
+                pushed += 1;
+            }
+            let gone = queue.len().min(round % 5);
+            for (k, message) in queue.iter().enumerate() {
+                let number = popped as usize + k;
+                assert_eq!(message, vec![number as u8; number % 50]);
+            }
+            queue.pop(gone);
+            popped += gone as u32;
+            let waiting: usize = (popped..pushed).map(|n| n as usize % 50 + ENTRY).sum();
+            assert_eq!(
+                (queue.cost(), queue.share(0) + queue.share(1)),
+                (waiting, waiting)
+            );
+            assert!(queue.bytes.len() <= 2 * waiting + 64);
+        }
+        assert_eq!(queue.clear(), (pushed - popped) as usize);
+        assert_eq!(
+            (queue.cost(), queue.share(1), queue.is_empty()),
+            (0, 0, true)
+        );
+    }
+}
