@@ -342,7 +342,8 @@ def compared(lab, whole=True, dumps=()):
         need(next(lines).startswith("plan ") and next(answers) == "0\n", "replay loads the plan")
         for line in lines:
             if line.startswith("#"):
-                _, name, what = line.split()
+                _, socket, what = line.split()
+                name = socket.removeprefix("asp-")
                 counts["associations"] += what == "begins"
                 tapes[name].begin() if what == "begins" else tapes[name].end()
                 continue

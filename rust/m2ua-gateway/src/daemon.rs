@@ -12,6 +12,7 @@ use crate::sctp;
 use crate::transport::{Association, Batch, Received};
 use m2ua::{Event, Refusal};
 use m2ua_plan::Plan;
+use m2ua_trace::capture::End;
 use std::io::Result;
 use std::os::fd::OwnedFd;
 use std::time::{Duration, Instant, SystemTime};
@@ -163,7 +164,12 @@ impl Daemon {
             return self.happens(&Event::Message { asp: p, message });
         }
         match links::event_of(message, &self.engine.state) {
-            Some(event) => self.happens(&event),
+            Some(event) => {
+                if !matches!(event, Event::LinkMessage { .. }) {
+                    self.outside.captured(End::LinkSide, false, message);
+                }
+                self.happens(&event)
+            }
             None => self.link_fault(m2ua::sys::ERROR_INVALID_INTERFACE_ID, message),
         }
     }
@@ -314,7 +320,7 @@ impl Daemon {
             {
                 Some(p) => self.begin(p, Association::Sctp(association), &format!(", {peer}")),
                 None => {
-                    self.outside.log.line(Level::Changes, format_args!("sctp: an association of {peer}, where no ASP of the plan is from, is refused"));
+                    self.outside.complain(self.outside.stranger(), format_args!("sctp: an association of {peer}, where no ASP of the plan is from, is refused"));
                     association.close(true);
                 }
             }
@@ -343,6 +349,7 @@ impl Daemon {
 
     /// What peers are watched for from here on, and what is written down.
     fn end_turn(&mut self) -> Result<()> {
+        self.outside.sum_up(self.outside.stranger());
         for p in 0..self.outside.peers.len() {
             let full = self.outside.is_full(p);
             self.outside.sum_up(p);

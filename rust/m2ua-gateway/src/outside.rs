@@ -31,7 +31,7 @@ pub struct Outside {
     pub capture: Option<Capture>,
     pub next: VecDeque<Next>,
     pub now: Instant,
-    /// Until when complaints about a peer are counted, and how many there were.
+    /// Until when complaints about a peer are counted, and how many there were; the last is for strangers.
     complaints: Vec<(Instant, u64)>,
 }
 
@@ -43,7 +43,7 @@ pub const FULL: usize = 32768;
 impl Outside {
     pub fn new(peers: Vec<Peer>, ases: Vec<String>, links: Links, log: Log<Stderr>) -> Outside {
         let now = Instant::now();
-        let complaints = vec![(now, 0); peers.len()];
+        let complaints = vec![(now, 0); peers.len() + 1];
         Outside {
             peers,
             ases,
@@ -55,6 +55,11 @@ impl Outside {
             now,
             complaints,
         }
+    }
+
+    /// The place behind the peers, for complaints about somebody who is none.
+    pub fn stranger(&self) -> usize {
+        self.peers.len()
     }
 
     /// The place of the link side among the peers.
@@ -234,11 +239,11 @@ impl Outside {
 
     /// An association begins.
     pub fn begin(&mut self, p: usize, association: Association) {
-        let name = &self.peers[p].name;
+        let socket = &self.peers[p].socket;
         let written = self
             .journal
             .as_mut()
-            .map(|j| j.note(format_args!("{name} begins")));
+            .map(|j| j.note(format_args!("{socket} begins")));
         self.journalled(written);
         self.peers[p].begin(association, self.now);
     }
@@ -270,10 +275,11 @@ impl Outside {
         };
         self.log
             .line(Level::Changes, format_args!("{name}: {why}{waited}"));
+        let socket = &self.peers[p].socket;
         let written = self
             .journal
             .as_mut()
-            .map(|j| j.note(format_args!("{name} ends")));
+            .map(|j| j.note(format_args!("{socket} ends")));
         self.journalled(written);
         let end = self.end_of(p);
         if let Some(capture) = &mut self.capture {
@@ -305,7 +311,8 @@ impl Outside {
     pub fn sum_up(&mut self, p: usize) {
         let (until, count) = self.complaints[p];
         if self.now >= until && count > COMPLAINTS {
-            let (name, more) = (self.peers[p].name.clone(), count - COMPLAINTS);
+            let name = self.peers.get(p).map_or("sctp".into(), |p| p.name.clone());
+            let more = count - COMPLAINTS;
             self.log.line(
                 Level::Changes,
                 format_args!("{name}: {more} more such lines"),

@@ -29,7 +29,7 @@ pub struct Peer {
     /// The file name of its Unix socket.
     pub socket: String,
     pub association: Option<Association>,
-    /// Since when the association has been there, or when it last took a message while others waited.
+    /// When the transport last took a message, or when the first came that waits since.
     pub progress: Instant,
     /// Nothing is read of it until less waits.
     pub paused: bool,
@@ -58,7 +58,7 @@ impl Peer {
             counts: Counts::default(),
             looks: 0,
             many: false,
-            queue: Queue::new(origins),
+            queue: Queue::new(limit, origins),
             limit,
             blocked: false,
         }
@@ -103,6 +103,9 @@ impl Peer {
         let fate = if self.association.is_none() {
             Fate::Absent
         } else if self.has_room(message) || (self.flush(now) && self.has_room(message)) {
+            if self.queue.is_empty() {
+                self.progress = now;
+            }
             self.queue.push(message, origin);
             return Fate::Taken;
         } else {
@@ -136,7 +139,7 @@ impl Peer {
                 Sent::Later => self.blocked = true,
                 Sent::Done => {}
             }
-            if count > 0 || self.blocked {
+            if count > 0 {
                 self.progress = now;
             }
         }

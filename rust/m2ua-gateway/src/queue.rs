@@ -14,6 +14,8 @@ pub struct Queue {
     /// The bytes of the messages from `start` on; those before it are sent.
     bytes: Vec<u8>,
     start: usize,
+    /// The most that is ever to wait.
+    limit: usize,
     entries: VecDeque<Entry>,
     /// What waits, by origin, and in all.
     shares: Vec<usize>,
@@ -21,10 +23,11 @@ pub struct Queue {
 }
 
 impl Queue {
-    pub fn new(origins: usize) -> Queue {
+    pub fn new(limit: usize, origins: usize) -> Queue {
         Queue {
             bytes: Vec::new(),
             start: 0,
+            limit,
             entries: VecDeque::new(),
             shares: vec![0; origins],
             cost: 0,
@@ -50,6 +53,12 @@ impl Queue {
     }
 
     pub fn push(&mut self, message: &[u8], origin: usize) {
+        let end = self.bytes.len() + message.len();
+        if end > self.bytes.capacity() {
+            // twice as much, but no more than ever is needed: what is sent takes no more than what waits
+            let room = (2 * end).min(2 * self.limit).max(end);
+            self.bytes.reserve_exact(room - self.bytes.len());
+        }
         self.bytes.extend(message);
         self.entries.push_back(Entry {
             length: message.len(),
@@ -94,7 +103,7 @@ impl Queue {
     /// Takes all away: how many there were. The room is given back.
     pub fn clear(&mut self) -> usize {
         let count = self.len();
-        *self = Queue::new(self.shares.len());
+        *self = Queue::new(self.limit, self.shares.len());
         count
     }
 }
@@ -105,7 +114,7 @@ mod tests {
 
     #[test]
     fn a_queue_keeps_sequence_and_shares() {
-        let mut queue = Queue::new(2);
+        let mut queue = Queue::new(1 << 16, 2);
         let (mut pushed, mut popped) = (0u32, 0u32);
         for round in 0..1000usize {
             for _ in 0..round % 7 {
@@ -125,7 +134,7 @@ mod tests {
                 (queue.cost(), queue.share(0) + queue.share(1)),
                 (waiting, waiting)
             );
-            assert!(queue.bytes.len() <= 2 * waiting + 64);
+            assert!(queue.bytes.len() <= 2 * waiting + 64 && queue.bytes.capacity() <= 2 << 16);
         }
         assert_eq!(queue.clear(), (pushed - popped) as usize);
         assert_eq!(
