@@ -25,7 +25,7 @@
 
 /* Raised by each change of a struct, a limit or an entry that hosts must be compiled anew for; the number of the shared library's name (CHANGELOG.md). */
 #define M2UA_ABI 4
-#define M2UA_VERSION "0.4.0"
+#define M2UA_VERSION "0.5.0"
 
 #ifdef __cplusplus
 #define M2UA_STATIC_ASSERT(holds, what) static_assert(holds, what)

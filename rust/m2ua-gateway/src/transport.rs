@@ -1,6 +1,7 @@
 //! The two transports behind one interface: Unix sockets of type SOCK_SEQPACKET, and SCTP. Both keep the boundaries of messages and tell the end of an association.
 use crate::os::{self, Packets};
 use crate::sctp;
+use m2ua_trace::capture::stream;
 use std::io::{ErrorKind, Result};
 use std::os::fd::{AsRawFd, OwnedFd, RawFd};
 
@@ -194,10 +195,4 @@ fn sent(result: Result<()>) -> Sent {
         Err(e) if e.raw_os_error() == Some(105) => Sent::Later,
         Err(_) => Sent::Ended,
     }
-}
-
-/// The stream of a message (RFC 3331, 1.5.4.1 and 4.3.3): traffic, and what makes an ASP active or inactive for it, so that an Ack stays before the units behind it; or management.
-pub fn stream(message: &[u8]) -> u16 {
-    let traffic = [m2ua::sys::CLASS_ASPTM, m2ua::sys::CLASS_MAUP];
-    u16::from(message.get(2).is_some_and(|class| traffic.contains(class)))
 }

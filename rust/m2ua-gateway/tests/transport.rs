@@ -1,7 +1,8 @@
 //! Unix sockets as associations, and a peer's queue over one.
 use m2ua_gateway::os;
 use m2ua_gateway::peer::{Fate, Peer};
-use m2ua_gateway::transport::{stream, Association, Batch, Received, BURST, READ};
+use m2ua_gateway::transport::{Association, Batch, Received, BURST, READ};
+use m2ua_trace::capture::stream;
 use std::os::fd::OwnedFd;
 use std::path::PathBuf;
 use std::time::Instant;

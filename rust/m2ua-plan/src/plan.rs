@@ -25,9 +25,15 @@ impl Origin {
     /// ADDRESS or ADDRESS:PORT, an IPv6 address with a port in brackets.
     pub fn parse(word: &str) -> Option<Origin> {
         match word.parse::<SocketAddr>() {
-            Ok(at) if at.port() != 0 => Some(Origin { ip: at.ip(), port: Some(at.port()) }),
+            Ok(at) if at.port() != 0 => Some(Origin {
+                ip: at.ip(),
+                port: Some(at.port()),
+            }),
             Ok(_) => None,
-            Err(_) => Some(Origin { ip: word.parse().ok()?, port: None }),
+            Err(_) => Some(Origin {
+                ip: word.parse().ok()?,
+                port: None,
+            }),
         }
     }
 
@@ -38,7 +44,8 @@ impl Origin {
 
     /// Whether a peer could be both.
     pub fn meets(&self, other: &Origin) -> bool {
-        self.ip == other.ip && (self.port == other.port || self.port.is_none() || other.port.is_none())
+        self.ip == other.ip
+            && (self.port == other.port || self.port.is_none() || other.port.is_none())
     }
 }
 

@@ -309,6 +309,38 @@ fn problems(text: &str) -> Vec<String> {
 }
 
 #[test]
+fn where_an_asp_comes_from() {
+    let text = "asp a id 1 from 192.0.2.1\nasp b id 2 whole-lists from 192.0.2.2:2905\nasp c from [2001:db8::1]:7 id 3\nasp d id 4\nas x mode override members a\n";
+    let plan = parse(text).unwrap();
+    let shown: Vec<String> = plan
+        .asps
+        .iter()
+        .map(|a| a.from.map_or(String::new(), |f| f.to_string()))
+        .collect();
+    assert_eq!(
+        shown,
+        ["192.0.2.1", "192.0.2.2:2905", "[2001:db8::1]:7", ""]
+    );
+    let is = |p: usize, peer: &str| plan.asps[p].from.unwrap().is(peer.parse().unwrap());
+    assert!(is(0, "192.0.2.1:9") && is(1, "192.0.2.2:2905") && is(2, "[2001:db8::1]:7"));
+    assert!(!is(0, "192.0.2.2:9") && !is(1, "192.0.2.2:2906") && !is(2, "[2001:db8::2]:7"));
+    // canonical text has it, and a file has no place for it
+    assert_eq!(parse(&plan.to_string()).unwrap(), plan);
+    let bare: String = text
+        .lines()
+        .map(|line| {
+            line.split(" from ").next().unwrap().to_string()
+                + if line.contains("asp c") {
+                    " id 3\n"
+                } else {
+                    "\n"
+                }
+        })
+        .collect();
+    assert_eq!(m2ua_plan::compile(text), m2ua_plan::compile(&bare));
+}
+
+#[test]
 fn a_refused_text_names_line_row_and_reason() {
     let good = "asp a id 7\nas x mode override members a\n";
     let with = |line: &str| problems(&format!("{good}{line}\n"));
@@ -346,6 +378,22 @@ fn a_refused_text_names_line_row_and_reason() {
     assert_eq!(
         with("asp b id +1"),
         ["line 3: asp b: id '+1' is no number up to 4294967295"]
+    );
+    assert_eq!(
+        with("asp b id 1 from"),
+        ["line 3: asp b: 'from' takes one word: an address, or ADDRESS:PORT"]
+    );
+    assert_eq!(
+        with("asp b id 1 from here"),
+        ["line 3: asp b: from 'here' is no address, and no ADDRESS:PORT"]
+    );
+    assert_eq!(
+        with("asp b id 1 from 192.0.2.1:0"),
+        ["line 3: asp b: from '192.0.2.1:0' is no address, and no ADDRESS:PORT"]
+    );
+    assert_eq!(
+        with("asp b id 1 from 192.0.2.1\nasp c id 2 from 192.0.2.1:5"),
+        ["line 4: asp c: it could not be told from asp b (line 3) by where it comes from"]
     );
     assert_eq!(
         with("asp 1b id 1"),

@@ -1,5 +1,5 @@
 //! What went over the associations as a capture file: IPv4 and SCTP, port 2904, payload protocol identifier 2. The gateway is 10.0.0.1, ASP p is 10.0.1.(p + 1); an event takes a second.
-use crate::trace::{is_traffic, Lane, Trace, What};
+use crate::trace::{Lane, Trace, What};
 use m2ua::sys;
 
 /// The first bytes of a capture file: its format, and that each packet begins with its IP header.
@@ -44,7 +44,13 @@ impl Associations {
     }
 
     /// A message as a packet of a capture file, with its time in seconds and microseconds.
-    pub fn message(&mut self, end: End, from_gateway: bool, bytes: &[u8], time: (u32, u32)) -> Vec<u8> {
+    pub fn message(
+        &mut self,
+        end: End,
+        from_gateway: bool,
+        bytes: &[u8],
+        time: (u32, u32),
+    ) -> Vec<u8> {
         let tsn = &mut self.0[end.number()][usize::from(from_gateway)];
         *tsn = tsn.wrapping_add(1);
         recorded(sctp(end, from_gateway, &data_chunk(bytes, *tsn)), time)
@@ -99,8 +105,15 @@ pub fn pcap(trace: &Trace) -> Vec<u8> {
     out
 }
 
+/// The stream of a message (RFC 3331, 1.5.4.1 and 4.3.3): 1 for traffic, and for what makes an ASP active or inactive for it, so that an Ack stays before the units behind it; 0
+/// for management.
+pub fn stream(message: &[u8]) -> u16 {
+    let traffic = [sys::CLASS_ASPTM, sys::CLASS_MAUP];
+    u16::from(message.get(2).is_some_and(|class| traffic.contains(class)))
+}
+
 fn data_chunk(message: &[u8], tsn: u32) -> Vec<u8> {
-    let stream = u16::from(is_traffic(message));
+    let stream = stream(message);
     // begin and end of one message
     let mut chunk = vec![0, 3];
     chunk.extend((16 + message.len() as u16).to_be_bytes());

@@ -69,7 +69,10 @@ impl fmt::Display for Hex<'_> {
         for bytes in self.0.chunks(64) {
             let mut text = [0; 128];
             for (pair, byte) in text.chunks_mut(2).zip(bytes) {
-                pair.copy_from_slice(&[DIGITS[usize::from(byte >> 4)], DIGITS[usize::from(byte & 15)]]);
+                pair.copy_from_slice(&[
+                    DIGITS[usize::from(byte >> 4)],
+                    DIGITS[usize::from(byte & 15)],
+                ]);
             }
             f.write_str(std::str::from_utf8(&text[..2 * bytes.len()]).unwrap_or_default())?;
         }

@@ -249,8 +249,3 @@ pub fn lanes(what: &What) -> Vec<Lane> {
         What::Note => vec![Lane::Gateway],
     }
 }
-
-/// Whether a message is of class 6, from its bytes.
-pub fn is_traffic(message: &[u8]) -> bool {
-    m2ua::read(message).is_ok_and(|r| r.message.class() == MessageType::Data.class())
-}
