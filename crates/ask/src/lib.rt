@@ -31,9 +31,9 @@ pub enum Ask {
     Up(usize, Reading),
     Down(usize),
     // Active, or Inactive
-    Traffic(bool, usize, Reading),
+    Traffic(usize, Reading, bool),
     // any other message of an ASP; whether it is an Error
-    Other(usize, bool, Reading),
+    Other(usize, Reading, bool),
     Lost(usize),
     Recovery(usize),
     LinkUp(usize),
@@ -91,7 +91,7 @@ fn find<'a>(
     match ask {
         Ask::Up(p, _) => named(p, asps),
         Ask::Down(p) => named(p, asps),
-        Ask::Traffic(_, p, _) => named(p, asps),
+        Ask::Traffic(p, _, _) => named(p, asps),
         Ask::Other(p, _, _) => named(p, asps),
         Ask::Lost(p) => named(p, asps),
         Ask::Recovery(a) => named(a, ases),
@@ -156,9 +156,9 @@ fn ask_of(p: usize, t: u32, error: bool, read: Reading) -> Ask
         return Ask::Down(p);
     }
     if (t == action::ASP_ACTIVE) | (t == action::ASP_INACTIVE) {
-        return Ask::Traffic(t == action::ASP_ACTIVE, p, read);
+        return Ask::Traffic(p, read, t == action::ASP_ACTIVE);
     }
-    Ask::Other(p, error, read)
+    Ask::Other(p, read, error)
 }
 
 // An event that has a message: of ASP p, or of the link side. Read in this one place, the reader is compiled into it.

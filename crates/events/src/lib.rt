@@ -48,7 +48,7 @@ fn decided<'a>(
     match ask {
         Ask::Up(p, r) => asps::up_work(aspid, member, active, p, r),
         Ask::Down(p) => asps::down_work(member, p),
-        Ask::Traffic(on, p, r) => {
+        Ask::Traffic(p, r, on) => {
             traffic::traffic_work(
                 on,
                 msg,
@@ -63,7 +63,7 @@ fn decided<'a>(
                 r,
             )
         }
-        Ask::Other(p, error, r) => {
+        Ask::Other(p, r, error) => {
             decide::other_work(
                 links,
                 up,

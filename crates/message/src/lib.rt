@@ -22,7 +22,7 @@ ghost use Rattle.parameter.specs.Table.{table, rowIn};
 ghost use Rattle.parameter.specs.Inner.Slot.{slot, infoOf};
 ghost use Rattle.message.specs.Verdict.{exactly, head, lastChecks};
 ghost use Rattle.message.specs.Meaning.{flag, refusal, meaning, outcome, readingOf, dataTag, dataAt, dataOf};
-ghost use Rattle.message.specs.Inner.Seen.{sequenceAt, endAt, meaningAt, outcomeAt, unitAt, rowCode, rowOutcome, kindOutcome, checksOutcome};
+ghost use Rattle.message.specs.Inner.Seen.{sequenceAt, endAt, meaningAt, outcomeAt, unitAt, rowCode, rowOutcome, kindOutcome, checksOutcome, needsNone, isBare};
 
 // The slots of the tags that are asked for.
 const ID: usize = 1;
@@ -285,30 +285,6 @@ fn read_pars(s: &[u8], info: RowInfo) -> Reading
     }
 }
 
-// A message without parameters, of a row whose mandatory slots are packed. Answered without a walk: Up, Down, Active and Beat often have none.
-fn bare(musts: u32, c: u8, t: u8) -> Reading
-    ensures { λ r. ⌜ r ≡ cond (eqb musts 0) (meaning c t []) (refusal 22) ⌝ }
-{
-    if musts != 0 {
-        return refused(MISSING_PARAMETER);
-    }
-    let mut r = refused(0);
-    r.class = c as u32;
-    r.msgtype = t as u32;
-    r
-}
-
-// The checks 6 to 8, of a message whose row is known.
-fn read_body(s: &[u8], info: RowInfo) -> Reading
-    requires { ⌜ (8 ≤ length (now s)) × ((rowIn table (getD (now s) 2 0) (getD (now s) 3 0) < 17) × (info ≡ infoOf (rowIn table (getD (now s) 2 0) (getD (now s) 3 0)))) ⌝ }
-    ensures { λ r. ⌜ r ≡ outcome (lastChecks (now (s .entry))) (now (s .entry)) ⌝ }
-{
-    if s.len() == HEADER {
-        return bare(info.musts, s[2], s[3]);
-    }
-    read_pars(s, info)
-}
-
 // The checks 3 to 5, of whether the class is listed, the row, the length field and the number of bytes.
 fn row_code(listed: bool, row: usize, n: u32, len: usize) -> u32
     ensures { λ r. ⌜ r ≡ rowCode listed row n len ⌝ }
@@ -336,7 +312,7 @@ fn read_row(code: u32, row: usize, s: &[u8]) -> Reading
     if code != 0 {
         return refused(code);
     }
-    read_body(s, parameter::row_info(row))
+    read_pars(s, parameter::row_info(row))
 }
 
 // The checks 3 to 8.
@@ -367,10 +343,41 @@ fn read_checks(s: &[u8]) -> Reading
     read_kind(s)
 }
 
-// Reads a message: its verdict, and of an accepted one what it means.
+// The types of which a message may have no parameter: all of the classes 3 and 4.
+fn needs_none(c: u8, t: u8) -> bool
+    ensures { λ r. ⌜ r ≡ needsNone c t ⌝ }
+{
+    ((c == 3) & ((1 <= t) & (t <= 6))) | ((c == 4) & ((1 <= t) & (t <= 4)))
+}
+
+// A message of its header alone that is accepted.
+fn is_bare(s: &[u8]) -> bool
+    ensures { λ r. ⌜ r ≡ isBare (now (s .entry)) ⌝ }
+{
+    if s.len() == HEADER {
+        return ((s[0] == 1) & (wire::get32(s, 4) == 8)) & needs_none(s[2], s[3]);
+    }
+    false
+}
+
+// What it means.
+fn bare(c: u8, t: u8) -> Reading
+    ensures { λ r. ⌜ r ≡ meaning c t [] ⌝ }
+{
+    let mut r = refused(0);
+    r.class = c as u32;
+    r.msgtype = t as u32;
+    r
+}
+
+// Reads a message: its verdict, and of an accepted one what it means. Up, Down, Active and Beat often have no parameter; asked for ahead of all checks, these
+// need few registers and no table.
 pub fn read(s: &[u8]) -> Reading
     ensures { λ r. ⌜ r ≡ readingOf (now (s .entry)) ⌝ }
 {
+    if is_bare(s) {
+        return bare(s[2], s[3]);
+    }
     read_checks(s)
 }
 

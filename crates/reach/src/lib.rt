@@ -150,8 +150,8 @@ fn row_of<'a>(
     match ask {
         Ask::Up(p, _) => servers::column_of(member, p),
         Ask::Down(p) => servers::column_of(member, p),
-        Ask::Traffic(_, p, r) => named_row(msg, links, member, iid, owner, p, r.ids),
-        Ask::Other(_, error, r) => other_row(error, links, iid, owner, r),
+        Ask::Traffic(p, r, _) => named_row(msg, links, member, iid, owner, p, r.ids),
+        Ask::Other(_, r, error) => other_row(error, links, iid, owner, r),
         Ask::Lost(p) => servers::column_of(member, p),
         Ask::Recovery(a) => asps::only(a),
         Ask::LinkUp(l) => owner_at(owner, l),

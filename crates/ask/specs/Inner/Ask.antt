@@ -35,8 +35,8 @@ use Rattle.ask.specs.declared.Ask.the-variants.{Up, Down, Traffic, Other
 abbrev pub askEffect : Gateway → List ℕ → Ask → Effect
 askEffect g s (Up p r) = upEffect g p r
 askEffect g s (Down p) = downEffect g p
-askEffect g s (Traffic on p r) = trafficEffect g p r (walk s 8 .pars) (act g p on (r .mode))
-askEffect g s (Other p wrong r) = otherEffect g p wrong r
+askEffect g s (Traffic p r on) = trafficEffect g p r (walk s 8 .pars) (act g p on (r .mode))
+askEffect g s (Other p r wrong) = otherEffect g p wrong r
 askEffect g s (Lost p) = lostEffect g p
 askEffect g s (Recovery a) = changeIn [] Recover (tabulate 16 (λ c. eqb c a))
 askEffect g s (LinkUp l) = linkUpEffect g l
@@ -47,8 +47,8 @@ askEffect g s (LinkMessage r) = linkMessageEffect g s r
 abbrev pub askReach : Gateway → List ℕ → Ask → ℕ → Bool
 askReach g s (Up p r) a = isMember g a p
 askReach g s (Down p) a = isMember g a p
-askReach g s (Traffic on p r) a = namedReach g p s (r .ids) a
-askReach g s (Other p wrong r) a = otherReach g wrong r a
+askReach g s (Traffic p r on) a = namedReach g p s (r .ids) a
+askReach g s (Other p r wrong) a = otherReach g wrong r a
 askReach g s (Lost p) a = isMember g a p
 askReach g s (Recovery c) a = eqb c a
 askReach g s (LinkUp l) a = eqb (ownerAt g l) a
@@ -59,8 +59,8 @@ askReach g s (LinkMessage r) a = ownsId g (r .id) a
 abbrev pub askKnown : ℕ → ℕ → ℕ → List ℕ → List ℕ → Ask → Bool
 askKnown asps ases links iid highspeed (Up p r) = ltb p asps
 askKnown asps ases links iid highspeed (Down p) = ltb p asps
-askKnown asps ases links iid highspeed (Traffic on p r) = ltb p asps
-askKnown asps ases links iid highspeed (Other p wrong r) = ltb p asps
+askKnown asps ases links iid highspeed (Traffic p r on) = ltb p asps
+askKnown asps ases links iid highspeed (Other p r wrong) = ltb p asps
 askKnown asps ases links iid highspeed (Lost p) = ltb p asps
 askKnown asps ases links iid highspeed (Recovery a) = ltb a ases
 askKnown asps ases links iid highspeed (LinkUp l) = ltb l links
@@ -71,8 +71,8 @@ askKnown asps ases links iid highspeed (LinkMessage r) = passes iid highspeed li
 abbrev pub AskSmall : List ℕ → Ask → Type 0
 AskSmall s (Up p r) = _≡_ {A = ℕ} 0 0
 AskSmall s (Down p) = _≡_ {A = ℕ} 0 0
-AskSmall s (Traffic on p r) = _≡_ {A = ℕ} 0 0
-AskSmall s (Other p wrong r) = (r .class < 256) × (r .msgtype < 256)
+AskSmall s (Traffic p r on) = _≡_ {A = ℕ} 0 0
+AskSmall s (Other p r wrong) = (r .class < 256) × (r .msgtype < 256)
 AskSmall s (Lost p) = _≡_ {A = ℕ} 0 0
 AskSmall s (Recovery a) = _≡_ {A = ℕ} 0 0
 AskSmall s (LinkUp l) = _≡_ {A = ℕ} 0 0
@@ -84,15 +84,15 @@ unfoldable pub askOf : ℕ → ℕ → Bool → Reading → Ask
 askOf p t wrong r =
     cond (eqb t aspUp) (Up p r)
     (cond (eqb t aspDown) (Down p)
-    (cond (eqb t aspActive || eqb t aspInactive) (Traffic (eqb t aspActive) p r)
-    (Other p wrong r)))
+    (cond (eqb t aspActive || eqb t aspInactive) (Traffic p r (eqb t aspActive))
+    (Other p r wrong)))
 
 -- what it names is within the tables, class and type are bytes, and protocol data fits its place
 abbrev pub AskFits : ℕ → List ℕ → List ℕ → Ask → Type 0
 AskFits links iid s (Up p r) = p < 16
 AskFits links iid s (Down p) = p < 16
-AskFits links iid s (Traffic on p r) = p < 16
-AskFits links iid s (Other p wrong r) = (p < 16) × (r .class < 256) × (r .msgtype < 256)
+AskFits links iid s (Traffic p r on) = p < 16
+AskFits links iid s (Other p r wrong) = (p < 16) × (r .class < 256) × (r .msgtype < 256)
 AskFits links iid s (Lost p) = p < 16
 AskFits links iid s (Recovery a) = _≡_ {A = ℕ} 0 0
 AskFits links iid s (LinkUp l) = l < links
@@ -103,8 +103,8 @@ AskFits links iid s (LinkMessage r) = Side iid links r × (r .msgtype ≡ 1 → 
 abbrev pub AskAt : ℕ → List ℕ → Ask → ℕ → Type 0
 AskAt links iid (Up p r) l = _≡_ {A = ℕ} 0 0
 AskAt links iid (Down p) l = _≡_ {A = ℕ} 0 0
-AskAt links iid (Traffic on p r) l = _≡_ {A = ℕ} 0 0
-AskAt links iid (Other p wrong r) l = _≡_ {A = ℕ} 0 0
+AskAt links iid (Traffic p r on) l = _≡_ {A = ℕ} 0 0
+AskAt links iid (Other p r wrong) l = _≡_ {A = ℕ} 0 0
 AskAt links iid (Lost p) l = _≡_ {A = ℕ} 0 0
 AskAt links iid (Recovery a) l = _≡_ {A = ℕ} 0 0
 AskAt links iid (LinkUp k) l = _≡_ {A = ℕ} 0 0
@@ -128,8 +128,8 @@ pub ask-fits : (asps ases links : ℕ) (iid highspeed s : List ℕ) (ask : Ask) 
     → AskSmall s ask → AskFits links iid s ask
 ask-fits n m k iid highspeed s (Up p r) c h q = omega (arith, ltb-true p n h, c .asps)
 ask-fits n m k iid highspeed s (Down p) c h q = omega (arith, ltb-true p n h, c .asps)
-ask-fits n m k iid highspeed s (Traffic on p r) c h q = omega (arith, ltb-true p n h, c .asps)
-ask-fits n m k iid highspeed s (Other p wrong r) c h q = (omega (arith, ltb-true p n h, c .asps), q .0, q .1)
+ask-fits n m k iid highspeed s (Traffic p r on) c h q = omega (arith, ltb-true p n h, c .asps)
+ask-fits n m k iid highspeed s (Other p r wrong) c h q = (omega (arith, ltb-true p n h, c .asps), q .0, q .1)
 ask-fits n m k iid highspeed s (Lost p) c h q = omega (arith, ltb-true p n h, c .asps)
 ask-fits n m k iid highspeed s (Recovery a) c h q = refl
 ask-fits n m k iid highspeed s (LinkUp l) c h q = ltb-true l k h
@@ -148,7 +148,7 @@ asks-message p s c k =
     go t refl (eqb t aspUp) (eqb t aspDown) (eqb t aspActive) (eqb t aspInactive) refl refl refl refl
   where
     go : (t : ℕ) → typeIn (isError s) (readingOf s) ≡ t → (u v x y : Bool) → eqb t aspUp ≡ u → eqb t aspDown ≡ v → eqb t aspActive ≡ x → eqb t aspInactive ≡ y
-        → AsksKind (message p s) s (cond u (Up p (readingOf s)) (cond v (Down p) (cond (x || y) (Traffic x p (readingOf s)) (Other p (isError s) (readingOf s)))))
+        → AsksKind (message p s) s (cond u (Up p (readingOf s)) (cond v (Down p) (cond (x || y) (Traffic p (readingOf s) x) (Other p (readingOf s) (isError s)))))
     go t e true v x y a b c₁ d = record { effect = λ g. sym (message-up g p s (e ∙ eqb-true t aspUp a)); reach = λ g b. sym (reach-up g p s b (e ∙ eqb-true t aspUp a)); known = λ g. refl; small = refl }
     go t e false true x y a b c₁ d = record { effect = λ g. sym (message-down g p s (e ∙ eqb-true t aspDown b)); reach = λ g a. sym (reach-down g p s a (e ∙ eqb-true t aspDown b)); known = λ g. refl; small = refl }
     go t e false false true y a b c₁ d = record { effect = λ g. sym (message-active g p s (e ∙ eqb-true t aspActive c₁)); reach = λ g a. sym (reach-active g p s a (e ∙ eqb-true t aspActive c₁)); known = λ g. refl; small = refl }

@@ -9,11 +9,11 @@ use borrow.Author.Needs.{needs}
 use Rattle.message.proofs.read_row.Statement.{statement}
 use Rattle.message.proofs.read_row.Tie as tie
 
-read-body-requires : tie.Need-read-body-requires
-read-body-requires c κs = let st = c .before .before .before in
+read-pars-requires : tie.Need-read-pars-requires
+read-pars-requires c κs = let st = c .before .before .before in
     let h : rowOf (st .args .s .now) < 17 = let k = st .pre .1 .0 (c .before .if1 .left) in omega (arith, k, st .pre .1 .1) in
     (st .pre .0, (h, c .row-info .ensures ∙ ap infoOf (st .pre .1 .1)))
 
 pub read-row-spec : {M : Type 1} → statement M
 unfolding rowOutcome
-read-row-spec = tie.close (tie.spec (search needs) (λ c. search choices depth 9) (search needs) read-body-requires (λ c. search choices depth 9))
+read-row-spec = tie.close (tie.spec (search needs) (λ c. search choices depth 9) (search needs) read-pars-requires (λ c. search choices depth 9))

@@ -6,7 +6,7 @@ use Prim.Native.Nat.{ℕ, _+_, _%_, _<_}
 use mathlib.Core.Bool.{Bool, true, false, cond, not, _&&_, _||_}
 use mathlib.Core.List.{List, [], _∷_}
 use lib.ListN.{length, getD}
-use lib.Dec.{ltb, eqb}
+use lib.Dec.{ltb, leb, eqb}
 use Rattle.laws.specs.Choice.{_orElse_, _if_}
 use Rattle.wire.specs.Number.{be}
 use Rattle.wire.specs.Walk.{Par, padded}
@@ -97,3 +97,11 @@ checksOutcome s =
     cond (ltb (length s) 8) (refusal 7)
     (cond (ltb most (length s)) (refusal 7)
     (cond (eqb (getD s 0 0) 1) (kindOutcome s) (refusal 1)))
+
+-- a message of the class and type may have no parameter
+unfoldable pub needsNone : ℕ → ℕ → Bool
+needsNone c t = (eqb c 3 && (leb 1 t && leb t 6)) || (eqb c 4 && (leb 1 t && leb t 4))
+
+-- a message of its header alone that is accepted
+unfoldable pub isBare : List ℕ → Bool
+isBare s = cond (eqb (length s) 8) ((eqb (getD s 0 0) 1 && eqb (be 4 s 4) 8) && needsNone (getD s 2 0) (getD s 3 0)) false

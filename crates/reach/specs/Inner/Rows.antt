@@ -47,8 +47,8 @@ otherRow links iid owner wrong r =
 abbrev pub askRow : ℕ → List ℕ → List ℕ → List ℕ → List ℕ → Ask → List Bool
 askRow links member iid owner s (Up p r) = columnOf member p
 askRow links member iid owner s (Down p) = columnOf member p
-askRow links member iid owner s (Traffic on p r) = namedRow links member iid owner p s (r .ids)
-askRow links member iid owner s (Other p wrong r) = otherRow links iid owner wrong r
+askRow links member iid owner s (Traffic p r on) = namedRow links member iid owner p s (r .ids)
+askRow links member iid owner s (Other p r wrong) = otherRow links iid owner wrong r
 askRow links member iid owner s (Lost p) = columnOf member p
 askRow links member iid owner s (Recovery a) = tabulate 16 (λ c. eqb c a)
 askRow links member iid owner s (LinkUp l) = tabulate 16 (eqb (numberAt owner l))
@@ -116,8 +116,8 @@ module _ (g : Gateway) where
   unfolding columnOf
   ask-row s (Up p r) = refl
   ask-row s (Down p) = refl
-  ask-row s (Traffic on p r) = named-row p s (r .ids)
-  ask-row s (Other p wrong r) = other-row wrong r
+  ask-row s (Traffic p r on) = named-row p s (r .ids)
+  ask-row s (Other p r wrong) = other-row wrong r
   ask-row s (Lost p) = refl
   ask-row s (Recovery a) = only-row a
   ask-row s (LinkUp l) = refl
