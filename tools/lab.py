@@ -196,7 +196,8 @@ class Controller:
     def segments(self):
         """Of each association what was sent and what was received, as lists of hex. Of a message that is too long the gateway sees the first 2,049 bytes."""
         made = []
-        for line in self.record.read_text().splitlines():
+        # the last line of a process that was killed may be cut off
+        for line in self.record.read_text().split("\n")[:-1]:
             if line.startswith("#"):
                 made.append(([], []))
             else:
