@@ -4,11 +4,14 @@ What is compared: the daemon's journal has each event in its sequence. `replay`,
 association it is known what has to come out of it; the controllers' records say what did."""
 import os
 import pathlib
+import random
 import re
 import select
 import signal
+import socket
 import subprocess
 import tempfile
+import threading
 import time
 
 ROOT = pathlib.Path(__file__).resolve().parent.parent
@@ -46,17 +49,17 @@ def has_sctp():
 class Lab:
     """A daemon over a plan, in a folder of its own."""
 
-    def __init__(self, plan, *options, sctp=False):
+    def __init__(self, plan, *options, sctp=False, address="127.0.0.1"):
         self.folder = tempfile.TemporaryDirectory(prefix="m2ua-")
         self.dir = pathlib.Path(self.folder.name)
         self.plan = self.dir / "plan.txt"
         self.plan.write_text(plan)
         self.names = re.findall(r"^asp (\S+)", plan, re.M)
-        self.ports = {name: int(port) for name, port in re.findall(r"^asp (\S+) .*from [0-9.]+:(\d+)", plan, re.M)}
-        self.sctp = sctp
+        self.ports = {name: int(port) for name, port in re.findall(r"^asp (\S+) .*from \S+:(\d+)", plan, re.M)}
+        self.sctp, self.address = sctp, address
         self.controllers = []
         self.log = open(self.dir / "log", "wb")
-        extra = ["--sctp", "127.0.0.1", "--udp", str(UDP)] if sctp else []
+        extra = ["--sctp", address, "--udp", str(UDP)] if sctp else []
         words = [BIN / "m2ua-gateway", "--dir", self.dir, "--journal", self.dir / "journal", *extra, *options, self.plan]
         self.daemon = subprocess.Popen([str(w) for w in words], stderr=self.log)
         until(lambda: "ready" in self.text() or self.daemon.poll() is not None, "the daemon is ready")
@@ -106,6 +109,54 @@ class Lab:
         need(left == [], f"sockets left behind: {left}")
 
 
+class Relay(threading.Thread):
+    """A bad network for SCTP inside UDP, on a port of its own: of what goes through it some packets are lost, some come twice, some late."""
+
+    def __init__(self, port, seed, lost=0.02, doubled=0.01, late=0.02):
+        super().__init__(daemon=True)
+        self.dice, self.chances, self.counts = random.Random(seed), {"lost": lost, "doubled": doubled, "late": late}, {"packets": 0, "lost": 0, "doubled": 0, "late": 0}
+        self.front = socket.socket(socket.AF_INET, socket.SOCK_DGRAM)
+        self.front.bind(("127.0.0.1", port))
+        self.backs, self.held, self.over = {}, [], False
+        self.start()
+
+    def run(self):
+        while not self.over:
+            for ready in select.select([self.front, *self.backs.values()], [], [], 0.005)[0]:
+                packet, peer = ready.recvfrom(65536)
+                if ready is self.front:
+                    back = self.backs.setdefault(peer, socket.socket(socket.AF_INET, socket.SOCK_DGRAM))
+                    self.passes(lambda back=back, packet=packet: back.sendto(packet, ("127.0.0.1", UDP)))
+                else:
+                    client = next(at for at, back in self.backs.items() if back is ready)
+                    self.passes(lambda client=client, packet=packet: self.front.sendto(packet, client))
+            while self.held and self.held[0][0] <= time.monotonic():
+                self.held.pop(0)[1]()
+
+    def passes(self, send):
+        self.counts["packets"] += 1
+        fate = self.dice.random()
+        for what, chance in self.chances.items():
+            if fate < chance:
+                self.counts[what] += 1
+                break
+            fate -= chance
+        else:
+            what = "passed"
+        if what == "late":
+            self.held.append((time.monotonic() + 0.02, send))
+        elif what != "lost":
+            send()
+            if what == "doubled":
+                send()
+
+    def end(self):
+        self.over = True
+        self.join()
+        for each in [self.front, *self.backs.values()]:
+            each.close()
+
+
 class Controller:
     """An m2ua-asp that gets its commands one by one."""
 
@@ -116,7 +167,8 @@ class Controller:
         self.lab, self.name, self.waiting, self.killed = lab, name, 0, False
         self.record = lab.dir / f"record-{Controller.count}"
         if sctp:
-            where = ["--sctp", "127.0.0.1", "--from", f"127.0.0.1:{lab.ports[name]}", "--udp", str(20000 + Controller.count % 20000)]
+            own = f"[{lab.address}]" if ":" in lab.address else lab.address
+            where = ["--sctp", lab.address, "--from", f"{own}:{lab.ports[name]}", "--udp", str(20000 + Controller.count % 20000)]
         else:
             where = ["--unix", lab.dir / (name if name == "links" else f"asp-{name}")]
         words = [BIN / "m2ua-asp", "--quiet", "--record", self.record, *where, *options, "-"]

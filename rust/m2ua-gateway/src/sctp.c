@@ -108,12 +108,10 @@ static struct socket *opened(const struct address *at, const struct terms *t) {
     struct socket *s = usrsctp_socket(at->family == 4 ? AF_INET : AF_INET6, SOCK_STREAM, IPPROTO_SCTP, NULL, NULL, 0, NULL);
     struct sctp_event changes = {.se_assoc_id = SCTP_FUTURE_ASSOC, .se_type = SCTP_ASSOC_CHANGE, .se_on = 1};
     struct sctp_udpencaps udp = {.sue_port = htons(t->udp_port)};
-    int only = 1;
     if (s == NULL) return NULL;
     udp.sue_address.ss_family = at->family == 4 ? AF_INET : AF_INET6;
     if (keep(s, t) || usrsctp_setsockopt(s, IPPROTO_SCTP, SCTP_EVENT, &changes, sizeof changes) ||
-        (t->udp_port && usrsctp_setsockopt(s, IPPROTO_SCTP, SCTP_REMOTE_UDP_ENCAPS_PORT, &udp, sizeof udp)) ||
-        (at->family == 6 && usrsctp_setsockopt(s, IPPROTO_IPV6, IPV6_V6ONLY, &only, sizeof only))) {
+        (t->udp_port && usrsctp_setsockopt(s, IPPROTO_SCTP, SCTP_REMOTE_UDP_ENCAPS_PORT, &udp, sizeof udp))) {
         usrsctp_close(s);
         return NULL;
     }

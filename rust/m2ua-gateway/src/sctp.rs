@@ -42,7 +42,8 @@ impl Address {
                 let [a, b, c, d, ..] = self.bytes;
                 IpAddr::V4(Ipv4Addr::new(a, b, c, d))
             }
-            _ => IpAddr::V6(Ipv6Addr::from(self.bytes)),
+            // an IPv4 peer of an IPv6 socket is known by its own address
+            _ => IpAddr::V6(Ipv6Addr::from(self.bytes)).to_canonical(),
         };
         SocketAddr::new(ip, self.port)
     }
