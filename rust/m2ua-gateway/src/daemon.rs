@@ -17,6 +17,9 @@ use std::io::Result;
 use std::os::fd::OwnedFd;
 use std::time::{Duration, Instant, SystemTime};
 
+/// The SCTP stack does not always tell that it has room again: so it is asked.
+const SEND_AGAIN: Duration = Duration::from_millis(1);
+
 /// What is watched, by number: the peers, their listening sockets, and two more.
 const LISTENERS: u64 = 32;
 const SIGNALS: u64 = 64;
@@ -79,21 +82,20 @@ impl Daemon {
 
     /// How long nothing is due: not at all where something has come that no descriptor tells.
     fn patience(&self) -> Option<Duration> {
-        if self
-            .outside
-            .peers
-            .iter()
-            .any(|p| p.ready && !p.paused && is_sctp(&p.association))
-        {
+        let peers = &self.outside.peers;
+        let mut sctp = peers.iter().filter(|p| is_sctp(&p.association));
+        if sctp.clone().any(|p| p.ready && !p.paused) {
             return Some(Duration::ZERO);
         }
-        let stalls = self
-            .outside
-            .peers
+        let stalls = peers
             .iter()
             .filter(|p| p.waiting().1 > 0)
             .map(|p| p.progress + self.options.stall);
-        let due = self.timers.iter().flatten().copied().chain(stalls).min()?;
+        let again = sctp
+            .any(|p| p.blocked)
+            .then(|| self.outside.now + SEND_AGAIN);
+        let due = self.timers.iter().flatten().copied();
+        let due = due.chain(stalls).chain(again).min()?;
         Some(due.saturating_duration_since(Instant::now()))
     }
 
@@ -140,7 +142,10 @@ impl Daemon {
                         ),
                     )
                 }
-                Received::Restarted => self.outside.restarted(p),
+                // what comes of the old association and what of the new one cannot be told apart any more
+                Received::Restarted => self
+                    .outside
+                    .lose(p, "the peer has begun anew: it has to connect again"),
                 Received::Ended => self.outside.lose(p, "the association is over"),
             }
             self.settle();
@@ -340,9 +345,12 @@ impl Daemon {
             return;
         }
         for p in 0..self.outside.peers.len() {
-            if self.outside.peers[p].ready && is_sctp(&self.outside.peers[p].association) {
+            if is_sctp(&self.outside.peers[p].association) {
+                // what waits is tried at the end of the turn
                 self.outside.peers[p].unblock();
-                self.read(p);
+                if self.outside.peers[p].ready {
+                    self.read(p);
+                }
             }
         }
     }

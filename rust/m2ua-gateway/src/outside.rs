@@ -258,14 +258,6 @@ impl Outside {
         self.lost(p, why, dropped);
     }
 
-    /// The peer has begun anew on the same association.
-    pub fn restarted(&mut self, p: usize) {
-        if let (Some(association), dropped) = self.peers[p].end() {
-            self.lost(p, "the peer has begun anew", dropped);
-            self.begin(p, association);
-        }
-    }
-
     fn lost(&mut self, p: usize, why: &str, dropped: usize) {
         let name = self.peers[p].name.clone();
         let waited = if dropped > 0 {
