@@ -239,13 +239,16 @@ impl Outside {
 
     /// An association begins.
     pub fn begin(&mut self, p: usize, association: Association) {
-        let socket = &self.peers[p].socket;
-        let written = self
-            .journal
-            .as_mut()
-            .map(|j| j.note(format_args!("{socket} begins")));
-        self.journalled(written);
+        self.note(p, "begins");
         self.peers[p].begin(association, self.now);
+    }
+
+    /// Says in the journal where an association begins or ends.
+    fn note(&mut self, p: usize, what: &str) {
+        let socket = &self.peers[p].socket;
+        let journal = self.journal.as_mut();
+        let written = journal.map(|j| j.note(format_args!("{socket} {what}")));
+        self.journalled(written);
     }
 
     /// Ends the association of a peer, if it has one, and lets that be known.
@@ -255,11 +258,7 @@ impl Outside {
             return;
         };
         association.close(true);
-        self.lost(p, why, dropped);
-    }
-
-    fn lost(&mut self, p: usize, why: &str, dropped: usize) {
-        let name = self.peers[p].name.clone();
+        let name = &self.peers[p].name;
         let waited = if dropped > 0 {
             format!(", {dropped} messages that waited are dropped")
         } else {
@@ -267,12 +266,7 @@ impl Outside {
         };
         self.log
             .line(Level::Changes, format_args!("{name}: {why}{waited}"));
-        let socket = &self.peers[p].socket;
-        let written = self
-            .journal
-            .as_mut()
-            .map(|j| j.note(format_args!("{socket} ends")));
-        self.journalled(written);
+        self.note(p, "ends");
         let end = self.end_of(p);
         if let Some(capture) = &mut self.capture {
             // a capture that cannot be written is told of at the next message

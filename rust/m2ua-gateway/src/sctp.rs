@@ -1,5 +1,7 @@
 //! SCTP by libusrsctp, over src/sctp.c. Where the library was not there when this was compiled, starting it says so and nothing else is ever reached.
 #![allow(unsafe_code)]
+// without the library a socket has no value, so that what follows one is never reached
+#![cfg_attr(not(sctp), allow(unreachable_code))]
 use crate::transport::{Received, Sent, READ};
 use std::io::{Error, Result};
 use std::net::{IpAddr, Ipv4Addr, Ipv6Addr, SocketAddr};
