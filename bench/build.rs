@@ -1,7 +1,15 @@
-// Links the archive that hosts link; tools/library makes it.
+//! M2UA_OLD: the archive of an older version, whose entries are called old_m2ua_.. (tools/bench --old). With it `cfg(old)` is set.
+use std::path::Path;
+
 fn main() {
-    let dir = concat!(env!("CARGO_MANIFEST_DIR"), "/../target/lib");
-    println!("cargo:rustc-link-search=native={dir}");
-    println!("cargo:rustc-link-lib=static=m2ua");
-    println!("cargo:rerun-if-changed={dir}/libm2ua.a");
+    println!("cargo:rerun-if-env-changed=M2UA_OLD");
+    let Some(archive) = std::env::var_os("M2UA_OLD") else {
+        return;
+    };
+    let archive = Path::new(&archive);
+    let folder = archive.parent().expect("a folder").display();
+    println!("cargo:rustc-link-search=native={folder}");
+    println!("cargo:rustc-link-lib=static=m2ua_old");
+    println!("cargo:rerun-if-changed={}", archive.display());
+    println!("cargo:rustc-cfg=old");
 }

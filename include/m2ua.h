@@ -3,17 +3,25 @@
  *
  * It needs C11 or C++11, and a 64-bit x86 machine, for which the library is compiled.
  *
- * The library is a set of functions over values. It has no state of its own, allocates nothing, opens nothing and never waits; it ends on every input.
- * - Threads: any number of threads may call any function at any time; one hold is lent to one event at a time.
+ * The library is a set of functions. It has no state of its own, allocates nothing, opens nothing and never
+ * waits; it ends on every input. The host owns the gateway's state, an m2ua_gateway, and lends it: an event
+ * works on it where it lies. A host keeps, for each gateway, an m2ua_gateway and a hold, and for each thread
+ * an m2ua_room; for each thing that happens it calls m2ua_handle, once, and carries out what the room says.
+ * - Threads: any number of threads may call any function at any time; one state, with its hold, is lent to
+ *   one event at a time, and nobody reads the two during it. A room is lent to one call at a time.
  * - Stack: a call takes less than M2UA_STACK bytes, its arguments and result included.
- * - Pointers: a pointer and the count behind it lend so many elements for the time of the call. It is aligned for its type and not null, also where the count
- *   is 0: then lend any byte of your own. (That a null with a count of 0 is not touched was tried, and is not proved.) What is written to (`words`, `out`,
- *   `lens` of m2ua_orders, `hold` of m2ua_event) overlaps nothing else that is lent. What is lent for reading is not changed by anybody during the call,
- *   and is never written.
- * - The hold: the bytes of the units that wait with a pending AS (Rule 5.22). The host owns it: M2UA_HOLD_BYTES for each gateway, zero or not at the start, kept
- *   between calls beside the state. The state says which units there are, the hold has their bytes, so the two are copied, stored and thrown away together.
- *   The same one is lent to every event, and to m2ua_order and m2ua_orders before the event's new state takes the place of the old one. Nobody else writes it.
- * - Every value of every other argument is allowed, and answered. A refusal leaves the lent memory and the state as they were.
+ * - Pointers: a pointer and the count behind it lend so many elements for the time of the call; a pointer to
+ *   a struct lends that struct. It is aligned for its type and not null, also where the count is 0: then lend
+ *   any byte of your own. (That a null with a count of 0 is not touched was tried, and is not proved.) What is
+ *   written to (the state and the hold of an event, a room, `words`, `lens`, `out`) overlaps nothing else that
+ *   is lent. What is lent for reading is not changed by anybody during the call, and is never written.
+ * - The hold: the bytes of the units that wait with a pending AS (Rule 5.22), M2UA_HOLD_BYTES for each gateway,
+ *   zero or not at the start. The state says which units there are, the hold has their bytes, so the two are
+ *   copied, stored and thrown away together. Nobody but events writes either.
+ * - Every value of every other argument is allowed, and answered. A refusal leaves the lent memory as it was.
+ * - The functions whose names end in _at are what the library exports. They take the state as its columns, one
+ *   pointer each; the columns are those of one m2ua_gateway. Call the inline functions of this file in their
+ *   place: these alone list the columns.
  * These duties are all that a host has; no call needs another call before it.
  *
  * Words: an ASP or AS is named by its number and a link by its place, all from 0 in the order of the plan's rows. An ASP's identifier, and the interface
@@ -24,8 +32,8 @@
 #include <stdint.h>
 
 /* Raised by each change of a struct, a limit or an entry that hosts must be compiled anew for; the number of the shared library's name (CHANGELOG.md). */
-#define M2UA_ABI 4
-#define M2UA_VERSION "0.5.0"
+#define M2UA_ABI 5
+#define M2UA_VERSION "0.6.0"
 
 #ifdef __cplusplus
 #define M2UA_STATIC_ASSERT(holds, what) static_assert(holds, what)
@@ -55,6 +63,7 @@ enum {
     M2UA_UNITS = 128,        /* places for units: as * 8 + unit, the oldest 0 */
     M2UA_HOLD_PLACE = 273,   /* bytes of a place in the hold */
     M2UA_HOLD_BYTES = 34944, /* bytes of the hold */
+    M2UA_ROOM_BYTES = 790528, /* bytes that all messages of an event go into, whatever it is */
     M2UA_STACK = 32768       /* bytes of stack that a call takes at most (tools/stack) */
 };
 
@@ -73,7 +82,7 @@ enum {
     M2UA_REFUSED_LIST = 101,   /* the lent list has fewer than M2UA_LIST_WORDS words */
     M2UA_REFUSED_PLACE = 102,  /* no such kind of event; an ASP, AS or link beyond the plan; a message of the link side that does not fit, also by its sequence number
                                 * (Rule 6.5) */
-    M2UA_REFUSED_BUFFER = 103, /* the lent buffer is too short for the message */
+    M2UA_REFUSED_BUFFER = 103, /* the lent buffer is too short */
     M2UA_REFUSED_ORDER = 104,  /* the event has no such order, or it goes to the link side */
     M2UA_REFUSED_STATE = 105,  /* the state is not sound (Rule 5.4) */
     M2UA_REFUSED_HOLD = 106,   /* the lent hold has another length than M2UA_HOLD_BYTES */
@@ -289,8 +298,9 @@ static inline size_t m2ua_hold_at(size_t as, size_t k) {
     return (as * M2UA_HELD_MOST + k) * M2UA_HOLD_PLACE;
 }
 
-/* The gateway's state, by value (Rule 5.1): the host keeps it between events. Any bytes are a state; an event refuses those that are not sound. Places
- * beyond the counts hold 0. Hosts read it; only events and m2ua_load make new ones. */
+/* The gateway's state (Rule 5.1), which the host keeps where it likes. Any bytes are a state; an event refuses
+ * those that are not sound. Places beyond the counts hold 0. Hosts read it between events; only m2ua_load and
+ * events write it. It may be copied, with its hold. */
 typedef struct {
     uint8_t asps;                           /* how many of each the plan has */
     uint8_t ases;
@@ -324,9 +334,33 @@ typedef struct {
  * Answers: 0 and the fresh state: all ASPs down, nobody active, no AS waiting, all links idle, no unit held; or M2UA_REFUSED_LAYOUT or M2UA_REFUSED_ROW and zeros. */
 m2ua_loaded m2ua_load(const uint8_t *file, size_t len);
 
-/* 1 where the state is sound (Rule 5.4), else 0. What m2ua_load accepted and what events hand back is sound: ask this of a state that comes from elsewhere,
- * as from a file or another node. */
-uint32_t m2ua_is_sound(m2ua_gateway g);
+/* The columns of a state as the exported functions take them: lent for reading, lent to an event, and passed. */
+#define M2UA_COLUMNS_READ \
+    uint8_t asps, uint8_t ases, uint8_t links, uint8_t spare, const uint32_t *aspid, const uint8_t *up, \
+    const uint8_t *member, const uint8_t *active, const uint8_t *mode, const uint8_t *waiting, \
+    const uint32_t *iid, const uint8_t *owner, const uint8_t *state, const uint8_t *highspeed, \
+    const uint8_t *wholelists, const uint8_t *count, const uint16_t *tag, const uint16_t *len, \
+    const uint16_t *marked, const uint32_t *id, const uint32_t *correlation
+#define M2UA_COLUMNS_WRITTEN \
+    uint8_t asps, uint8_t ases, uint8_t links, uint8_t spare, const uint32_t *aspid, uint8_t *up, \
+    const uint8_t *member, uint8_t *active, const uint8_t *mode, uint8_t *waiting, \
+    const uint32_t *iid, const uint8_t *owner, uint8_t *state, const uint8_t *highspeed, \
+    const uint8_t *wholelists, uint8_t *count, uint16_t *tag, uint16_t *len, \
+    uint16_t *marked, uint32_t *id, uint32_t *correlation
+#define M2UA_COLUMNS_OF(g) \
+    (g)->asps, (g)->ases, (g)->links, (g)->spare, (g)->aspid, (g)->up, \
+    (g)->member, (g)->active, (g)->mode, (g)->waiting, \
+    (g)->iid, (g)->owner, (g)->state, (g)->highspeed, \
+    (g)->wholelists, (g)->held.count, (g)->held.tag, (g)->held.length, \
+    (g)->held.marked, (g)->held.id, (g)->held.correlation
+
+/* 1 where the state is sound (Rule 5.4), else 0. What m2ua_load accepted and what events leave is sound: ask
+ * this of a state that comes from elsewhere, as from a file or another node. */
+uint32_t m2ua_is_sound_at(M2UA_COLUMNS_READ);
+
+static inline uint32_t m2ua_is_sound(const m2ua_gateway *g) {
+    return m2ua_is_sound_at(M2UA_COLUMNS_OF(g));
+}
 
 /* What a question about a state answers: 0 and the value, or the number of the refusal and 0. */
 typedef struct {
@@ -334,12 +368,21 @@ typedef struct {
     uint32_t value;
 } m2ua_answer;
 
-/* The state of an AS, by its number: M2UA_AS_.. (Rule 5.17). Refused: M2UA_REFUSED_STATE, then M2UA_REFUSED_PLACE for an AS beyond the plan. */
-m2ua_answer m2ua_as_state(m2ua_gateway g, size_t as);
+/* The state of an AS, by its number: M2UA_AS_.. (Rule 5.17). Refused: M2UA_REFUSED_STATE, then
+ * M2UA_REFUSED_PLACE for an AS beyond the plan. */
+m2ua_answer m2ua_as_state_at(M2UA_COLUMNS_READ, size_t as);
 
-/* The place of the link with an interface identifier, as M2UA_LINK_UP and M2UA_LINK_DOWN take it (Rule 5.18). Refused: M2UA_REFUSED_STATE, then
- * M2UA_REFUSED_PLACE for an identifier that no link of the plan has. */
-m2ua_answer m2ua_link_place(m2ua_gateway g, uint32_t id);
+static inline m2ua_answer m2ua_as_state(const m2ua_gateway *g, size_t as) {
+    return m2ua_as_state_at(M2UA_COLUMNS_OF(g), as);
+}
+
+/* The place of the link with an interface identifier, as M2UA_LINK_UP and M2UA_LINK_DOWN take it (Rule 5.18).
+ * Refused: M2UA_REFUSED_STATE, then M2UA_REFUSED_PLACE for an identifier that no link of the plan has. */
+m2ua_answer m2ua_link_place_at(M2UA_COLUMNS_READ, uint32_t wanted);
+
+static inline m2ua_answer m2ua_link_place(const m2ua_gateway *g, uint32_t wanted) {
+    return m2ua_link_place_at(M2UA_COLUMNS_OF(g), wanted);
+}
 
 /* The recovery timers T(r) that an event asks for, by number of AS: 1 in `began` where the timer is to be started, 1 in `ended` where it is to be stopped. */
 typedef struct {
@@ -347,17 +390,15 @@ typedef struct {
     uint8_t ended[M2UA_MAX_ASES];
 } m2ua_timers;
 
-/* Which ASes wait after an event and did not before, and the other way round (Rule 5.19). Any two states are answered. */
-m2ua_timers m2ua_waits(m2ua_gateway before, m2ua_gateway after);
+/* Which ASes wait after an event and did not before, and the other way round (Rule 5.19), from the column
+ * `waiting` before it and the state after it. m2ua_handle does this for you. Any bytes are answered. */
+m2ua_timers m2ua_waits_at(const uint8_t *before, const uint8_t *after);
+
+static inline m2ua_timers m2ua_waits(const uint8_t before[M2UA_MAX_ASES], const m2ua_gateway *after) {
+    return m2ua_waits_at(before, after->waiting);
+}
 
 /* ---- Events ---- */
-
-/* What an event hands back (Rule 6.2): 0, the number of orders and the next state; or the refusal, 0 and the state that was given. */
-typedef struct {
-    uint32_t refusal;
-    size_t count;
-    m2ua_gateway gateway;
-} m2ua_outcome;
 
 /* The kinds of event (Rule 6.1), and what `index` names. */
 enum {
@@ -369,74 +410,164 @@ enum {
     M2UA_LINK_MESSAGE = 5 /* a message of the link side (6.1, 6.8, 6.9, 6.11 to 6.14), which names its link itself: any */
 };
 
-/* The function behind all events. `size` is the length of the gateway's hold (M2UA_HOLD_BYTES, else M2UA_REFUSED_HOLD). Where `hold_bytes` is the same, it is m2ua_event
- * (below). Where it is not, the answer is the same and no byte of `hold` is written: a dry run, which shows what an event would do, with `hold_bytes` 0 and `hold` any
- * pointer that is not null. Do not keep the next state of one: if it took a unit in, the bytes of that unit are nowhere. */
-m2ua_outcome m2ua_run(m2ua_gateway g, uint32_t kind, size_t index, const uint8_t *msg, size_t len, uint8_t *hold, size_t hold_bytes, size_t size, uint32_t *words,
-                      size_t count);
+/* What a host lends to m2ua_handle and finds there: the recovery timers to start and to stop, the orders of the
+ * event as words, four for each, the length of each order's message, and the messages one behind the other.
+ * It is large, and an event touches only what it writes: keep one for each thread, as a static or on the heap,
+ * and use it for all gateways. It need not be cleared. */
+typedef struct {
+    m2ua_timers timers;
+    uint32_t words[M2UA_LIST_WORDS];
+    uint32_t lens[M2UA_MAX_ORDERS];
+    uint8_t bytes[M2UA_ROOM_BYTES];
+} m2ua_room;
 
-/* An event on a state. `msg` is read in kinds 0 and 5. `hold` is the gateway's hold: Data of the link side for an AS that is pending is put there and gives no
- * order (Rule 7.24); it goes out as an order as soon as an ASP is active in the AS (Rule 7.25). The orders are written to `words`, of which there are `count`,
- * four words each (Rule 8.1): the addressee (the number of an ASP, or M2UA_LINK_SIDE); M2UA_ORDER_..; subject; value. In class 6 the subject is an interface
- * identifier, in a Notify the number of an AS, in an Error of code 2 the refused identifier, else 0; the value is said beside M2UA_ORDER_.., of an Error it is
- * the code, else 0.
- * Answers: `refusal` 0, the number of orders, at most M2UA_MAX_ORDERS, and the next state, the words behind the orders unchanged; or, in this order:
- * M2UA_REFUSED_STATE, M2UA_REFUSED_PLACE (a kind above 5; `index` beyond the plan; a message of the link side that does not read, is of another type or has
- * an unknown identifier, or a Retrieval Confirm has a sequence number above M2UA_MAX_SEQUENCE_PLAIN and its link is a plain one), M2UA_REFUSED_HOLD (`hold_bytes` is
- * not M2UA_HOLD_BYTES), M2UA_REFUSED_LIST (`count` below M2UA_LIST_WORDS). Refused: count 0, the state given, no word and no byte of the hold changed.
- * A message of an ASP that does not read is no refusal: it is answered by an Error order (Rule 6.8). So is a Retrieval Request that asks a plain link for a sequence number
- * above M2UA_MAX_SEQUENCE_PLAIN: where the ASP is active for the link, by Error 17, and the link side is told nothing (Rule 7.14).
- * An Active or Inactive may name identifiers that the ASP cannot have beside those that it can. Then it acts on the latter: the orders are the Ack, an Error of code 2 with
- * the first of the former, and what follows in the ASes; as bytes the Ack lists what was acted on (Rule 8.11). Where the ASP can have none of them, and wherever the state
- * has 1 for it in `wholelists`, the Error is all, and nothing changes. A traffic mode that is not that of each AS acted on is Error 5 for the whole message (Rule 7.9). */
-static inline m2ua_outcome m2ua_event(m2ua_gateway g, uint32_t kind, size_t index, const uint8_t *msg, size_t len, uint8_t *hold, size_t hold_bytes, uint32_t *words,
-                                      size_t count) {
-    return m2ua_run(g, kind, index, msg, len, hold, hold_bytes, hold_bytes, words, count);
+/* What it hands back: 0, the number of orders and the bytes of all their messages; or the refusal and zeros. */
+typedef struct {
+    uint32_t refusal;
+    size_t count;
+    size_t length;
+} m2ua_handled;
+
+m2ua_handled m2ua_handle_at(M2UA_COLUMNS_WRITTEN, uint32_t kind, size_t index, const uint8_t *msg, size_t msg_bytes,
+                            uint8_t *hold, size_t hold_bytes, uint32_t *words, uint32_t *lens, uint8_t *out,
+                            size_t out_bytes);
+
+/* An event (Rule 6.2) on the state where it lies, and the messages of all its orders (Rule 8.19): the one call
+ * that a host needs. `msg` is read in kinds 0 and 5. `hold` is the gateway's hold: Data of the link side for an
+ * AS that is pending is put there and gives no order (Rule 7.24); it goes out as an order as soon as an ASP is
+ * active in the AS (Rule 7.25).
+ *
+ * An order is four words (Rule 8.1): the addressee (the number of an ASP, or M2UA_LINK_SIDE); M2UA_ORDER_..;
+ * subject; value. In class 6 the subject is an interface identifier, in a Notify the number of an AS, in an Error
+ * of code 2 the refused identifier, else 0; the value is said beside M2UA_ORDER_.., of an Error it is the code,
+ * else 0. The orders are carried out in their sequence:
+ *
+ *     const m2ua_handled h = m2ua_handle(&gateway, M2UA_MESSAGE, asp, msg, len, hold, sizeof hold, &room);
+ *     const uint8_t *message = room.bytes;
+ *     for (size_t j = 0; j < h.count; message += room.lens[j], j++) {
+ *         const uint32_t *order = room.words + M2UA_ORDER_WORDS * j;
+ *         if (order[0] == M2UA_LINK_SIDE) to_the_link_side(order, msg, len);
+ *         else to_the_asp(order[0], message, room.lens[j]);
+ *     }
+ *
+ * Answers: `refusal` 0, the number of orders, at most M2UA_MAX_ORDERS, and the bytes of their messages. Then ALL
+ * of them are there: words[4 * j] to words[4 * j + 3] are order j, lens[j] is the length of its message, 0 for one
+ * to the link side; words, lens and bytes behind them stay; `timers` says which T(r) to start and to stop; and
+ * the state is the next one. Or, in this order:
+ * M2UA_REFUSED_STATE; M2UA_REFUSED_PLACE (a kind above 5; `index` beyond the plan; a message of the link side that
+ * does not read, is of another type or has an unknown identifier, or a Retrieval Confirm has a sequence number
+ * above M2UA_MAX_SEQUENCE_PLAIN and its link is a plain one); M2UA_REFUSED_HOLD (`hold_bytes` is not
+ * M2UA_HOLD_BYTES). m2ua_handle_at is refused with M2UA_REFUSED_BUFFER behind these where `out` has fewer than
+ * M2UA_ROOM_BYTES; the room of this file has them. Refused: zeros, no timer to start or to stop, and every byte of
+ * the state, the hold, words, lens and bytes as it was.
+ *
+ * A message of an ASP that does not read is no refusal: it is answered by an Error order (Rule 6.8). So is a
+ * Retrieval Request that asks a plain link for a sequence number above M2UA_MAX_SEQUENCE_PLAIN: where the ASP is
+ * active for the link, by Error 17, and the link side is told nothing (Rule 7.14).
+ * An Active or Inactive may name identifiers that the ASP cannot have beside those that it can. Then it acts on
+ * the latter: the orders are the Ack, an Error of code 2 with the first of the former, and what follows in the
+ * ASes; as bytes the Ack lists what was acted on (Rule 8.11). Where the ASP can have none of them, and wherever the
+ * state has 1 for it in `wholelists`, the Error is all, and nothing changes. A traffic mode that is not that of
+ * each AS acted on is Error 5 for the whole message (Rule 7.9). */
+static inline m2ua_handled m2ua_handle(m2ua_gateway *g, uint32_t kind, size_t index, const uint8_t *msg, size_t len,
+                                       uint8_t *hold, size_t hold_bytes, m2ua_room *room) {
+    uint8_t before[M2UA_MAX_ASES];
+    for (size_t a = 0; a < M2UA_MAX_ASES; a++) before[a] = g->waiting[a];
+    const m2ua_handled handled = m2ua_handle_at(M2UA_COLUMNS_OF(g), kind, index, msg, len, hold, hold_bytes, room->words,
+                                                room->lens, room->bytes, sizeof room->bytes);
+    room->timers = m2ua_waits(before, g);
+    return handled;
 }
 
-/* The six kinds by name: m2ua_event with the kind filled in. */
-static inline m2ua_outcome m2ua_message(m2ua_gateway g, size_t asp, const uint8_t *msg, size_t len, uint8_t *hold, size_t hold_bytes, uint32_t *words, size_t count) {
-    return m2ua_event(g, M2UA_MESSAGE, asp, msg, len, hold, hold_bytes, words, count);
+/* The six kinds by name. An event without a message lends none of a byte's bytes: what is lent is never null. */
+static inline m2ua_handled m2ua_message(m2ua_gateway *g, size_t asp, const uint8_t *msg, size_t len, uint8_t *hold,
+                                        size_t hold_bytes, m2ua_room *room) {
+    return m2ua_handle(g, M2UA_MESSAGE, asp, msg, len, hold, hold_bytes, room);
 }
 
-/* An event without a message lends none of a byte's bytes: a pointer that is lent is never null. */
-static inline m2ua_outcome m2ua_without_message(m2ua_gateway g, uint32_t kind, size_t index, uint8_t *hold, size_t hold_bytes, uint32_t *words, size_t count) {
+static inline m2ua_handled m2ua_without_message(m2ua_gateway *g, uint32_t kind, size_t index, uint8_t *hold,
+                                                size_t hold_bytes, m2ua_room *room) {
     const uint8_t none = 0;
-    return m2ua_event(g, kind, index, &none, 0, hold, hold_bytes, words, count);
+    return m2ua_handle(g, kind, index, &none, 0, hold, hold_bytes, room);
 }
 
-static inline m2ua_outcome m2ua_lost(m2ua_gateway g, size_t asp, uint8_t *hold, size_t hold_bytes, uint32_t *words, size_t count) {
-    return m2ua_without_message(g, M2UA_LOST, asp, hold, hold_bytes, words, count);
+static inline m2ua_handled m2ua_lost(m2ua_gateway *g, size_t asp, uint8_t *hold, size_t hold_bytes, m2ua_room *room) {
+    return m2ua_without_message(g, M2UA_LOST, asp, hold, hold_bytes, room);
 }
 
-static inline m2ua_outcome m2ua_recovery(m2ua_gateway g, size_t as, uint8_t *hold, size_t hold_bytes, uint32_t *words, size_t count) {
-    return m2ua_without_message(g, M2UA_RECOVERY, as, hold, hold_bytes, words, count);
+static inline m2ua_handled m2ua_recovery(m2ua_gateway *g, size_t as, uint8_t *hold, size_t hold_bytes, m2ua_room *room) {
+    return m2ua_without_message(g, M2UA_RECOVERY, as, hold, hold_bytes, room);
 }
 
-static inline m2ua_outcome m2ua_link_up(m2ua_gateway g, size_t link, uint8_t *hold, size_t hold_bytes, uint32_t *words, size_t count) {
-    return m2ua_without_message(g, M2UA_LINK_UP, link, hold, hold_bytes, words, count);
+static inline m2ua_handled m2ua_link_up(m2ua_gateway *g, size_t link, uint8_t *hold, size_t hold_bytes, m2ua_room *room) {
+    return m2ua_without_message(g, M2UA_LINK_UP, link, hold, hold_bytes, room);
 }
 
-static inline m2ua_outcome m2ua_link_down(m2ua_gateway g, size_t link, uint8_t *hold, size_t hold_bytes, uint32_t *words, size_t count) {
-    return m2ua_without_message(g, M2UA_LINK_DOWN, link, hold, hold_bytes, words, count);
+static inline m2ua_handled m2ua_link_down(m2ua_gateway *g, size_t link, uint8_t *hold, size_t hold_bytes, m2ua_room *room) {
+    return m2ua_without_message(g, M2UA_LINK_DOWN, link, hold, hold_bytes, room);
 }
 
-static inline m2ua_outcome m2ua_link_message(m2ua_gateway g, const uint8_t *msg, size_t len, uint8_t *hold, size_t hold_bytes, uint32_t *words, size_t count) {
-    return m2ua_event(g, M2UA_LINK_MESSAGE, 0, msg, len, hold, hold_bytes, words, count);
+static inline m2ua_handled m2ua_link_message(m2ua_gateway *g, const uint8_t *msg, size_t len, uint8_t *hold, size_t hold_bytes,
+                                             m2ua_room *room) {
+    return m2ua_handle(g, M2UA_LINK_MESSAGE, 0, msg, len, hold, hold_bytes, room);
 }
 
-/* ---- Orders as bytes ---- */
+/* ---- Events as words alone ---- */
 
-/* An event's orders are first had as words: m2ua_event hands back how many there are and who gets each. The bytes to send come from the state BEFORE that
- * event, with the same kind, index and message, and the same hold: a unit that goes out has its bytes there (Rule 8.18), and no event that sends one has written
- * to the hold. No list of words is lent, so nothing is refused with M2UA_REFUSED_LIST. */
+/* What an event hands back (Rule 6.2): 0 and the number of orders; or the refusal and 0. */
+typedef struct {
+    uint32_t refusal;
+    size_t count;
+} m2ua_done;
 
-/* Writes the order at a place, from 0, as the message that goes to its ASP (Rule 8.15). M2UA_MAX_MESSAGE bytes of `out` are always enough.
- * Answers: `code` 0 and the message's length, the bytes behind it unchanged; or, in this order: M2UA_REFUSED_STATE; M2UA_REFUSED_PLACE and M2UA_REFUSED_HOLD,
- * as the event itself; M2UA_REFUSED_ORDER, where the event has no order at the place or sends it to the link side; M2UA_REFUSED_BUFFER. Refused: length 0,
- * `out` unchanged. */
-m2ua_written m2ua_order(m2ua_gateway g, uint32_t kind, size_t index, const uint8_t *msg, size_t len, const uint8_t *hold, size_t hold_bytes, size_t place,
-                        uint8_t *out, size_t out_bytes);
+m2ua_done m2ua_event_at(M2UA_COLUMNS_WRITTEN, uint32_t kind, size_t index, const uint8_t *msg, size_t msg_bytes, uint8_t *hold,
+                        size_t hold_bytes, uint32_t *words, size_t word_count);
+
+/* The event alone, on the state where it lies, with its orders as words: for a host that writes messages itself
+ * or needs none. The state before it is gone, and with it what m2ua_order and m2ua_orders (below) would need: ask
+ * them first, or keep a copy, or call m2ua_handle.
+ * Answers and refusals are those of m2ua_handle, but for the last one: M2UA_REFUSED_LIST, where `count` is below
+ * M2UA_LIST_WORDS. Refused: every byte of the state, the hold and `words` as it was. */
+static inline m2ua_done m2ua_event(m2ua_gateway *g, uint32_t kind, size_t index, const uint8_t *msg, size_t len, uint8_t *hold,
+                                   size_t hold_bytes, uint32_t *words, size_t count) {
+    return m2ua_event_at(M2UA_COLUMNS_OF(g), kind, index, msg, len, hold, hold_bytes, words, count);
+}
+
+/* The same by value: the state that is given stays, and the next one, or the same, is handed back. It copies the
+ * state twice. */
+typedef struct {
+    uint32_t refusal;
+    size_t count;
+    m2ua_gateway gateway;
+} m2ua_outcome;
+
+static inline m2ua_outcome m2ua_event_by_value(m2ua_gateway g, uint32_t kind, size_t index, const uint8_t *msg, size_t len,
+                                               uint8_t *hold, size_t hold_bytes, uint32_t *words, size_t count) {
+    m2ua_outcome outcome;
+    outcome.gateway = g;
+    const m2ua_done done = m2ua_event(&outcome.gateway, kind, index, msg, len, hold, hold_bytes, words, count);
+    outcome.refusal = done.refusal;
+    outcome.count = done.count;
+    return outcome;
+}
+
+/* ---- Orders as bytes, of an event that is not kept ---- */
+
+/* What an event on a state would send: the state BEFORE the event is only read, and so is its hold, in which a unit
+ * that goes out has its bytes (Rule 8.18). No list of words is lent, so nothing is refused with M2UA_REFUSED_LIST. */
+
+m2ua_written m2ua_order_at(M2UA_COLUMNS_READ, uint32_t kind, size_t index, const uint8_t *msg, size_t msg_bytes,
+                           const uint8_t *hold, size_t hold_bytes, size_t place, uint8_t *out, size_t out_bytes);
+
+/* Writes the order at a place, from 0, as the message that goes to its ASP (Rule 8.15). M2UA_MAX_MESSAGE bytes of
+ * `out` are always enough.
+ * Answers: `code` 0 and the message's length, the bytes behind it unchanged; or, in this order: M2UA_REFUSED_STATE;
+ * M2UA_REFUSED_PLACE and M2UA_REFUSED_HOLD, as the event itself; M2UA_REFUSED_ORDER, where the event has no order at
+ * the place or sends it to the link side; M2UA_REFUSED_BUFFER. Refused: length 0, `out` unchanged. */
+static inline m2ua_written m2ua_order(const m2ua_gateway *g, uint32_t kind, size_t index, const uint8_t *msg, size_t len,
+                                      const uint8_t *hold, size_t hold_bytes, size_t place, uint8_t *out, size_t out_bytes) {
+    return m2ua_order_at(M2UA_COLUMNS_OF(g), kind, index, msg, len, hold, hold_bytes, place, out, out_bytes);
+}
 
 /* What writing several did: 0, how many orders and how many bytes; or the number of the refusal and zeros. */
 typedef struct {
@@ -445,84 +576,28 @@ typedef struct {
     size_t length;
 } m2ua_batch;
 
-/* Writes the messages of as many orders, from a place on, as go into `out` and have a place in `lens`, one behind the other (Rule 8.16): lens[j] is the length
- * of the j-th, 0 for an order to the link side, which goes in wherever there is a place in `lens`. Each message is the one that m2ua_order writes.
- * Answers: `code` 0, the number of orders and of bytes, what lies behind them in `lens` and `out` unchanged; or, in this order: M2UA_REFUSED_STATE,
- * M2UA_REFUSED_PLACE and M2UA_REFUSED_HOLD as above; M2UA_REFUSED_ORDER, a place beyond the orders; M2UA_REFUSED_BUFFER, not one goes in. Refused: zeros, nothing changed.
- * With M2UA_MAX_MESSAGE bytes and one length or more at least one goes in, so that this sends all:
+m2ua_batch m2ua_orders_at(M2UA_COLUMNS_READ, uint32_t kind, size_t index, const uint8_t *msg, size_t msg_bytes,
+                          const uint8_t *hold, size_t hold_bytes, size_t place, uint32_t *lens, size_t len_count, uint8_t *out,
+                          size_t out_bytes);
+
+/* Writes the messages of as many orders, from a place on, as go into `out` and have a place in `lens`, one behind the
+ * other (Rule 8.16): lens[j] is the length of the j-th, 0 for an order to the link side, which goes in wherever there
+ * is a place in `lens`. Each message is the one that m2ua_order writes.
+ * Answers: `code` 0, the number of orders and of bytes, what lies behind them in `lens` and `out` unchanged; or, in
+ * this order: M2UA_REFUSED_STATE, M2UA_REFUSED_PLACE and M2UA_REFUSED_HOLD as above; M2UA_REFUSED_ORDER, a place beyond
+ * the orders; M2UA_REFUSED_BUFFER, not one goes in. Refused: zeros, nothing changed.
+ * With M2UA_MAX_MESSAGE bytes and one length or more at least one goes in, so that this writes all:
  *     for (place = 0; place < count; place += b.count) b = m2ua_orders(.., place, ..);
- * Each call runs the event again: lend room for all, M2UA_MAX_ORDERS lengths and 65,536 bytes (docs/HOST.md has the times). */
-m2ua_batch m2ua_orders(m2ua_gateway g, uint32_t kind, size_t index, const uint8_t *msg, size_t len, const uint8_t *hold, size_t hold_bytes, size_t place,
-                       uint32_t *lens, size_t len_count, uint8_t *out, size_t out_bytes);
-
-/* Both by the name of the event. */
-static inline m2ua_written m2ua_message_order(m2ua_gateway g, size_t asp, const uint8_t *msg, size_t len, const uint8_t *hold, size_t hold_bytes, size_t place,
-                                              uint8_t *out, size_t out_bytes) {
-    return m2ua_order(g, M2UA_MESSAGE, asp, msg, len, hold, hold_bytes, place, out, out_bytes);
+ * Each call runs the event again (docs/HOST.md has the times). */
+static inline m2ua_batch m2ua_orders(const m2ua_gateway *g, uint32_t kind, size_t index, const uint8_t *msg, size_t len,
+                                     const uint8_t *hold, size_t hold_bytes, size_t place, uint32_t *lens, size_t len_count,
+                                     uint8_t *out, size_t out_bytes) {
+    return m2ua_orders_at(M2UA_COLUMNS_OF(g), kind, index, msg, len, hold, hold_bytes, place, lens, len_count, out, out_bytes);
 }
 
-static inline m2ua_written m2ua_without_message_order(m2ua_gateway g, uint32_t kind, size_t index, const uint8_t *hold, size_t hold_bytes, size_t place, uint8_t *out,
-                                                      size_t out_bytes) {
-    const uint8_t none = 0;
-    return m2ua_order(g, kind, index, &none, 0, hold, hold_bytes, place, out, out_bytes);
-}
-
-static inline m2ua_written m2ua_lost_order(m2ua_gateway g, size_t asp, const uint8_t *hold, size_t hold_bytes, size_t place, uint8_t *out, size_t out_bytes) {
-    return m2ua_without_message_order(g, M2UA_LOST, asp, hold, hold_bytes, place, out, out_bytes);
-}
-
-static inline m2ua_written m2ua_recovery_order(m2ua_gateway g, size_t as, const uint8_t *hold, size_t hold_bytes, size_t place, uint8_t *out, size_t out_bytes) {
-    return m2ua_without_message_order(g, M2UA_RECOVERY, as, hold, hold_bytes, place, out, out_bytes);
-}
-
-static inline m2ua_written m2ua_link_up_order(m2ua_gateway g, size_t link, const uint8_t *hold, size_t hold_bytes, size_t place, uint8_t *out, size_t out_bytes) {
-    return m2ua_without_message_order(g, M2UA_LINK_UP, link, hold, hold_bytes, place, out, out_bytes);
-}
-
-static inline m2ua_written m2ua_link_down_order(m2ua_gateway g, size_t link, const uint8_t *hold, size_t hold_bytes, size_t place, uint8_t *out, size_t out_bytes) {
-    return m2ua_without_message_order(g, M2UA_LINK_DOWN, link, hold, hold_bytes, place, out, out_bytes);
-}
-
-static inline m2ua_written m2ua_link_message_order(m2ua_gateway g, const uint8_t *msg, size_t len, const uint8_t *hold, size_t hold_bytes, size_t place, uint8_t *out,
-                                                   size_t out_bytes) {
-    return m2ua_order(g, M2UA_LINK_MESSAGE, 0, msg, len, hold, hold_bytes, place, out, out_bytes);
-}
-
-static inline m2ua_batch m2ua_message_orders(m2ua_gateway g, size_t asp, const uint8_t *msg, size_t len, const uint8_t *hold, size_t hold_bytes, size_t place,
-                                             uint32_t *lens, size_t len_count, uint8_t *out, size_t out_bytes) {
-    return m2ua_orders(g, M2UA_MESSAGE, asp, msg, len, hold, hold_bytes, place, lens, len_count, out, out_bytes);
-}
-
-static inline m2ua_batch m2ua_without_message_orders(m2ua_gateway g, uint32_t kind, size_t index, const uint8_t *hold, size_t hold_bytes, size_t place, uint32_t *lens,
-                                                     size_t len_count, uint8_t *out, size_t out_bytes) {
-    const uint8_t none = 0;
-    return m2ua_orders(g, kind, index, &none, 0, hold, hold_bytes, place, lens, len_count, out, out_bytes);
-}
-
-static inline m2ua_batch m2ua_lost_orders(m2ua_gateway g, size_t asp, const uint8_t *hold, size_t hold_bytes, size_t place, uint32_t *lens, size_t len_count,
-                                          uint8_t *out, size_t out_bytes) {
-    return m2ua_without_message_orders(g, M2UA_LOST, asp, hold, hold_bytes, place, lens, len_count, out, out_bytes);
-}
-
-static inline m2ua_batch m2ua_recovery_orders(m2ua_gateway g, size_t as, const uint8_t *hold, size_t hold_bytes, size_t place, uint32_t *lens, size_t len_count,
-                                              uint8_t *out, size_t out_bytes) {
-    return m2ua_without_message_orders(g, M2UA_RECOVERY, as, hold, hold_bytes, place, lens, len_count, out, out_bytes);
-}
-
-static inline m2ua_batch m2ua_link_up_orders(m2ua_gateway g, size_t link, const uint8_t *hold, size_t hold_bytes, size_t place, uint32_t *lens, size_t len_count,
-                                             uint8_t *out, size_t out_bytes) {
-    return m2ua_without_message_orders(g, M2UA_LINK_UP, link, hold, hold_bytes, place, lens, len_count, out, out_bytes);
-}
-
-static inline m2ua_batch m2ua_link_down_orders(m2ua_gateway g, size_t link, const uint8_t *hold, size_t hold_bytes, size_t place, uint32_t *lens, size_t len_count,
-                                               uint8_t *out, size_t out_bytes) {
-    return m2ua_without_message_orders(g, M2UA_LINK_DOWN, link, hold, hold_bytes, place, lens, len_count, out, out_bytes);
-}
-
-static inline m2ua_batch m2ua_link_message_orders(m2ua_gateway g, const uint8_t *msg, size_t len, const uint8_t *hold, size_t hold_bytes, size_t place, uint32_t *lens,
-                                                  size_t len_count, uint8_t *out, size_t out_bytes) {
-    return m2ua_orders(g, M2UA_LINK_MESSAGE, 0, msg, len, hold, hold_bytes, place, lens, len_count, out, out_bytes);
-}
+#undef M2UA_COLUMNS_READ
+#undef M2UA_COLUMNS_WRITTEN
+#undef M2UA_COLUMNS_OF
 
 /* ---- Layout ---- */
 
@@ -537,6 +612,9 @@ M2UA_STATIC_ASSERT(offsetof(m2ua_batch, length) == 16, "m2ua_batch.length");
 M2UA_STATIC_ASSERT(sizeof(m2ua_data_at) == 16, "m2ua_data_at");
 M2UA_STATIC_ASSERT(offsetof(m2ua_data_at, start) == 0, "m2ua_data_at.start");
 M2UA_STATIC_ASSERT(offsetof(m2ua_data_at, length) == 8, "m2ua_data_at.length");
+M2UA_STATIC_ASSERT(sizeof(m2ua_done) == 16, "m2ua_done");
+M2UA_STATIC_ASSERT(offsetof(m2ua_done, refusal) == 0, "m2ua_done.refusal");
+M2UA_STATIC_ASSERT(offsetof(m2ua_done, count) == 8, "m2ua_done.count");
 M2UA_STATIC_ASSERT(sizeof(m2ua_gateway) == 3348, "m2ua_gateway");
 M2UA_STATIC_ASSERT(offsetof(m2ua_gateway, asps) == 0, "m2ua_gateway.asps");
 M2UA_STATIC_ASSERT(offsetof(m2ua_gateway, ases) == 1, "m2ua_gateway.ases");
@@ -554,13 +632,13 @@ M2UA_STATIC_ASSERT(offsetof(m2ua_gateway, state) == 1268, "m2ua_gateway.state");
 M2UA_STATIC_ASSERT(offsetof(m2ua_gateway, highspeed) == 1396, "m2ua_gateway.highspeed");
 M2UA_STATIC_ASSERT(offsetof(m2ua_gateway, wholelists) == 1524, "m2ua_gateway.wholelists");
 M2UA_STATIC_ASSERT(offsetof(m2ua_gateway, held) == 1540, "m2ua_gateway.held");
+M2UA_STATIC_ASSERT(sizeof(m2ua_handled) == 24, "m2ua_handled");
+M2UA_STATIC_ASSERT(offsetof(m2ua_handled, refusal) == 0, "m2ua_handled.refusal");
+M2UA_STATIC_ASSERT(offsetof(m2ua_handled, count) == 8, "m2ua_handled.count");
+M2UA_STATIC_ASSERT(offsetof(m2ua_handled, length) == 16, "m2ua_handled.length");
 M2UA_STATIC_ASSERT(sizeof(m2ua_loaded) == 3352, "m2ua_loaded");
 M2UA_STATIC_ASSERT(offsetof(m2ua_loaded, code) == 0, "m2ua_loaded.code");
 M2UA_STATIC_ASSERT(offsetof(m2ua_loaded, gateway) == 4, "m2ua_loaded.gateway");
-M2UA_STATIC_ASSERT(sizeof(m2ua_outcome) == 3368, "m2ua_outcome");
-M2UA_STATIC_ASSERT(offsetof(m2ua_outcome, refusal) == 0, "m2ua_outcome.refusal");
-M2UA_STATIC_ASSERT(offsetof(m2ua_outcome, count) == 8, "m2ua_outcome.count");
-M2UA_STATIC_ASSERT(offsetof(m2ua_outcome, gateway) == 16, "m2ua_outcome.gateway");
 M2UA_STATIC_ASSERT(sizeof(m2ua_param_at) == 24, "m2ua_param_at");
 M2UA_STATIC_ASSERT(offsetof(m2ua_param_at, found) == 0, "m2ua_param_at.found");
 M2UA_STATIC_ASSERT(offsetof(m2ua_param_at, start) == 8, "m2ua_param_at.start");

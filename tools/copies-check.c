@@ -1,5 +1,6 @@
-/* Counts the copies of the state that m2ua_event makes: the calls of memcpy and memmove of at least its size (linked with --wrap). What this file's own code
- * copies is left out: it stands in a section of its own. `copies-check size` prints the state's size. */
+/* Counts the copies that m2ua_event and m2ua_handle make: the calls of memcpy and memmove (linked with --wrap) of the state's size or more, and of bytes of
+ * the state, of which there may be those of a column. What this file's own code copies is left out: it stands in a section of its own. `copies-check size`
+ * prints the state's size. */
 #include <stdio.h>
 #include <string.h>
 #include "m2ua.h"
@@ -7,40 +8,50 @@
 #define HOST __attribute__((section("host_text"), noinline))
 extern char __start_host_text[], __stop_host_text[];
 
-static unsigned copies;
+static unsigned copies, columns;
 static int failures;
-static uint32_t words[M2UA_LIST_WORDS];
+static m2ua_gateway g;
+static m2ua_room room;
 static uint8_t hold[M2UA_HOLD_BYTES];
 
-static void count(size_t bytes, void *from) {
-    const char *at = from;
-    if (bytes >= sizeof(m2ua_gateway) && !(at >= __start_host_text && at < __stop_host_text)) copies++;
+/* Copies of the state's size, and copies out of the state or into it. */
+static void count(const void *to, const void *from, size_t bytes, const void *caller) {
+    const char *at = caller, *state = (const char *)&g, *end = state + sizeof g, *x = to, *y = from;
+    if (at >= __start_host_text && at < __stop_host_text) return;
+    if (bytes >= sizeof(m2ua_gateway)) copies++;
+    if (bytes > 4 && ((x >= state && x < end) || (y >= state && y < end))) columns++;
 }
 
 void *__real_memcpy(void *to, const void *from, size_t bytes);
 void *__real_memmove(void *to, const void *from, size_t bytes);
 
 void *__wrap_memcpy(void *to, const void *from, size_t bytes) {
-    count(bytes, __builtin_return_address(0));
+    count(to, from, bytes, __builtin_return_address(0));
     return __real_memcpy(to, from, bytes);
 }
 
 void *__wrap_memmove(void *to, const void *from, size_t bytes) {
-    count(bytes, __builtin_return_address(0));
+    count(to, from, bytes, __builtin_return_address(0));
     return __real_memmove(to, from, bytes);
 }
 
-/* An event of the state g, which it changes: two copies at most, accepted or refused. */
-HOST static void event(const char *what, m2ua_gateway *g, uint32_t kind, const uint8_t *msg, size_t len, uint32_t refusal, size_t bytes, size_t room) {
+/* An event by both calls, accepted or refused: no copy of the state; by the event alone none of a column, with its messages those of the units' columns. */
+HOST static void event(const char *what, uint32_t kind, const uint8_t *msg, size_t len, uint32_t refusal, size_t bytes, size_t words) {
+    static uint8_t kept[M2UA_HOLD_BYTES];
     const uint8_t none = 0;
-    copies = 0;
-    m2ua_outcome r = m2ua_event(*g, kind, 0, msg ? msg : &none, len, hold, bytes, words, room);
-    unsigned made = copies;
-    if (r.refusal != refusal || made > 2 || made == 0) {
-        printf("copies-check: %s: refusal %u, %u copies of the state (expected: refusal %u, 1 or 2 copies)\n", what, r.refusal, made, refusal);
-        failures++;
-    }
-    *g = r.gateway;
+    const m2ua_gateway before = g;
+    memcpy(kept, hold, sizeof hold);
+    copies = columns = 0;
+    const m2ua_done d = m2ua_event(&g, kind, 0, msg ? msg : &none, len, hold, bytes, room.words, words);
+    const unsigned alone = copies + columns;
+    g = before;
+    memcpy(hold, kept, sizeof hold);
+    copies = columns = 0;
+    const m2ua_handled h = m2ua_handle(&g, kind, 0, msg ? msg : &none, len, hold, bytes, &room);
+    const uint32_t expected = refusal == M2UA_REFUSED_LIST ? 0 : refusal; /* a room has all words */
+    if (d.refusal == refusal && h.refusal == expected && alone == 0 && copies == 0 && columns <= 5) return;
+    printf("copies-check: %s: refusals %u and %u, %u copies by the event, %u of the state and %u of columns with its messages\n", what, d.refusal, h.refusal, alone, copies, columns);
+    failures++;
 }
 
 HOST int main(int argc, char **argv) {
@@ -84,16 +95,16 @@ HOST int main(int argc, char **argv) {
         {"lost", M2UA_LOST, {0}, 0},
     };
     const uint8_t confirm[40] = {1, 0, 6, 11, 0, 0, 0, 40, 0, 1, 0, 8, 0, 0, 0, 100, 3, 6, 0, 8, 0, 0, 0, 1, 3, 7, 0, 8, 0, 0, 0, 128, 3, 8, 0, 8, 0, 0, 0, 0};
-    m2ua_gateway g = m2ua_load(file, sizeof file).gateway;
+    g = m2ua_load(file, sizeof file).gateway;
     for (size_t k = 0; k < sizeof events / sizeof *events; k++) {
-        event(events[k].what, &g, events[k].kind, events[k].len ? events[k].msg : NULL, events[k].len, 0, sizeof hold, M2UA_LIST_WORDS);
+        event(events[k].what, events[k].kind, events[k].len ? events[k].msg : NULL, events[k].len, 0, sizeof hold, M2UA_LIST_WORDS);
     }
-    event("a list of 1,543 words", &g, M2UA_LOST, NULL, 0, 101, sizeof hold, M2UA_LIST_WORDS - 1);
-    event("a hold of 34,943 bytes", &g, M2UA_LOST, NULL, 0, 106, sizeof hold - 1, M2UA_LIST_WORDS);
-    event("a Retrieval Confirm that the link cannot have", &g, M2UA_LINK_MESSAGE, confirm, sizeof confirm, 102, sizeof hold, M2UA_LIST_WORDS);
-    event("a kind that there is not", &g, 6, NULL, 0, 102, sizeof hold, M2UA_LIST_WORDS);
+    event("a list of 1,543 words", M2UA_LOST, NULL, 0, 101, sizeof hold, M2UA_LIST_WORDS - 1);
+    event("a hold of 34,943 bytes", M2UA_LOST, NULL, 0, 106, sizeof hold - 1, M2UA_LIST_WORDS);
+    event("a Retrieval Confirm that the link cannot have", M2UA_LINK_MESSAGE, confirm, sizeof confirm, 102, sizeof hold, M2UA_LIST_WORDS);
+    event("a kind that there is not", 6, NULL, 0, 102, sizeof hold, M2UA_LIST_WORDS);
     g.asps = 0;
-    event("an unsound state", &g, M2UA_LOST, NULL, 0, 105, sizeof hold, M2UA_LIST_WORDS);
-    printf("copies of the state: %s\n", failures ? "FAILED" : "at most two in every event, accepted or refused");
+    event("an unsound state", M2UA_LOST, NULL, 0, 105, sizeof hold, M2UA_LIST_WORDS);
+    printf("copies of the state: %s\n", failures ? "FAILED" : "0 in every event, accepted or refused, with its messages and without");
     return failures != 0;
 }

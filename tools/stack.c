@@ -11,11 +11,14 @@ static ucontext_t outside, inside;
 static m2ua_gateway state;
 static const uint8_t *msg;
 static size_t len, place, at;
-static uint32_t kind, words[M2UA_LIST_WORDS];
-static uint8_t out[65536], hold[M2UA_HOLD_BYTES];
+static uint32_t kind;
+static uint8_t out[65536], hold[M2UA_HOLD_BYTES], kept[M2UA_HOLD_BYTES];
+static m2ua_room room;
 static m2ua_reading reading;
 static m2ua_written written;
 static m2ua_loaded loaded;
+static m2ua_done done;
+static m2ua_handled handled;
 static m2ua_outcome outcome;
 static m2ua_batch batch;
 static m2ua_answer answer;
@@ -26,13 +29,15 @@ static uint32_t sound, lens[M2UA_MAX_ORDERS];
 static void nothing(void) {}
 static void do_read(void) { reading = m2ua_read(msg, len); }
 static void do_load(void) { loaded = m2ua_load(msg, len); }
-static void do_sound(void) { sound = m2ua_is_sound(state); }
-static void do_event(void) { outcome = m2ua_event(state, kind, place, msg, len, hold, sizeof hold, words, M2UA_LIST_WORDS); }
-static void do_order(void) { written = m2ua_order(state, kind, place, msg, len, hold, sizeof hold, at, out, sizeof out); }
-static void do_orders(void) { batch = m2ua_orders(state, kind, place, msg, len, hold, sizeof hold, 0, lens, M2UA_MAX_ORDERS, out, sizeof out); }
-static void do_waits(void) { timers = m2ua_waits(state, loaded.gateway); }
-static void do_place(void) { answer = m2ua_link_place(state, 127); }
-static void do_state(void) { answer = m2ua_as_state(state, 15); }
+static void do_sound(void) { sound = m2ua_is_sound(&state); }
+static void do_event(void) { done = m2ua_event(&state, kind, place, msg, len, hold, sizeof hold, room.words, M2UA_LIST_WORDS); }
+static void do_handle(void) { handled = m2ua_handle(&state, kind, place, msg, len, hold, sizeof hold, &room); }
+static void do_by_value(void) { outcome = m2ua_event_by_value(state, kind, place, msg, len, hold, sizeof hold, room.words, M2UA_LIST_WORDS); }
+static void do_order(void) { written = m2ua_order(&state, kind, place, msg, len, hold, sizeof hold, at, out, sizeof out); }
+static void do_orders(void) { batch = m2ua_orders(&state, kind, place, msg, len, hold, sizeof hold, 0, lens, M2UA_MAX_ORDERS, out, sizeof out); }
+static void do_waits(void) { timers = m2ua_waits(state.waiting, &loaded.gateway); }
+static void do_place(void) { answer = m2ua_link_place(&state, 127); }
+static void do_state(void) { answer = m2ua_as_state(&state, 15); }
 static void do_parameter(void) { found = m2ua_parameter(msg, len, M2UA_TAG_INFO); }
 static void do_write(void) {
     const uint16_t tag = M2UA_TAG_HEARTBEAT;
@@ -57,8 +62,29 @@ static int worst;
 static void measure(const char *what, void (*f)(void)) {
     depth(f); /* a first call through the linker's table goes deeper */
     size_t d = depth(f) - depth(nothing);
-    printf("%-28s %5zu bytes of stack\n", what, d);
+    printf("%-44s %5zu bytes of stack\n", what, d);
     if (d > M2UA_STACK) worst = 1;
+}
+
+/* An event by each of its calls, from the same state and hold; the last one is kept. */
+static void measure_event(const char *what) {
+    static void (*const calls[3])(void) = {do_by_value, do_event, do_handle};
+    static const char *const names[3] = {"m2ua_event_by_value", "m2ua_event", "m2ua_handle"};
+    char line[64];
+    for (int i = 0; i < 3; i++) {
+        const m2ua_gateway before = state;
+        size_t most = 0;
+        memcpy(kept, hold, sizeof hold);
+        for (int again = 0; again < 2; again++) { /* a first call through the linker's table goes deeper */
+            state = before;
+            memcpy(hold, kept, sizeof hold);
+            most = depth(calls[i]) - depth(nothing);
+        }
+        if (most > M2UA_STACK) worst = 1;
+        snprintf(line, sizeof line, "%s, %s", names[i], what);
+        printf("%-44s %5zu bytes of stack\n", line, most);
+        if (i < 2) state = before, memcpy(hold, kept, sizeof hold);
+    }
 }
 
 /* 16 ASPs, members of 16 ASes in broadcast, with 8 links each: an Active where every AS holds 8 units, and which names all links and one that there is not, has the most orders. */
@@ -84,13 +110,11 @@ static void pend(void) {
     static uint8_t data[304] = {1, 0, 6, 1, 0, 0, 1, 0x30, 0, 1, 0, 8, 0, 0, 0, 0, 0, 0x13, 0, 8, 0, 0, 0, 5, 3, 0, 1, 0x15};
     place = 0, msg = inactive, len = sizeof inactive;
     do_event();
-    state = outcome.gateway;
     kind = M2UA_LINK_MESSAGE, msg = data, len = sizeof data;
     for (int i = 0; i < 128; i++) {
         data[15] = (uint8_t)i;
-        if (i == 0) measure("m2ua_event, Data held", do_event);
+        if (i == 0) measure_event("Data held");
         else do_event();
-        state = outcome.gateway;
     }
     kind = M2UA_MESSAGE;
 }
@@ -108,32 +132,35 @@ int main(void) {
     for (place = 0; place < 16; place++) {
         msg = up, len = sizeof up;
         do_event();
-        state = outcome.gateway;
     }
     place = 0, msg = active, len = sizeof active;
-    measure("m2ua_event, Active", do_event);
-    state = outcome.gateway;
+    measure_event("Active");
+    const m2ua_gateway on = state;
     msg = up, len = sizeof up;
-    measure("m2ua_event, Up, 258 orders", do_event);
-    if (outcome.count != 258) return printf("an Up has %zu orders\n", outcome.count), 1;
+    measure_event("Up, 258 orders");
+    if (handled.count != 258) return printf("an Up has %zu orders\n", handled.count), 1;
+    state = on;
     pend();
+    const m2ua_gateway pending = state;
     place = 0, msg = active, len = sizeof active;
-    measure("m2ua_event, 128 units out", do_event);
-    if (outcome.count != 385) return printf("an Active with 128 units has %zu orders\n", outcome.count), 1;
-    msg = list, len = sizeof list;
-    measure("m2ua_event, the same in part", do_event);
-    if (outcome.count != M2UA_MAX_ORDERS) return printf("an Active that succeeds in part has %zu orders\n", outcome.count), 1;
+    measure_event("128 units out");
+    if (handled.count != 385) return printf("an Active with 128 units has %zu orders\n", handled.count), 1;
+    state = pending, msg = list, len = sizeof list;
+    measure_event("the same in part");
+    if (handled.count != M2UA_MAX_ORDERS) return printf("an Active that succeeds in part has %zu orders\n", handled.count), 1;
+    state = pending;
     measure("m2ua_order, its Ack", do_order);
     at = 2;
     measure("m2ua_order, one of its units", do_order);
     measure("m2ua_orders, all of them", do_orders);
     if (batch.code || batch.count != M2UA_MAX_ORDERS) return printf("a batch has %zu orders\n", batch.count), 1;
-    printf("%-28s %5zu bytes to send\n", "(all its messages)", batch.length);
+    printf("%-44s %5zu bytes to send\n", "(all its messages)", batch.length);
+    if (batch.length != handled.length) return printf("one call has %zu bytes\n", handled.length), 1;
     measure("m2ua_waits", do_waits);
     measure("m2ua_link_place", do_place);
     measure("m2ua_as_state", do_state);
     kind = M2UA_LINK_MESSAGE, msg = ind, len = sizeof ind;
-    measure("m2ua_event, link side", do_event);
+    measure_event("link side");
     kind = M2UA_MESSAGE;
     memcpy(longest, (uint8_t[]){1, 0, 4, 1, 0, 0, 8, 0, 0, 8, 7, 0xf4}, 12);
     for (size_t i = 12; i + 8 <= 2044; i += 8) longest[i + 7] = longest[i + 3] = (uint8_t)(i / 8);
@@ -141,7 +168,7 @@ int main(void) {
     msg = longest, len = sizeof longest;
     measure("m2ua_read, 2,048 bytes", do_read);
     measure("m2ua_parameter, the same", do_parameter);
-    measure("m2ua_event, the same", do_event);
+    measure_event("the same");
     measure("m2ua_write, 2,016 bytes", do_write);
     if (reading.code || written.code) return printf("reading %u, writing %u\n", reading.code, written.code), 1;
     printf("stack: %s (limit %d)\n", worst ? "MORE than the header says" : "ok", M2UA_STACK);

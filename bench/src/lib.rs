@@ -2,6 +2,9 @@
 pub mod holds;
 pub mod lines;
 pub mod messages;
+#[cfg(old)]
+pub mod old;
 pub mod plans;
 pub mod proved;
 pub mod timing;
+pub mod turns;

@@ -1,7 +1,9 @@
 //! The event lines of a generated script as calls of both libraries, the proved one and the second program.
-use crate::proved::{self, Batch, Outcome, Written};
+use crate::proved::{self, Batch, Done, Handled, Written};
+use second::bytes::MAX_ORDERS;
+use second::events::LIST_WORDS;
 use second::generate::{generate, Kind};
-use second::{Event, Gateway, Next, HOLD_BYTES};
+use second::{Event, Gateway, HOLD_BYTES};
 
 #[derive(Clone, Copy, Debug, PartialEq, Eq)]
 pub enum What {
@@ -166,17 +168,25 @@ impl Call {
             .collect()
     }
 
-    /// The call of the proved library.
-    pub fn proved(&self, state: Gateway, hold: &mut [u8], list: &mut [u32]) -> Outcome {
-        let index = self.index as usize;
-        match self.what {
-            What::Message => proved::message(state, index, &self.message, hold, list),
-            What::Lost => proved::lost(state, index, hold, list),
-            What::Recovery => proved::recovery(state, index, hold, list),
-            What::LinkUp => proved::link_up(state, index, hold, list),
-            What::LinkDown => proved::link_down(state, index, hold, list),
-            What::LinkMessage => proved::link_message(state, &self.message, hold, list),
-        }
+    /// The event by the proved library, on the state where it lies.
+    #[inline(always)]
+    pub fn proved(&self, state: &mut Gateway, hold: &mut [u8], list: &mut [u32]) -> Done {
+        let (kind, index) = (self.what as u32, self.index as usize);
+        proved::event(state, kind, index, &self.message, hold, list)
+    }
+
+    /// The same with the messages of all its actions.
+    #[inline(always)]
+    pub fn handled(
+        &self,
+        state: &mut Gateway,
+        hold: &mut [u8],
+        list: &mut [u32; LIST_WORDS],
+        lens: &mut [u32; MAX_ORDERS],
+        out: &mut [u8],
+    ) -> Handled {
+        let (kind, index) = (self.what as u32, self.index as usize);
+        proved::handle(state, kind, index, &self.message, hold, list, lens, out)
     }
 
     /// One of its actions as bytes, by the proved library.
@@ -198,8 +208,9 @@ impl Call {
         proved::orders(state, kind, index, &self.message, hold, place, lens, out)
     }
 
-    /// The call of the second program.
-    pub fn second(&self, state: Gateway, hold: &mut [u8], list: &mut [u32]) -> Next {
-        state.event(self.event(), hold, list)
+    /// The event by the second program, on the state where it lies.
+    #[inline(always)]
+    pub fn second(&self, state: &mut Gateway, hold: &mut [u8], list: &mut [u32]) -> second::Done {
+        state.run(self.event(), hold, list)
     }
 }

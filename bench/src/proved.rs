@@ -1,177 +1,72 @@
-//! The proved library's entries, as libm2ua.a exports them. Nothing checks these declarations against the Rattle source: each is
-//! compared with the second program before it is timed.
+//! The proved library's entries, as the crate `m2ua` declares them, over the second program's structs: both are `repr(C)` with the same fields.
+use m2ua::sys;
+pub use m2ua::sys::{load, read, write, Batch, Done, Handled, Written};
 use second::read::Reading;
 use second::{Gateway, Loaded};
+use std::mem::{align_of, size_of, transmute};
 
-/// What a write did.
-#[repr(C)]
-#[derive(Clone, Copy, Debug, PartialEq, Eq)]
-pub struct Written {
-    pub code: u32,
-    pub length: usize,
+const _: () = assert!(size_of::<Gateway>() == size_of::<sys::Gateway>());
+const _: () = assert!(align_of::<Gateway>() == align_of::<sys::Gateway>());
+
+/// What reading gives, to be compared. (What is timed is the entry itself.)
+pub fn reading(msg: &[u8]) -> Reading {
+    // SAFETY: both structs have the same fields, all of them numbers.
+    unsafe { transmute(sys::read(msg)) }
 }
 
-/// What an event hands back.
-#[repr(C)]
-#[derive(Clone, Copy)]
-pub struct Outcome {
-    pub refusal: u32,
-    pub count: usize,
-    pub gateway: Gateway,
+/// What loading gives, to be compared.
+pub fn loaded(file: &[u8]) -> Loaded {
+    // SAFETY: as above.
+    unsafe { transmute(sys::load(file)) }
 }
 
-/// What writing several actions did.
-#[repr(C)]
-#[derive(Clone, Copy, Debug, PartialEq, Eq)]
-pub struct Batch {
-    pub code: u32,
-    pub count: usize,
-    pub length: usize,
+#[inline(always)]
+fn raw(g: &Gateway) -> &sys::Gateway {
+    // SAFETY: as above.
+    unsafe { &*(g as *const Gateway).cast() }
 }
 
-extern "C" {
-    fn m2ua_read(msg: *const u8, len: usize) -> Reading;
-    fn m2ua_write(
-        class: u8,
-        kind: u8,
-        tags: *const u16,
-        tag_count: usize,
-        lens: *const u32,
-        len_count: usize,
-        values: *const u8,
-        value_bytes: usize,
-        out: *mut u8,
-        out_bytes: usize,
-    ) -> Written;
-    fn m2ua_load(file: *const u8, len: usize) -> Loaded;
-    fn m2ua_run(
-        g: Gateway,
-        kind: u32,
-        index: usize,
-        msg: *const u8,
-        len: usize,
-        hold: *mut u8,
-        hold_bytes: usize,
-        size: usize,
-        words: *mut u32,
-        count: usize,
-    ) -> Outcome;
-    fn m2ua_is_sound(g: Gateway) -> u32;
-    fn m2ua_order(
-        g: Gateway,
-        kind: u32,
-        index: usize,
-        msg: *const u8,
-        len: usize,
-        hold: *const u8,
-        hold_bytes: usize,
-        place: usize,
-        out: *mut u8,
-        out_bytes: usize,
-    ) -> Written;
-    fn m2ua_orders(
-        g: Gateway,
-        kind: u32,
-        index: usize,
-        msg: *const u8,
-        len: usize,
-        hold: *const u8,
-        hold_bytes: usize,
-        place: usize,
-        lens: *mut u32,
-        len_count: usize,
-        out: *mut u8,
-        out_bytes: usize,
-    ) -> Batch;
+#[inline(always)]
+fn raw_mut(g: &mut Gateway) -> &mut sys::Gateway {
+    // SAFETY: as above.
+    unsafe { &mut *(g as *mut Gateway).cast() }
 }
 
-pub fn read(msg: &[u8]) -> Reading {
-    // SAFETY: the pointer and length are those of one slice, and the entry has no `requires`.
-    unsafe { m2ua_read(msg.as_ptr(), msg.len()) }
-}
-
-pub fn load(file: &[u8]) -> Loaded {
-    // SAFETY: as above; both structs are `repr(C)` with the same fields.
-    unsafe { m2ua_load(file.as_ptr(), file.len()) }
-}
-
+#[inline(always)]
 pub fn is_sound(g: &Gateway) -> bool {
-    // SAFETY: the struct is passed by value, and any bytes are a state.
-    unsafe { m2ua_is_sound(*g) == 1 }
+    sys::is_sound(raw(g))
 }
 
-pub fn write(
-    class: u8,
-    kind: u8,
-    tags: &[u16],
-    lens: &[u32],
-    values: &[u8],
+/// An event by the number of its kind (include/m2ua.h), on the state where it lies.
+#[inline(always)]
+pub fn event(
+    g: &mut Gateway,
+    kind: u32,
+    index: usize,
+    msg: &[u8],
+    hold: &mut [u8],
+    words: &mut [u32],
+) -> Done {
+    sys::event(raw_mut(g), kind, index, msg, hold, words)
+}
+
+/// The same with the messages of all its actions.
+#[allow(clippy::too_many_arguments)]
+#[inline(always)]
+pub fn handle(
+    g: &mut Gateway,
+    kind: u32,
+    index: usize,
+    msg: &[u8],
+    hold: &mut [u8],
+    words: &mut [u32; sys::LIST_WORDS],
+    lens: &mut [u32; sys::MAX_ORDERS],
     out: &mut [u8],
-) -> Written {
-    // SAFETY: each pointer and length are those of one slice, and the entry has no `requires`.
-    unsafe {
-        m2ua_write(
-            class,
-            kind,
-            tags.as_ptr(),
-            tags.len(),
-            lens.as_ptr(),
-            lens.len(),
-            values.as_ptr(),
-            values.len(),
-            out.as_mut_ptr(),
-            out.len(),
-        )
-    }
+) -> Handled {
+    sys::handle(raw_mut(g), kind, index, msg, hold, words, lens, out)
 }
 
-/// An event by the number of its kind (include/m2ua.h). A macro: a function of ours would copy the state once more.
-macro_rules! event {
-    ($g:expr, $kind:expr, $index:expr, $msg:expr, $hold:expr, $words:expr) => {{
-        let (msg, hold, words): (&[u8], &mut [u8], &mut [u32]) = ($msg, $hold, $words);
-        // SAFETY: each pointer and length are those of one slice, any bytes are a state, and the entry has no `requires`.
-        unsafe {
-            m2ua_run(
-                $g,
-                $kind,
-                $index,
-                msg.as_ptr(),
-                msg.len(),
-                hold.as_mut_ptr(),
-                hold.len(),
-                hold.len(),
-                words.as_mut_ptr(),
-                words.len(),
-            )
-        }
-    }};
-}
-
-pub fn message(g: Gateway, p: usize, msg: &[u8], hold: &mut [u8], words: &mut [u32]) -> Outcome {
-    event!(g, 0, p, msg, hold, words)
-}
-
-pub fn lost(g: Gateway, p: usize, hold: &mut [u8], words: &mut [u32]) -> Outcome {
-    event!(g, 1, p, &[], hold, words)
-}
-
-pub fn recovery(g: Gateway, a: usize, hold: &mut [u8], words: &mut [u32]) -> Outcome {
-    event!(g, 2, a, &[], hold, words)
-}
-
-pub fn link_up(g: Gateway, l: usize, hold: &mut [u8], words: &mut [u32]) -> Outcome {
-    event!(g, 3, l, &[], hold, words)
-}
-
-pub fn link_down(g: Gateway, l: usize, hold: &mut [u8], words: &mut [u32]) -> Outcome {
-    event!(g, 4, l, &[], hold, words)
-}
-
-pub fn link_message(g: Gateway, msg: &[u8], hold: &mut [u8], words: &mut [u32]) -> Outcome {
-    event!(g, 5, 0, msg, hold, words)
-}
-
-/// The action at a place of an event as bytes. The state is copied once, as the call takes it by value.
+/// The action at a place of an event that is not kept, as bytes.
 #[inline(always)]
 pub fn order(
     g: &Gateway,
@@ -182,21 +77,7 @@ pub fn order(
     place: usize,
     out: &mut [u8],
 ) -> Written {
-    // SAFETY: each pointer and length are those of one slice, any bytes are a state, and the entry has no `requires`.
-    unsafe {
-        m2ua_order(
-            *g,
-            kind,
-            index,
-            msg.as_ptr(),
-            msg.len(),
-            hold.as_ptr(),
-            hold.len(),
-            place,
-            out.as_mut_ptr(),
-            out.len(),
-        )
-    }
+    sys::order(raw(g), kind, index, msg, hold, place, out)
 }
 
 /// As many of them as go in, from a place on.
@@ -212,21 +93,5 @@ pub fn orders(
     lens: &mut [u32],
     out: &mut [u8],
 ) -> Batch {
-    // SAFETY: as above.
-    unsafe {
-        m2ua_orders(
-            *g,
-            kind,
-            index,
-            msg.as_ptr(),
-            msg.len(),
-            hold.as_ptr(),
-            hold.len(),
-            place,
-            lens.as_mut_ptr(),
-            lens.len(),
-            out.as_mut_ptr(),
-            out.len(),
-        )
-    }
+    sys::orders(raw(g), kind, index, msg, hold, place, lens, out)
 }

@@ -64,37 +64,56 @@ static m2ua_loaded plan_s(size_t len) { return plan_of(0, 0, len); }
 
 static uint32_t words[M2UA_LIST_WORDS];
 static uint8_t hold[M2UA_HOLD_BYTES];
+static m2ua_room room;
+static const uint8_t none[1];
 
-/* An event was accepted with these orders, four words each. */
-static m2ua_gateway orders(const char *what, m2ua_outcome r, size_t count, const uint32_t *expected) {
-    expect(what, r.refusal, 0);
-    expect(what, (uint32_t)r.count, (uint32_t)count);
-    for (size_t i = 0; i < 4 * count; i++) expect(what, words[i], expected[i]);
-    return r.gateway;
+/* An event was accepted with these orders, four words each; all their messages read and are as long as is said. */
+static void orders(const char *what, m2ua_handled h, size_t count, const uint32_t *expected) {
+    size_t at = 0;
+    expect(what, h.refusal, 0);
+    expect(what, (uint32_t)h.count, (uint32_t)count);
+    for (size_t i = 0; i < 4 * count; i++) expect(what, room.words[i], expected[i]);
+    for (size_t j = 0; j < h.count; at += room.lens[j++]) {
+        if (room.words[4 * j] == M2UA_LINK_SIDE) expect(what, room.lens[j], 0);
+        else expect(what, m2ua_read(room.bytes + at, room.lens[j]).code, 0);
+    }
+    expect(what, (uint32_t)h.length, (uint32_t)at);
+}
+
+/* The timers that the last event starts and stops, AS a as bit a. */
+static void timers(const char *what, uint32_t began, uint32_t ended) {
+    uint32_t starts = 0, stops = 0;
+    for (unsigned a = 0; a < M2UA_MAX_ASES; a++) starts |= (uint32_t)room.timers.began[a] << a, stops |= (uint32_t)room.timers.ended[a] << a;
+    expect(what, starts, began);
+    expect(what, stops, ended);
 }
 
 static void events(m2ua_gateway g) {
     const uint8_t up[8] = {1, 0, 3, 1, 0, 0, 0, 8};
     const uint8_t establish[16] = {1, 0, 6, 2, 0, 0, 0, 16, 0, 1, 0, 8, 0, 0, 0, 100};
     const uint8_t indication[24] = {1, 0, 6, 9, 0, 0, 0, 24, 0, 1, 0, 8, 0, 0, 0, 100, 3, 3, 0, 8, 0, 0, 0, 1};
-    expect("refusal with 1,543 words", m2ua_message(g, 0, up, sizeof up, hold, sizeof hold, words, M2UA_LIST_WORDS - 1).refusal, 101);
-    expect("refusal with a hold of 34,943 bytes", m2ua_message(g, 0, up, sizeof up, hold, sizeof hold - 1, words, M2UA_LIST_WORDS - 1).refusal, 106);
-    g = orders("Up of ASP 0", m2ua_message(g, 0, up, sizeof up, hold, sizeof hold, words, M2UA_LIST_WORDS), 2, (uint32_t[]){0, 772, 0, 0, 0, 1, 0, 65538});
+    expect("refusal with 1,543 words", m2ua_event(&g, M2UA_MESSAGE, 0, up, sizeof up, hold, sizeof hold, words, M2UA_LIST_WORDS - 1).refusal, 101);
+    expect("refusal with a hold of 34,943 bytes", m2ua_event(&g, M2UA_MESSAGE, 0, up, sizeof up, hold, sizeof hold - 1, words, M2UA_LIST_WORDS - 1).refusal, 106);
+    orders("Up of ASP 0", m2ua_message(&g, 0, up, sizeof up, hold, sizeof hold, &room), 2, (uint32_t[]){0, 772, 0, 0, 0, 1, 0, 65538});
     expect("ASP 0 is up", g.up[0], 1);
-    g = orders("M of ASP 0", m2ua_message(g, 0, m, sizeof m, hold, sizeof hold, words, M2UA_LIST_WORDS), 2, (uint32_t[]){0, 1027, 0, 0, 0, 1, 0, 65539});
-    g = orders("Up of ASP 1", m2ua_message(g, 1, up, sizeof up, hold, sizeof hold, words, M2UA_LIST_WORDS), 1, (uint32_t[]){1, 772, 0, 0});
-    g = orders("Establish", m2ua_message(g, 0, establish, sizeof establish, hold, sizeof hold, words, M2UA_LIST_WORDS), 1, (uint32_t[]){255, 1538, 100, 0});
-    g = orders("link up", m2ua_link_up(g, 0, hold, sizeof hold, words, M2UA_LIST_WORDS), 1, (uint32_t[]){0, 1539, 100, 0});
+    orders("M of ASP 0", m2ua_message(&g, 0, m, sizeof m, hold, sizeof hold, &room), 2, (uint32_t[]){0, 1027, 0, 0, 0, 1, 0, 65539});
+    orders("Up of ASP 1", m2ua_message(&g, 1, up, sizeof up, hold, sizeof hold, &room), 1, (uint32_t[]){1, 772, 0, 0});
+    orders("Establish", m2ua_message(&g, 0, establish, sizeof establish, hold, sizeof hold, &room), 1, (uint32_t[]){255, 1538, 100, 0});
+    orders("link up", m2ua_link_up(&g, 0, hold, sizeof hold, &room), 1, (uint32_t[]){0, 1539, 100, 0});
     expect("the link is in service", g.state[0], 2);
-    g = orders("State Indication", m2ua_link_message(g, indication, sizeof indication, hold, sizeof hold, words, M2UA_LIST_WORDS), 1, (uint32_t[]){0, 1545, 100, 0});
-    g = orders("link down", m2ua_link_down(g, 0, hold, sizeof hold, words, M2UA_LIST_WORDS), 1, (uint32_t[]){0, 1542, 100, 0});
+    orders("State Indication", m2ua_link_message(&g, indication, sizeof indication, hold, sizeof hold, &room), 1, (uint32_t[]){0, 1545, 100, 0});
+    orders("link down", m2ua_link_down(&g, 0, hold, sizeof hold, &room), 1, (uint32_t[]){0, 1542, 100, 0});
     expect("the link is idle", g.state[0], 0);
-    g = orders("association of ASP 0 lost", m2ua_lost(g, 0, hold, sizeof hold, words, M2UA_LIST_WORDS), 1, (uint32_t[]){1, 1, 0, 65540});
+    orders("association of ASP 0 lost", m2ua_lost(&g, 0, hold, sizeof hold, &room), 1, (uint32_t[]){1, 1, 0, 65540});
     expect("AS 0 waits", g.waiting[0], 1);
-    g = orders("recovery of AS 0 over", m2ua_recovery(g, 0, hold, sizeof hold, words, M2UA_LIST_WORDS), 1, (uint32_t[]){1, 1, 0, 65538});
+    timers("its timer starts", 1, 0);
+    expect("a refused event", m2ua_lost(&g, 3, hold, sizeof hold, &room).refusal, 102);
+    timers("and no timer", 0, 0);
+    orders("recovery of AS 0 over", m2ua_recovery(&g, 0, hold, sizeof hold, &room), 1, (uint32_t[]){1, 1, 0, 65538});
     expect("AS 0 waits no longer", g.waiting[0], 0);
-    expect("a kind that there is not", m2ua_event(g, 6, 0, up, sizeof up, hold, sizeof hold, words, M2UA_LIST_WORDS).refusal, 102);
-    expect("a link beyond the plan", m2ua_link_up(g, 17, hold, sizeof hold, words, M2UA_LIST_WORDS).refusal, 102);
+    timers("its timer stops", 0, 1);
+    expect("a kind that there is not", m2ua_handle(&g, 6, 0, up, sizeof up, hold, sizeof hold, &room).refusal, 102);
+    expect("a link beyond the plan", m2ua_link_up(&g, 17, hold, sizeof hold, &room).refusal, 102);
 }
 
 /* ---- Actions as bytes */
@@ -111,38 +130,48 @@ static void sent(const char *what, m2ua_written w, m2ua_batch b, size_t len, con
     expect(what, m2ua_read(out, w.length).code, 0);
 }
 
-/* What a host does with an event: run it, then write and send what it gives, as much at once as goes into the buffer. Here each message is printed. */
-static m2ua_gateway send_all(m2ua_gateway g, size_t asp, const uint8_t *msg, size_t len) {
-    m2ua_outcome r = m2ua_message(g, asp, msg, len, hold, sizeof hold, words, M2UA_LIST_WORDS);
-    m2ua_batch b;
-    for (size_t place = 0; place < r.count; place += b.count) {
-        b = m2ua_message_orders(g, asp, msg, len, hold, sizeof hold, place, lens, 4, out, sizeof out);
-        expect("code of a batch", b.code, 0);
-        if (b.code) break;
-        const uint8_t *message = out;
-        for (size_t j = 0; j < b.count; message += lens[j++]) {
-            if (lens[j] == 0) continue; /* to the link side */
-            printf("to ASP %u: ", words[4 * (place + j)]);
-            for (size_t i = 0; i < lens[j]; i++) printf("%02x", message[i]);
-            printf("\n");
-        }
+/* What a host does with an event: one call, then it sends what the room has. Here each message is printed. */
+static void send_all(m2ua_gateway *g, size_t asp, const uint8_t *msg, size_t len) {
+    const m2ua_handled h = m2ua_message(g, asp, msg, len, hold, sizeof hold, &room);
+    const uint8_t *message = room.bytes;
+    for (size_t j = 0; j < h.count; message += room.lens[j++]) {
+        if (room.words[4 * j] == M2UA_LINK_SIDE) continue;
+        printf("to ASP %u: ", room.words[4 * j]);
+        for (size_t i = 0; i < room.lens[j]; i++) printf("%02x", message[i]);
+        printf("\n");
     }
-    return r.gateway;
+}
+
+/* An event as words alone is that of the one call, and so it is by value, where the state stays. */
+static void same(const m2ua_gateway *g, size_t asp, const uint8_t *msg, size_t len) {
+    static uint8_t before[M2UA_HOLD_BYTES];
+    m2ua_gateway by_call = *g, alone = *g;
+    memcpy(before, hold, sizeof hold);
+    const m2ua_handled h = m2ua_message(&by_call, asp, msg, len, hold, sizeof hold, &room);
+    const m2ua_done d = m2ua_event(&alone, M2UA_MESSAGE, asp, msg, len, before, sizeof before, words, M2UA_LIST_WORDS);
+    expect("an event as words alone", d.refusal == h.refusal && d.count == h.count && memcmp(&alone, &by_call, sizeof alone) == 0, 1);
+    expect("its words", memcmp(words, room.words, 4 * 4 * h.count), 0);
+    const m2ua_gateway kept = *g;
+    const m2ua_outcome v = m2ua_event_by_value(*g, M2UA_MESSAGE, asp, msg, len, hold, sizeof hold, words, M2UA_LIST_WORDS);
+    expect("an event by value", v.refusal == h.refusal && v.count == h.count && memcmp(&v.gateway, &by_call, sizeof by_call) == 0, 1);
+    expect("the state that was given", memcmp(g, &kept, sizeof kept), 0);
+    const m2ua_timers t = m2ua_waits(g->waiting, &by_call);
+    expect("its timers", memcmp(&t, &room.timers, sizeof t), 0);
 }
 
 static void refusals(m2ua_gateway g, const uint8_t *up) {
     memset(out, 0xaa, 16);
-    expect("an action beyond the last", m2ua_message_order(g, 0, up, 8, hold, sizeof hold, 2, out, 16).code, 104);
-    expect("an Up Ack in 7 bytes", m2ua_message_order(g, 0, up, 8, hold, sizeof hold, 0, out, 7).code, 103);
-    expect("an action of an ASP beyond the plan", m2ua_message_order(g, 3, up, 8, hold, sizeof hold, 0, out, 16).code, 102);
-    expect("a batch with no length", m2ua_message_orders(g, 0, up, 8, hold, sizeof hold, 0, lens, 0, out, 16).code, 103);
-    m2ua_batch b = m2ua_message_orders(g, 0, up, 8, hold, sizeof hold, 2, lens, 4, out, 16);
+    expect("an action beyond the last", m2ua_order(&g, M2UA_MESSAGE, 0, up, 8, hold, sizeof hold, 2, out, 16).code, 104);
+    expect("an Up Ack in 7 bytes", m2ua_order(&g, M2UA_MESSAGE, 0, up, 8, hold, sizeof hold, 0, out, 7).code, 103);
+    expect("an action of an ASP beyond the plan", m2ua_order(&g, M2UA_MESSAGE, 3, up, 8, hold, sizeof hold, 0, out, 16).code, 102);
+    expect("a batch with no length", m2ua_orders(&g, M2UA_MESSAGE, 0, up, 8, hold, sizeof hold, 0, lens, 0, out, 16).code, 103);
+    m2ua_batch b = m2ua_orders(&g, M2UA_MESSAGE, 0, up, 8, hold, sizeof hold, 2, lens, 4, out, 16);
     expect("a batch beyond the last", b.code == 104 && b.count == 0 && b.length == 0, 1);
     g.up[0] = 2;
-    expect("an action where the state is not sound", m2ua_message_order(g, 0, up, 8, hold, sizeof hold, 0, out, 16).code, 105);
+    expect("an action where the state is not sound", m2ua_order(&g, M2UA_MESSAGE, 0, up, 8, hold, sizeof hold, 0, out, 16).code, 105);
     for (size_t i = 0; i < 16; i++) expect("a byte of a refused call", out[i], 0xaa);
     g.up[0] = 0;
-    expect("an Up Ack", (uint32_t)m2ua_message_order(g, 0, up, 8, hold, sizeof hold, 0, out, 16).length, 8);
+    expect("an Up Ack", (uint32_t)m2ua_order(&g, M2UA_MESSAGE, 0, up, 8, hold, sizeof hold, 0, out, 16).length, 8);
     expect("the byte behind it", out[8], 0xaa);
 }
 
@@ -166,22 +195,23 @@ static void bytes(m2ua_gateway g) {
     const uint8_t passed[24] = {1, 0, 6, 1, 0, 0, 0, 24, 0, 1, 0, 8, 0, 0, 0, 100, 3, 0, 0, 5, 0x55, 0, 0, 0};
     uint8_t *second = out + 1024;
     refusals(g, up);
-    g = m2ua_message(g, 0, up, 8, hold, sizeof hold, words, M2UA_LIST_WORDS).gateway;
-    g = m2ua_message(g, 0, m, sizeof m, hold, sizeof hold, words, M2UA_LIST_WORDS).gateway;
-    g = m2ua_message(g, 1, up, 8, hold, sizeof hold, words, M2UA_LIST_WORDS).gateway;
-    sent("Notify to ASP 0, taken over", m2ua_message_order(g, 1, active, 8, hold, sizeof hold, 1, out, 1024), m2ua_message_orders(g, 1, active, 8, hold, sizeof hold, 1, lens, 4, second, 1024), 84, notify(2, 2));
-    g = send_all(g, 1, active, 8);
-    expect("an action to the link side", m2ua_message_order(g, 1, establish, 16, hold, sizeof hold, 0, out, 1024).code, 104);
-    m2ua_batch b = m2ua_message_orders(g, 1, establish, 16, hold, sizeof hold, 0, lens, 4, second, 0);
+    m2ua_message(&g, 0, up, 8, hold, sizeof hold, &room);
+    m2ua_message(&g, 0, m, sizeof m, hold, sizeof hold, &room);
+    m2ua_message(&g, 1, up, 8, hold, sizeof hold, &room);
+    sent("Notify to ASP 0, taken over", m2ua_order(&g, M2UA_MESSAGE, 1, active, 8, hold, sizeof hold, 1, out, 1024), m2ua_orders(&g, M2UA_MESSAGE, 1, active, 8, hold, sizeof hold, 1, lens, 4, second, 1024), 84, notify(2, 2));
+    same(&g, 1, active, 8);
+    send_all(&g, 1, active, 8);
+    expect("an action to the link side", m2ua_order(&g, M2UA_MESSAGE, 1, establish, 16, hold, sizeof hold, 0, out, 1024).code, 104);
+    m2ua_batch b = m2ua_orders(&g, M2UA_MESSAGE, 1, establish, 16, hold, sizeof hold, 0, lens, 4, second, 0);
     expect("a batch of it", b.code == 0 && b.count == 1 && b.length == 0 && lens[0] == 0, 1);
-    g = m2ua_message(g, 1, establish, 16, hold, sizeof hold, words, M2UA_LIST_WORDS).gateway;
-    sent("Establish Confirm", m2ua_link_up_order(g, 0, hold, sizeof hold, 0, out, 1024), m2ua_link_up_orders(g, 0, hold, sizeof hold, 0, lens, 4, second, 1024), 16, confirm);
-    g = m2ua_link_up(g, 0, hold, sizeof hold, words, M2UA_LIST_WORDS).gateway;
-    sent("Data passed on", m2ua_link_message_order(g, data, 24, hold, sizeof hold, 0, out, 1024), m2ua_link_message_orders(g, data, 24, hold, sizeof hold, 0, lens, 4, second, 1024), 24, passed);
-    sent("Release Indication", m2ua_link_down_order(g, 0, hold, sizeof hold, 0, out, 1024), m2ua_link_down_orders(g, 0, hold, sizeof hold, 0, lens, 4, second, 1024), 16, released);
-    sent("Notify, pending", m2ua_lost_order(g, 1, hold, sizeof hold, 0, out, 1024), m2ua_lost_orders(g, 1, hold, sizeof hold, 0, lens, 4, second, 1024), 84, notify(1, 4));
-    g = m2ua_lost(g, 1, hold, sizeof hold, words, M2UA_LIST_WORDS).gateway;
-    sent("Notify, inactive", m2ua_recovery_order(g, 0, hold, sizeof hold, 0, out, 1024), m2ua_recovery_orders(g, 0, hold, sizeof hold, 0, lens, 4, second, 1024), 84, notify(1, 2));
+    m2ua_message(&g, 1, establish, 16, hold, sizeof hold, &room);
+    sent("Establish Confirm", m2ua_order(&g, M2UA_LINK_UP, 0, none, 0, hold, sizeof hold, 0, out, 1024), m2ua_orders(&g, M2UA_LINK_UP, 0, none, 0, hold, sizeof hold, 0, lens, 4, second, 1024), 16, confirm);
+    m2ua_link_up(&g, 0, hold, sizeof hold, &room);
+    sent("Data passed on", m2ua_order(&g, M2UA_LINK_MESSAGE, 0, data, 24, hold, sizeof hold, 0, out, 1024), m2ua_orders(&g, M2UA_LINK_MESSAGE, 0, data, 24, hold, sizeof hold, 0, lens, 4, second, 1024), 24, passed);
+    sent("Release Indication", m2ua_order(&g, M2UA_LINK_DOWN, 0, none, 0, hold, sizeof hold, 0, out, 1024), m2ua_orders(&g, M2UA_LINK_DOWN, 0, none, 0, hold, sizeof hold, 0, lens, 4, second, 1024), 16, released);
+    sent("Notify, pending", m2ua_order(&g, M2UA_LOST, 1, none, 0, hold, sizeof hold, 0, out, 1024), m2ua_orders(&g, M2UA_LOST, 1, none, 0, hold, sizeof hold, 0, lens, 4, second, 1024), 84, notify(1, 4));
+    m2ua_lost(&g, 1, hold, sizeof hold, &room);
+    sent("Notify, inactive", m2ua_order(&g, M2UA_RECOVERY, 0, none, 0, hold, sizeof hold, 0, out, 1024), m2ua_orders(&g, M2UA_RECOVERY, 0, none, 0, hold, sizeof hold, 0, lens, 4, second, 1024), 84, notify(1, 2));
 }
 
 /* ---- Units held */
@@ -202,10 +232,10 @@ static void held(m2ua_gateway g) {
     /* row order: the correlation id behind the data */
     uint8_t passed[32] = {1, 0, 6, 1, 0, 0, 0, 32, 0, 1, 0, 8, 0, 0, 0, 0, 3, 0, 0, 5, 0, 0, 0, 0, 0, 0x13, 0, 8, 0, 0, 0, 9};
     memset(hold, 0xee, sizeof hold);
-    g = m2ua_message(g, 0, up, 8, hold, sizeof hold, words, M2UA_LIST_WORDS).gateway;
-    g = m2ua_message(g, 0, active, 8, hold, sizeof hold, words, M2UA_LIST_WORDS).gateway;
-    g = m2ua_message(g, 0, inactive, 8, hold, sizeof hold, words, M2UA_LIST_WORDS).gateway;
-    for (uint8_t k = 0; k < 9; k++) g = orders("a unit for AS 0", m2ua_link_message(g, unit(100 + k, k), 32, hold, sizeof hold, words, M2UA_LIST_WORDS), 0, words);
+    m2ua_message(&g, 0, up, 8, hold, sizeof hold, &room);
+    m2ua_message(&g, 0, active, 8, hold, sizeof hold, &room);
+    m2ua_message(&g, 0, inactive, 8, hold, sizeof hold, &room);
+    for (uint8_t k = 0; k < 9; k++) orders("a unit for AS 0", m2ua_link_message(&g, unit(100 + k, k), 32, hold, sizeof hold, &room), 0, words);
     expect("units held", g.held.count[0], M2UA_HELD_MOST);
     for (unsigned k = 0; k < 8; k++) {
         expect("the link of a unit", g.held.id[k], 100 + k);
@@ -214,19 +244,45 @@ static void held(m2ua_gateway g) {
         expect("the byte behind it", hold[m2ua_hold_at(0, k) + 1], 0xee);
     }
     expect("the hold of AS 1", hold[m2ua_hold_at(1, 0)], 0xee);
-    expect("an action of a short hold", m2ua_message_order(g, 0, active, 8, hold, sizeof hold - 1, 0, out, 1024).code, 106);
-    expect("a batch of a long one", m2ua_orders(g, M2UA_MESSAGE, 0, active, 8, longer, sizeof longer, 0, lens, 4, out, 1024).code, 106);
+    expect("an action of a short hold", m2ua_order(&g, M2UA_MESSAGE, 0, active, 8, hold, sizeof hold - 1, 0, out, 1024).code, 106);
+    expect("a batch of a long one", m2ua_orders(&g, M2UA_MESSAGE, 0, active, 8, longer, sizeof longer, 0, lens, 4, out, 1024).code, 106);
     for (uint8_t k = 0; k < 8; k++) {
         passed[15] = 100 + k;
         passed[20] = k;
-        sent("a unit from the hold", m2ua_message_order(g, 0, active, 8, hold, sizeof hold, 1 + k, out, 1024),
-             m2ua_message_orders(g, 0, active, 8, hold, sizeof hold, 1 + k, lens, 1, out + 1024, 1024), 32, passed);
+        sent("a unit from the hold", m2ua_order(&g, M2UA_MESSAGE, 0, active, 8, hold, sizeof hold, 1 + k, out, 1024),
+             m2ua_orders(&g, M2UA_MESSAGE, 0, active, 8, hold, sizeof hold, 1 + k, lens, 1, out + 1024, 1024), 32, passed);
     }
-    g = m2ua_message(g, 0, active, 8, hold, sizeof hold, words, M2UA_LIST_WORDS).gateway;
-    expect("the second order", words[5] == M2UA_ORDER_DATA && words[6] == 100, 1);
-    expect("the last order", words[37] == M2UA_ORDER_NOTIFY && words[39] == M2UA_STATUS_AS_ACTIVE, 1);
+    m2ua_message(&g, 0, active, 8, hold, sizeof hold, &room);
+    expect("the second order", room.words[5] == M2UA_ORDER_DATA && room.words[6] == 100, 1);
+    expect("the last order", room.words[37] == M2UA_ORDER_NOTIFY && room.words[39] == M2UA_STATUS_AS_ACTIVE, 1);
     expect("units held by an active AS", g.held.count[0], 0);
     expect("its byte stays", hold[m2ua_hold_at(0, 7)], 7);
+}
+
+/* AS 0 is pending and a unit comes, but the hold that is lent is short: 106, by both calls, and every byte of the state, the hold and what is lent for orders as it was. A state never says
+ * that there is a unit whose bytes nobody wrote. */
+static void lent_short(m2ua_gateway g) {
+    static m2ua_room kept_room;
+    static uint8_t kept_hold[M2UA_HOLD_BYTES];
+    const uint8_t up[8] = {1, 0, 3, 1, 0, 0, 0, 8}, active[8] = {1, 0, 4, 1, 0, 0, 0, 8}, inactive[8] = {1, 0, 4, 2, 0, 0, 0, 8};
+    m2ua_message(&g, 0, up, 8, hold, sizeof hold, &room);
+    m2ua_message(&g, 0, active, 8, hold, sizeof hold, &room);
+    m2ua_message(&g, 0, inactive, 8, hold, sizeof hold, &room);
+    expect("AS 0 is pending", m2ua_as_state(&g, 0).value, M2UA_AS_PENDING);
+    const m2ua_gateway kept = g;
+    memset(hold, 0xd7, sizeof hold), memset(kept_hold, 0xd7, sizeof kept_hold);
+    memset(&room, 0x35, sizeof room), memset(&kept_room, 0x35, sizeof kept_room);
+    memset(&room.timers, 0, sizeof room.timers), memset(&kept_room.timers, 0, sizeof room.timers);
+    for (size_t lent = 0; lent < M2UA_HOLD_BYTES; lent += 4993) {
+        const m2ua_done d = m2ua_event(&g, M2UA_LINK_MESSAGE, 0, unit(100, 1), 32, hold, lent, room.words, M2UA_LIST_WORDS);
+        const m2ua_handled h = m2ua_link_message(&g, unit(100, 1), 32, hold, lent, &room);
+        expect("a unit without a hold", d.refusal == 106 && d.count == 0 && h.refusal == 106 && h.count == 0 && h.length == 0, 1);
+        expect("the state is as it was", memcmp(&g, &kept, sizeof g), 0);
+        expect("the hold is as it was", memcmp(hold, kept_hold, sizeof hold), 0);
+        expect("the room is as it was", memcmp(&room, &kept_room, sizeof room), 0);
+    }
+    m2ua_link_message(&g, unit(100, 1), 32, hold, sizeof hold, &room);
+    expect("a unit with the hold", g.held.count[0] == 1 && hold[0] == 1 && memcmp(&room, &kept_room, sizeof room) == 0, 1);
 }
 
 /* ---- Sequence numbers */
@@ -266,26 +322,26 @@ static void sequences(m2ua_gateway g) {
     const uint8_t error17[16] = {1, 0, 0, 0, 0, 0, 0, 16, 0, 0xc, 0, 8, 0, 0, 0, 17};
     for (size_t l = 0; l < M2UA_MAX_LINKS; l++) expect("the kind of a link", g.highspeed[l], l == 16);
     for (size_t p = 0; p < 3; p += 2) {
-        g = m2ua_message(g, p, up, 8, hold, sizeof hold, words, M2UA_LIST_WORDS).gateway;
-        g = m2ua_message(g, p, active, 8, hold, sizeof hold, words, M2UA_LIST_WORDS).gateway;
+        m2ua_message(&g, p, up, 8, hold, sizeof hold, &room);
+        m2ua_message(&g, p, active, 8, hold, sizeof hold, &room);
     }
-    g = orders("a high-speed link and 4,095", m2ua_message(g, 2, request(200, 4095), 32, hold, sizeof hold, words, M2UA_LIST_WORDS), 1, (uint32_t[]){255, 1546, 200, 2});
-    g = orders("a plain link and 127", m2ua_message(g, 0, request(100, 127), 32, hold, sizeof hold, words, M2UA_LIST_WORDS), 1, (uint32_t[]){255, 1546, 100, 2});
-    g = orders("a plain link and 128", m2ua_message(g, 0, request(100, 128), 32, hold, sizeof hold, words, M2UA_LIST_WORDS), 1, (uint32_t[]){0, 0, 0, 17});
-    sent("Error 17", m2ua_message_order(g, 0, request(100, 128), 32, hold, sizeof hold, 0, out, 1024),
-         m2ua_message_orders(g, 0, request(100, 128), 32, hold, sizeof hold, 0, lens, 4, out + 1024, 1024), 16, error17);
-    g = orders("an ASP that is down, before its number", m2ua_message(g, 1, request(100, 128), 32, hold, sizeof hold, words, M2UA_LIST_WORDS), 1, (uint32_t[]){1, 0, 0, 6});
-    g = orders("BSN 4,095 of a high-speed link", m2ua_link_message(g, confirm(200, 4095), 40, hold, sizeof hold, words, M2UA_LIST_WORDS), 1, (uint32_t[]){2, 1547, 200, 0});
-    sent("it is passed on", m2ua_link_message_order(g, confirm(200, 4095), 40, hold, sizeof hold, 0, out, 1024),
-         m2ua_link_message_orders(g, confirm(200, 4095), 40, hold, sizeof hold, 0, lens, 4, out + 1024, 1024), 40, confirm(200, 4095));
-    g = orders("BSN 127 of a plain link", m2ua_link_message(g, confirm(100, 127), 40, hold, sizeof hold, words, M2UA_LIST_WORDS), 1, (uint32_t[]){0, 1547, 100, 0});
-    expect("BSN 128 of a plain link", m2ua_link_message(g, confirm(100, 128), 40, hold, sizeof hold, words, M2UA_LIST_WORDS).refusal, 102);
+    orders("a high-speed link and 4,095", m2ua_message(&g, 2, request(200, 4095), 32, hold, sizeof hold, &room), 1, (uint32_t[]){255, 1546, 200, 2});
+    orders("a plain link and 127", m2ua_message(&g, 0, request(100, 127), 32, hold, sizeof hold, &room), 1, (uint32_t[]){255, 1546, 100, 2});
+    orders("a plain link and 128", m2ua_message(&g, 0, request(100, 128), 32, hold, sizeof hold, &room), 1, (uint32_t[]){0, 0, 0, 17});
+    sent("Error 17", m2ua_order(&g, M2UA_MESSAGE, 0, request(100, 128), 32, hold, sizeof hold, 0, out, 1024),
+         m2ua_orders(&g, M2UA_MESSAGE, 0, request(100, 128), 32, hold, sizeof hold, 0, lens, 4, out + 1024, 1024), 16, error17);
+    orders("an ASP that is down, before its number", m2ua_message(&g, 1, request(100, 128), 32, hold, sizeof hold, &room), 1, (uint32_t[]){1, 0, 0, 6});
+    orders("BSN 4,095 of a high-speed link", m2ua_link_message(&g, confirm(200, 4095), 40, hold, sizeof hold, &room), 1, (uint32_t[]){2, 1547, 200, 0});
+    sent("it is passed on", m2ua_order(&g, M2UA_LINK_MESSAGE, 0, confirm(200, 4095), 40, hold, sizeof hold, 0, out, 1024),
+         m2ua_orders(&g, M2UA_LINK_MESSAGE, 0, confirm(200, 4095), 40, hold, sizeof hold, 0, lens, 4, out + 1024, 1024), 40, confirm(200, 4095));
+    orders("BSN 127 of a plain link", m2ua_link_message(&g, confirm(100, 127), 40, hold, sizeof hold, &room), 1, (uint32_t[]){0, 1547, 100, 0});
+    expect("BSN 128 of a plain link", m2ua_link_message(&g, confirm(100, 128), 40, hold, sizeof hold, &room).refusal, 102);
     g.highspeed[16] = 2;
-    expect("a kind of 2 in a state", m2ua_is_sound(g), 0);
+    expect("a kind of 2 in a state", m2ua_is_sound(&g), 0);
     g.highspeed[16] = 0;
-    expect("a plain link 200", m2ua_is_sound(g), 1);
+    expect("a plain link 200", m2ua_is_sound(&g), 1);
     g.highspeed[17] = 1;
-    expect("a kind beyond the links", m2ua_is_sound(g), 0);
+    expect("a kind beyond the links", m2ua_is_sound(&g), 0);
 }
 
 /* M up to link 116, which there is not, of ASP 0 and of ASP 1, whose lists are taken whole. */
@@ -297,24 +353,24 @@ static void lists(m2ua_gateway g) {
     list[27] = 116;
     for (uint8_t i = 0; i < 16; i++) ack[23 + 4 * i] = (uint8_t)(100 + i);
     for (size_t p = 0; p < M2UA_MAX_ASPS; p++) expect("whether lists are taken whole", g.wholelists[p], p == 1);
-    for (size_t p = 0; p < 2; p++) g = m2ua_message(g, p, up, 8, hold, sizeof hold, words, M2UA_LIST_WORDS).gateway;
-    sent("Ack of a part", m2ua_message_order(g, 0, list, 28, hold, sizeof hold, 0, out, 1024),
-         m2ua_message_orders(g, 0, list, 28, hold, sizeof hold, 0, lens, 1, out + 1024, 1024), 84, ack);
-    sent("Error 2 behind it", m2ua_message_order(g, 0, list, 28, hold, sizeof hold, 1, out, 1024),
-         m2ua_message_orders(g, 0, list, 28, hold, sizeof hold, 1, lens, 1, out + 1024, 1024), 24, error2);
-    g = orders("a list that succeeds in part", m2ua_message(g, 0, list, 28, hold, sizeof hold, words, M2UA_LIST_WORDS), 4,
+    for (size_t p = 0; p < 2; p++) m2ua_message(&g, p, up, 8, hold, sizeof hold, &room);
+    sent("Ack of a part", m2ua_order(&g, M2UA_MESSAGE, 0, list, 28, hold, sizeof hold, 0, out, 1024),
+         m2ua_orders(&g, M2UA_MESSAGE, 0, list, 28, hold, sizeof hold, 0, lens, 1, out + 1024, 1024), 84, ack);
+    sent("Error 2 behind it", m2ua_order(&g, M2UA_MESSAGE, 0, list, 28, hold, sizeof hold, 1, out, 1024),
+         m2ua_orders(&g, M2UA_MESSAGE, 0, list, 28, hold, sizeof hold, 1, lens, 1, out + 1024, 1024), 24, error2);
+    orders("a list that succeeds in part", m2ua_message(&g, 0, list, 28, hold, sizeof hold, &room), 4,
                (uint32_t[]){0, 1027, 0, 0, 0, 0, 116, 2, 0, 1, 0, 65539, 1, 1, 0, 65539});
     expect("ASP 0 is active", g.active[0], 1);
-    g = orders("a list taken whole", m2ua_message(g, 1, list, 28, hold, sizeof hold, words, M2UA_LIST_WORDS), 1, (uint32_t[]){1, 0, 116, 2});
+    orders("a list taken whole", m2ua_message(&g, 1, list, 28, hold, sizeof hold, &room), 1, (uint32_t[]){1, 0, 116, 2});
     expect("ASP 1 is not", g.active[1], 0);
     list[15] = 2;
-    g = orders("another mode, of a part", m2ua_message(g, 0, list, 28, hold, sizeof hold, words, M2UA_LIST_WORDS), 1, (uint32_t[]){0, 0, 0, 5});
+    orders("another mode, of a part", m2ua_message(&g, 0, list, 28, hold, sizeof hold, &room), 1, (uint32_t[]){0, 0, 0, 5});
     g.wholelists[1] = 2;
-    expect("a mark of 2 in a state", m2ua_is_sound(g), 0);
+    expect("a mark of 2 in a state", m2ua_is_sound(&g), 0);
     g.wholelists[1] = 0;
-    expect("lists of ASP 1 in part", m2ua_is_sound(g), 1);
+    expect("lists of ASP 1 in part", m2ua_is_sound(&g), 1);
     g.wholelists[3] = 1;
-    expect("a mark beyond the ASPs", m2ua_is_sound(g), 0);
+    expect("a mark beyond the ASPs", m2ua_is_sound(&g), 0);
 }
 
 int main(void) {
@@ -324,10 +380,11 @@ int main(void) {
     m2ua_loaded plan = plan_s(192);
     expect("code of plan S", plan.code, 0);
     expect("identifier of its last ASP", plan.gateway.aspid[2], 9);
-    expect("its state is consistent", m2ua_is_sound(plan.gateway), 1);
+    expect("its state is consistent", m2ua_is_sound(&plan.gateway), 1);
     events(plan.gateway);
     bytes(plan.gateway);
     held(plan.gateway);
+    lent_short(plan.gateway);
     expect("code of a plan with a kind of 2", plan_with(2, 192).code, 202);
     expect("code of one with a kind of 256", plan_with(256, 192).code, 202);
     expect("code of one with a high-speed link", plan_with(1, 192).code, 0);
@@ -337,7 +394,7 @@ int main(void) {
     expect("code of one with whole lists", plan_of(0, 1, 192).code, 0);
     lists(plan_of(0, 1, 192).gateway);
     plan.gateway.up[0] = 2;
-    expect("a flag of 2 is not", m2ua_is_sound(plan.gateway), 0);
+    expect("a flag of 2 is not", m2ua_is_sound(&plan.gateway), 0);
     printf("C example: %s\n", failures ? "FAILED" : "ok");
     return failures != 0;
 }

@@ -7,9 +7,10 @@
 #include "m2ua.h"
 #include "m2ua_text.h"
 
-/* What a host keeps: the state, and the hold that goes with it. */
+/* What a host keeps: the state, the hold that goes with it, and the room that it lends. */
 static m2ua_gateway gateway;
 static uint8_t hold[M2UA_HOLD_BYTES];
+static m2ua_room room;
 
 static void fail(const char *what, uint32_t code) {
     fprintf(stderr, "%s: %u (%s)\n", what, code, m2ua_code_text(code));
@@ -58,7 +59,7 @@ static void send_to_link(uint32_t id, const uint8_t *msg, size_t len) {
 }
 
 static size_t place_of(uint32_t id) {
-    m2ua_answer place = m2ua_link_place(gateway, id);
+    m2ua_answer place = m2ua_link_place(&gateway, id);
     if (place.code) fail("m2ua_link_place", place.code);
     return place.value;
 }
@@ -85,53 +86,55 @@ static void units(const m2ua_units *before, const m2ua_units *after, unsigned a)
 }
 
 /* What has changed: the states of ASes, the timers that start and stop, the units held. */
-static void changes(m2ua_gateway before, m2ua_gateway after) {
+static void changes(const m2ua_gateway *before) {
     static const char *const names[] = {"down", "?", "inactive", "active", "pending"};
-    m2ua_timers t = m2ua_waits(before, after);
-    for (unsigned a = 0; a < after.ases; a++) {
-        m2ua_answer was = m2ua_as_state(before, a), is = m2ua_as_state(after, a);
+    for (unsigned a = 0; a < gateway.ases; a++) {
+        m2ua_answer was = m2ua_as_state(before, a), is = m2ua_as_state(&gateway, a);
         if (was.code || is.code) fail("m2ua_as_state", was.code ? was.code : is.code);
         if (was.value != is.value) printf("  AS %u is %s\n", a, names[is.value]);
-        if (t.began[a]) printf("  timer: start T(r) of AS %u\n", a);
-        if (t.ended[a]) printf("  timer: stop T(r) of AS %u\n", a);
-        units(&before.held, &after.held, a);
+        if (room.timers.began[a]) printf("  timer: start T(r) of AS %u\n", a);
+        if (room.timers.ended[a]) printf("  timer: stop T(r) of AS %u\n", a);
+        units(&before->held, &gateway.held, a);
     }
 }
 
-/* An event: its orders in words, then as bytes, which come from the state before the event and the hold; then what has changed. */
+/* What the event would have sent at a place, asked of the state before it, is the same message. */
+static void same(const m2ua_gateway *before, const uint8_t *kept, uint32_t kind, size_t index, const uint8_t *msg, size_t len, size_t place, const uint8_t *sent) {
+    static uint8_t single[M2UA_MAX_MESSAGE];
+    static uint32_t lens[1];
+    m2ua_written w = m2ua_order(before, kind, index, msg, len, kept, M2UA_HOLD_BYTES, place, single, sizeof single);
+    if (w.code || w.length != room.lens[place] || memcmp(single, sent, w.length)) fail("m2ua_order", w.code);
+    m2ua_batch b = m2ua_orders(before, kind, index, msg, len, kept, M2UA_HOLD_BYTES, place, lens, 1, single, sizeof single);
+    if (b.code || b.count != 1 || b.length != w.length || memcmp(single, sent, w.length)) fail("m2ua_orders", b.code);
+}
+
+/* An event: its orders in words and as bytes; then what has changed. */
 static void happens(const char *what, uint32_t kind, size_t index, const uint8_t *msg, size_t len) {
-    /* each call of m2ua_orders runs the event again: with so much room one is enough, or two */
-    static uint32_t words[M2UA_LIST_WORDS], lens[M2UA_MAX_ORDERS];
-    static uint8_t out[65536], single[M2UA_MAX_MESSAGE];
+    /* copied only to print what has changed, and to show m2ua_order: a host needs no copy */
+    static uint8_t kept[M2UA_HOLD_BYTES];
+    const m2ua_gateway before = gateway;
+    memcpy(kept, hold, sizeof hold);
     char line[128];
     printf("%s\n", what);
-    m2ua_outcome r = m2ua_event(gateway, kind, index, msg, len, hold, sizeof hold, words, M2UA_LIST_WORDS);
-    if (r.refusal) {
-        printf("  refused: %u (%s)\n", r.refusal, m2ua_code_text(r.refusal));
+    const m2ua_handled h = m2ua_handle(&gateway, kind, index, msg, len, hold, sizeof hold, &room);
+    if (h.refusal) {
+        printf("  refused: %u (%s)\n", h.refusal, m2ua_code_text(h.refusal));
         return;
     }
-    m2ua_batch b;
-    for (size_t place = 0; place < r.count; place += b.count) {
-        b = m2ua_orders(gateway, kind, index, msg, len, hold, sizeof hold, place, lens, M2UA_MAX_ORDERS, out, sizeof out);
-        if (b.code) fail("m2ua_orders", b.code);
-        const uint8_t *next = out;
-        for (size_t j = 0; j < b.count; next += lens[j++]) {
-            const uint32_t *order = words + M2UA_ORDER_WORDS * (place + j);
-            m2ua_order_text(order, line, sizeof line);
-            printf("  %s\n", line);
-            if (order[0] == M2UA_LINK_SIDE) {
-                if (order[1] == M2UA_ORDER_DATA) send_to_link(order[2], msg, len);
-                if (order[1] == M2UA_ORDER_RETRIEVAL_REQUEST) retrieve(order[2], msg, len);
-                continue;
-            }
-            send_to_asp(order[0], next, lens[j]);
-            /* one order by itself is the same message */
-            m2ua_written w = m2ua_order(gateway, kind, index, msg, len, hold, sizeof hold, place + j, single, sizeof single);
-            if (w.code || w.length != lens[j] || memcmp(single, next, lens[j])) fail("m2ua_order", w.code);
+    const uint8_t *message = room.bytes;
+    for (size_t j = 0; j < h.count; message += room.lens[j++]) {
+        const uint32_t *order = room.words + M2UA_ORDER_WORDS * j;
+        m2ua_order_text(order, line, sizeof line);
+        printf("  %s\n", line);
+        if (order[0] == M2UA_LINK_SIDE) {
+            if (order[1] == M2UA_ORDER_DATA) send_to_link(order[2], msg, len);
+            if (order[1] == M2UA_ORDER_RETRIEVAL_REQUEST) retrieve(order[2], msg, len);
+            continue;
         }
+        send_to_asp(order[0], message, room.lens[j]);
+        same(&before, kept, kind, index, msg, len, j, message);
     }
-    changes(gateway, r.gateway);
-    gateway = r.gateway;
+    changes(&before);
 }
 
 static void asp_sends(const char *what, size_t asp, message m) { happens(what, M2UA_MESSAGE, asp, m.bytes, m.length); }
@@ -277,7 +280,7 @@ int main(int argc, char **argv) {
     fclose(plan);
     m2ua_loaded loaded = m2ua_load(file, length);
     if (loaded.code) fail(argv[1], loaded.code);
-    if (!m2ua_is_sound(loaded.gateway)) fail("a fresh state", M2UA_REFUSED_STATE);
+    if (!m2ua_is_sound(&loaded.gateway)) fail("a fresh state", M2UA_REFUSED_STATE);
     gateway = loaded.gateway;
     printf("plan: %u ASPs, %u ASes, %u links\n", gateway.asps, gateway.ases, gateway.links);
     scenario();

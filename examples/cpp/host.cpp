@@ -3,6 +3,7 @@
 #include <array>
 #include <cstdint>
 #include <cstdio>
+#include <memory>
 #include <vector>
 #include "m2ua.h"
 #include "m2ua_text.h"
@@ -20,27 +21,22 @@ Bytes file_at(const char *path) {
     return bytes;
 }
 
-// What a host keeps: the state, and the hold that goes with it, from event to event.
+// What a host keeps from event to event: the state, the hold that goes with it, and the room that it lends.
 struct Host {
     m2ua_gateway gateway;
     Bytes hold;
+    std::unique_ptr<m2ua_room> room;
+
+    explicit Host(const m2ua_gateway &fresh) : gateway(fresh), hold(M2UA_HOLD_BYTES), room(new m2ua_room) {}
 
     // A message of an ASP: each order in words, with the bytes of its message (none for the link side) and those of all.
     void receives(std::size_t asp, const Bytes &message) {
-        std::array<std::uint32_t, M2UA_LIST_WORDS> words;
-        std::array<std::uint8_t, M2UA_MAX_MESSAGE> out;
-        std::array<std::uint32_t, M2UA_MAX_ORDERS> lens;
         std::array<char, 128> line;
-        const std::uint8_t *bytes = message.data();
-        const std::size_t size = message.size();
-        const m2ua_outcome r = m2ua_message(gateway, asp, bytes, size, hold.data(), hold.size(), words.data(), words.size());
-        const m2ua_batch all = m2ua_message_orders(gateway, asp, bytes, size, hold.data(), hold.size(), 0, lens.data(), lens.size(), out.data(), out.size());
-        for (std::size_t i = 0; i < r.count; i++) {
-            m2ua_order_text(words.data() + M2UA_ORDER_WORDS * i, line.data(), line.size());
-            const m2ua_written w = m2ua_message_order(gateway, asp, bytes, size, hold.data(), hold.size(), i, out.data(), out.size());
-            std::printf("%s, %zu bytes, of %zu\n", line.data(), w.length, all.length);
+        const m2ua_handled h = m2ua_message(&gateway, asp, message.data(), message.size(), hold.data(), hold.size(), room.get());
+        for (std::size_t i = 0; i < h.count; i++) {
+            m2ua_order_text(room->words + M2UA_ORDER_WORDS * i, line.data(), line.size());
+            std::printf("%s, %u bytes, of %zu\n", line.data(), room->lens[i], h.length);
         }
-        gateway = r.gateway;
     }
 };
 
@@ -65,12 +61,12 @@ int main(int argc, char **argv) {
     }
     const Bytes plan = file_at(argv[1]);
     const m2ua_loaded loaded = m2ua_load(plan.data(), plan.size());
-    if (loaded.code != M2UA_OK || m2ua_is_sound(loaded.gateway) != 1) {
+    if (loaded.code != M2UA_OK || m2ua_is_sound(&loaded.gateway) != 1) {
         std::fprintf(stderr, "%s: %u (%s)\n", argv[1], loaded.code, m2ua_code_text(loaded.code));
         return 1;
     }
     const Bytes up = {1, 0, M2UA_CLASS_ASPSM, M2UA_TYPE_UP, 0, 0, 0, 8}, active = {1, 0, M2UA_CLASS_ASPTM, M2UA_TYPE_ACTIVE, 0, 0, 0, 8};
-    Host host = {loaded.gateway, Bytes(M2UA_HOLD_BYTES)};
+    Host host(loaded.gateway);
     std::printf("reading: %u\n", m2ua_read(up.data(), up.size()).code);
     host.receives(0, up);
     std::array<std::uint8_t, 32> out = {};

@@ -6,6 +6,10 @@ use crate::naming::{Links, Marks};
 use crate::wire::*;
 use crate::write::{put_header, put_param, Written, SHORT_BUFFER};
 
+/// Most orders of an event.
+pub const MAX_ORDERS: usize = LIST_WORDS / 4;
+/// Bytes that the messages of every event go into.
+pub const ROOM_BYTES: usize = MAX_ORDERS * MAX_MESSAGE;
 /// Either there are not so many orders, or the order goes to the link side.
 pub const NO_SUCH_ORDER: u32 = 104;
 
@@ -145,13 +149,76 @@ impl Ordered<'_> {
     }
 }
 
+/// What an event with all its messages hands back beside the state: 0, the
+/// number of orders and of bytes, or the refusal and zeros.
+#[derive(Clone, Copy, PartialEq, Eq, Debug)]
+pub struct Handled {
+    pub code: u32,
+    pub count: u32,
+    pub length: u32,
+}
+
 impl Gateway {
+    /// An event on the state where it lies, with the messages of all its
+    /// orders, one behind the other, and the length of each. A buffer that
+    /// might be short for some event is refused.
+    #[inline]
+    pub fn handle(
+        &mut self,
+        event: Event,
+        hold: &mut [u8],
+        list: &mut [u32; LIST_WORDS],
+        lens: &mut [u32; MAX_ORDERS],
+        out: &mut [u8],
+    ) -> Handled {
+        let mut marks = Marks::new();
+        let room = if out.len() < ROOM_BYTES {
+            0
+        } else {
+            LIST_WORDS
+        };
+        let ran = self.begin(event, Lent::Whole(hold), &mut list[..room], &mut marks);
+        let handled = |code, count, length| Handled {
+            code,
+            count,
+            length,
+        };
+        match ran.code {
+            0 if ran.count > 0 => {}
+            SHORT_LIST => return handled(SHORT_BUFFER, 0, 0),
+            code => return handled(code, 0, 0),
+        }
+        let ordered = Ordered {
+            event,
+            hold,
+            orders: &list.as_chunks::<4>().0[..ran.count as usize],
+            marks: &marks,
+        };
+        // The units that go out are in the state until they are written.
+        let batch = self.put_messages(&ordered, 0, lens, out);
+        self.finish(ran);
+        handled(0, batch.count, batch.length)
+    }
+
+    /// The orders of an event that is not kept, in the list, and the links
+    /// that it names.
+    pub(crate) fn dry_run(
+        &self,
+        event: Event,
+        hold: usize,
+        list: &mut [u32],
+        marks: &mut Marks,
+    ) -> Ran {
+        let mut after = *self;
+        after.begin(event, Lent::Length(hold), list, marks)
+    }
+
     /// Writes the order at a place, from 0, of an event on this state, lent
     /// this hold.
     pub fn order_bytes(&self, event: Event, hold: &[u8], place: u32, out: &mut [u8]) -> Written {
         let mut list = [0; LIST_WORDS];
         let mut marks = Marks::new();
-        let (code, count) = self.orders(event, hold.len(), &mut list, &mut marks);
+        let Ran { code, count, .. } = self.dry_run(event, hold.len(), &mut list, &mut marks);
         if code != 0 {
             return Written::refused(code);
         }
@@ -188,7 +255,7 @@ impl Gateway {
     ) -> Batch {
         let mut list = [0; LIST_WORDS];
         let mut marks = Marks::new();
-        let (code, count) = self.orders(event, hold.len(), &mut list, &mut marks);
+        let Ran { code, count, .. } = self.dry_run(event, hold.len(), &mut list, &mut marks);
         if code != 0 {
             return Batch::refused(code);
         }

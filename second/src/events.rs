@@ -1,9 +1,9 @@
-//! The six kinds of event: each takes the state by value and hands the next
-//! one back, with orders in a lent list. Each is lent the hold too, which only
-//! a message of the link side writes.
+//! The six kinds of event, on the state where it lies: each changes it, and
+//! puts its orders into a lent list. Each is lent the hold too, which only a
+//! message of the link side writes.
 
 use crate::gateway::*;
-use crate::naming::{Marks, Named, Record};
+use crate::naming::{Named, Record};
 use crate::read::{data_of, read, Reading};
 use crate::wire::*;
 
@@ -89,7 +89,16 @@ pub enum Event<'a> {
     },
 }
 
-/// What an event hands back.
+/// What an event hands back beside the state.
+#[derive(Clone, Copy, PartialEq, Eq, Debug)]
+pub struct Done {
+    /// 0, or the refusal.
+    pub code: u32,
+    /// The number of orders.
+    pub count: u32,
+}
+
+/// What an event by value hands back.
 #[repr(C)]
 #[derive(Clone, Copy, PartialEq, Eq, Debug)]
 pub struct Next {
@@ -100,10 +109,38 @@ pub struct Next {
     pub gateway: Gateway,
 }
 
+/// What an event did so far: the units of the ASes in `sent` are ordered to
+/// go out, and still in the state. Who writes them as bytes does it now.
+#[derive(Clone, Copy)]
+pub(crate) struct Ran {
+    pub code: u32,
+    pub count: u32,
+    pub sent: u16,
+}
+
+/// The hold as an event gets it: whole, or only how long it is, for an event
+/// that is not kept.
+pub(crate) enum Lent<'a> {
+    Whole(&'a mut [u8]),
+    Length(usize),
+}
+
+impl Lent<'_> {
+    #[inline(always)]
+    fn len(&self) -> usize {
+        match self {
+            Lent::Whole(hold) => hold.len(),
+            Lent::Length(length) => *length,
+        }
+    }
+}
+
 /// The list being filled.
 struct Orders<'a> {
     list: &'a mut [[u32; 4]],
     count: usize,
+    /// The ASes whose units are among the orders.
+    sent: u16,
 }
 
 impl Orders<'_> {
@@ -128,136 +165,133 @@ impl Orders<'_> {
 }
 
 impl Gateway {
+    /// The event, whichever it is: the state becomes the next one, or stays
+    /// where it is refused.
+    #[inline]
+    pub fn run(&mut self, event: Event, hold: &mut [u8], list: &mut [u32]) -> Done {
+        let ran = self.begin(event, Lent::Whole(hold), list, &mut ());
+        self.finish(ran);
+        Done {
+            code: ran.code,
+            count: ran.count,
+        }
+    }
+
+    /// The same by value.
+    pub fn event(mut self, event: Event, hold: &mut [u8], list: &mut [u32]) -> Next {
+        let Done { code, count } = self.run(event, hold, list);
+        Next {
+            code,
+            count,
+            gateway: self,
+        }
+    }
+
     /// Message of ASP `asp`.
     pub fn message(self, asp: u32, message: &[u8], hold: &mut [u8], list: &mut [u32]) -> Next {
-        self.run_message(asp, message, hold.len(), list, &mut ())
+        self.event(Event::Message { asp, message }, hold, list)
     }
 
     /// The association of ASP `asp` is lost.
     pub fn lost(self, asp: u32, hold: &mut [u8], list: &mut [u32]) -> Next {
-        self.run_lost(asp, hold.len(), list)
+        self.event(Event::Lost { asp }, hold, list)
     }
 
     /// The recovery time of AS `server` is over.
     pub fn recovery(self, server: u32, hold: &mut [u8], list: &mut [u32]) -> Next {
-        self.run_recovery(server, hold.len(), list)
+        self.event(Event::Recovery { server }, hold, list)
     }
 
     /// The link at place `link` has come up.
     pub fn link_up(self, link: u32, hold: &mut [u8], list: &mut [u32]) -> Next {
-        self.run_link_up(link, hold.len(), list)
+        self.event(Event::LinkUp { link }, hold, list)
     }
 
     /// The link at place `link` has gone down.
     pub fn link_down(self, link: u32, hold: &mut [u8], list: &mut [u32]) -> Next {
-        self.run_link_down(link, hold.len(), list)
+        self.event(Event::LinkDown { link }, hold, list)
     }
 
     /// Message of the link side.
-    pub fn link_message(mut self, message: &[u8], hold: &mut [u8], list: &mut [u32]) -> Next {
-        let (code, link, reading) = self.link_message_asked(message);
-        let (code, count) = perform(code, hold.len(), list, |orders| {
-            let a = self.owner_of(link);
-            // An AS that waits is pending: nobody is active there.
-            if reading.kind == DATA & 0xff && self.waiting[a] != 0 {
-                self.take_in(a, &reading, message, hold);
-            } else {
-                self.pass_on(link, &reading, orders);
-            }
-        });
-        self.next(code, count)
+    pub fn link_message(self, message: &[u8], hold: &mut [u8], list: &mut [u32]) -> Next {
+        self.event(Event::LinkMessage { message }, hold, list)
     }
 
-    /// The event, whichever it is.
-    pub fn event(self, event: Event, hold: &mut [u8], list: &mut [u32]) -> Next {
+    /// All of an event but for the units that it sends, which `finish` drops;
+    /// and the links that it names.
+    #[inline(always)]
+    pub(crate) fn begin(
+        &mut self,
+        event: Event,
+        hold: Lent,
+        list: &mut [u32],
+        record: &mut impl Record,
+    ) -> Ran {
+        let bytes = hold.len();
         match event {
-            Event::Message { asp, message } => self.message(asp, message, hold, list),
-            Event::Lost { asp } => self.lost(asp, hold, list),
-            Event::Recovery { server } => self.recovery(server, hold, list),
-            Event::LinkUp { link } => self.link_up(link, hold, list),
-            Event::LinkDown { link } => self.link_down(link, hold, list),
-            Event::LinkMessage { message } => self.link_message(message, hold, list),
+            Event::Message { asp, message } => {
+                let code = self.refusal(asp, self.asps);
+                perform(code, bytes, list, |orders| {
+                    self.on_message(asp as usize, message, orders, record)
+                })
+            }
+            Event::Lost { asp } => {
+                let code = self.refusal(asp, self.asps);
+                perform(code, bytes, list, |orders| {
+                    self.take_down(asp as usize, orders)
+                })
+            }
+            Event::Recovery { server } => {
+                let code = self.refusal(server, self.ases);
+                perform(code, bytes, list, |orders| {
+                    self.end_waiting(server as usize, orders)
+                })
+            }
+            Event::LinkUp { link } => {
+                let code = self.refusal(link, self.links);
+                perform(code, bytes, list, |orders| {
+                    self.on_link_up(link as usize, orders)
+                })
+            }
+            Event::LinkDown { link } => {
+                let code = self.refusal(link, self.links);
+                perform(code, bytes, list, |orders| {
+                    self.on_link_down(link as usize, orders)
+                })
+            }
+            Event::LinkMessage { message } => {
+                let (code, link, reading) = self.link_message_asked(message);
+                perform(code, bytes, list, |orders| {
+                    self.on_link_message(link, &reading, message, hold, orders)
+                })
+            }
         }
     }
 
-    /// The orders of an event that is lent a hold of so many bytes, in the
-    /// list: 0 and their number, or the refusal and 0; and the links that it
-    /// names. Nothing is put in the hold: data that stays there gives no order.
-    pub(crate) fn orders(
-        self,
-        event: Event,
-        hold: usize,
-        list: &mut [u32],
-        marks: &mut Marks,
-    ) -> (u32, u32) {
-        let next = match event {
-            Event::Message { asp, message } => self.run_message(asp, message, hold, list, marks),
-            Event::Lost { asp } => self.run_lost(asp, hold, list),
-            Event::Recovery { server } => self.run_recovery(server, hold, list),
-            Event::LinkUp { link } => self.run_link_up(link, hold, list),
-            Event::LinkDown { link } => self.run_link_down(link, hold, list),
-            Event::LinkMessage { message } => {
-                let (code, link, reading) = self.link_message_asked(message);
-                return perform(code, hold, list, |orders| {
-                    self.pass_on(link, &reading, orders)
-                });
-            }
-        };
-        (next.code, next.count)
+    /// The units that were ordered to go out are held no longer.
+    #[inline(always)]
+    pub(crate) fn finish(&mut self, ran: Ran) {
+        bits(ran.sent).for_each(|a| self.drop_units(a));
     }
 
-    // Five events ask of the hold only how long it is.
-
     #[inline(always)]
-    fn run_message(
-        mut self,
-        asp: u32,
+    fn on_link_message(
+        &mut self,
+        link: usize,
+        reading: &Reading,
         message: &[u8],
-        hold: usize,
-        list: &mut [u32],
-        record: &mut impl Record,
-    ) -> Next {
-        let code = self.refusal(asp, self.asps);
-        let (code, count) = perform(code, hold, list, |orders| {
-            self.on_message(asp as usize, message, orders, record)
-        });
-        self.next(code, count)
-    }
-
-    #[inline(always)]
-    fn run_lost(mut self, asp: u32, hold: usize, list: &mut [u32]) -> Next {
-        let code = self.refusal(asp, self.asps);
-        let (code, count) = perform(code, hold, list, |orders| {
-            self.take_down(asp as usize, orders)
-        });
-        self.next(code, count)
-    }
-
-    #[inline(always)]
-    fn run_recovery(mut self, server: u32, hold: usize, list: &mut [u32]) -> Next {
-        let code = self.refusal(server, self.ases);
-        let (code, count) = perform(code, hold, list, |orders| {
-            self.end_waiting(server as usize, orders)
-        });
-        self.next(code, count)
-    }
-
-    #[inline(always)]
-    fn run_link_up(mut self, link: u32, hold: usize, list: &mut [u32]) -> Next {
-        let code = self.refusal(link, self.links);
-        let (code, count) = perform(code, hold, list, |orders| {
-            self.on_link_up(link as usize, orders)
-        });
-        self.next(code, count)
-    }
-
-    #[inline(always)]
-    fn run_link_down(mut self, link: u32, hold: usize, list: &mut [u32]) -> Next {
-        let code = self.refusal(link, self.links);
-        let (code, count) = perform(code, hold, list, |orders| {
-            self.on_link_down(link as usize, orders)
-        });
-        self.next(code, count)
+        hold: Lent,
+        orders: &mut Orders,
+    ) {
+        let a = self.owner_of(link);
+        // An AS that waits is pending: nobody is active there.
+        if reading.kind == DATA & 0xff && self.waiting[a] != 0 {
+            if let Lent::Whole(hold) = hold {
+                self.take_in(a, reading, message, hold);
+            }
+        } else {
+            self.pass_on(link, reading, orders);
+        }
     }
 
     /// Whether an event is refused for the state or for its index, which must
@@ -270,15 +304,6 @@ impl Gateway {
             BAD_EVENT
         } else {
             0
-        }
-    }
-
-    #[inline(always)]
-    fn next(self, code: u32, count: u32) -> Next {
-        Next {
-            code,
-            count,
-            gateway: self,
         }
     }
 
@@ -479,7 +504,7 @@ impl Gateway {
         for k in 0..held {
             orders.push(p as u32, DATA, self.held_id[MAX_HELD * a + k], 0);
         }
-        self.drop_units(a);
+        orders.sent |= 1 << a;
     }
 
     fn deactivate(&mut self, a: usize, p: usize, orders: &mut Orders) {
@@ -605,22 +630,32 @@ impl Gateway {
 /// Runs an event that is not refused so far, if the hold has its length and
 /// the list has room.
 #[inline(always)]
-fn perform(code: u32, hold: usize, list: &mut [u32], run: impl FnOnce(&mut Orders)) -> (u32, u32) {
+fn perform(code: u32, hold: usize, list: &mut [u32], run: impl FnOnce(&mut Orders)) -> Ran {
+    let refused = |code| Ran {
+        code,
+        count: 0,
+        sent: 0,
+    };
     if code != 0 {
-        return (code, 0);
+        return refused(code);
     }
     if hold != HOLD_BYTES {
-        return (WRONG_HOLD, 0);
+        return refused(WRONG_HOLD);
     }
     let Some(room) = list.first_chunk_mut::<LIST_WORDS>() else {
-        return (SHORT_LIST, 0);
+        return refused(SHORT_LIST);
     };
     let mut orders = Orders {
         list: room.as_chunks_mut::<4>().0,
         count: 0,
+        sent: 0,
     };
     run(&mut orders);
-    (0, orders.count as u32)
+    Ran {
+        code: 0,
+        count: orders.count as u32,
+        sent: orders.sent,
+    }
 }
 
 /// An Error is never answered, readable or not.

@@ -14,8 +14,8 @@ pub mod script;
 pub mod wire;
 pub mod write;
 
-pub use bytes::Batch;
-pub use events::{Event, Next};
+pub use bytes::{Batch, Handled};
+pub use events::{Done, Event, Next};
 pub use gateway::{is_sound, Gateway, Unit, HOLD_BYTES};
 pub use plan::{load, Loaded};
 pub use read::{protocol_data, read, Reading};

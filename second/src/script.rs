@@ -194,9 +194,8 @@ impl Session {
             _ => {
                 let (event, words) = event(command, &mut words, &mut self.bytes)?;
                 let list = &mut self.list[..words];
-                let next = self.gateway.event(event, self.hold.lend(), list);
-                self.gateway = next.gateway;
-                put_orders(next.code, next.count, list, out);
+                let done = self.gateway.run(event, self.hold.lend(), list);
+                put_orders(done.code, done.count, list, out);
             }
         }
         Ok(())

@@ -1,70 +1,63 @@
-//! Times events of the proved library against the hand-written second program, both in this one run. A time is of one call: the state goes in by value
-//! and comes out by value. Each call is first checked to give the same on both sides: refusal, count, state, the whole list of words and the whole hold.
+//! Times events of the proved library against the hand-written second program, both in this one run, on the state where it lies. Each call is first
+//! checked to give the same on both sides: refusal, count, state, the whole list of words and the whole hold. Where an event changes the state and none
+//! of the same line changes it back, both sides also put it back, which takes some 40 ns: those lines have a star.
 use bench::holds::{full_hold, held_on_plan_s};
+use bench::lines::What;
 use bench::messages::{
     active_of, active_of_ranges, bytes, data, message, missing_in_gaps, number, over_gaps,
     retrieval, sample_m, tenth_missing,
 };
 use bench::plans::{full_plan, full_plan_of, plan_s, plan_s_with, with_asp_0, HIGH_SPEED};
-use bench::{proved, timing};
+use bench::timing;
+use bench::turns::{call, Turns};
 use second::events::LIST_WORDS as ROOM;
-use second::{load, Gateway, Next, HOLD_BYTES};
+use second::{load, Done, Event, Gateway, HOLD_BYTES};
 use std::hint::black_box;
 
-// The hand-written baseline gets the state by value too.
+// The hand-written baseline, not compiled into the loop that calls it.
 #[inline(never)]
-fn hand_message(state: Gateway, p: u32, msg: &[u8], hold: &mut [u8], words: &mut [u32]) -> Next {
-    state.message(p, msg, hold, words)
+fn hand(state: &mut Gateway, event: Event, hold: &mut [u8], words: &mut [u32]) -> Done {
+    state.run(event, hold, words)
 }
 
-#[inline(never)]
-fn hand_link_message(state: Gateway, msg: &[u8], hold: &mut [u8], words: &mut [u32]) -> Next {
-    state.link_message(msg, hold, words)
-}
-
-/// A message of ASP p at a state.
-type Call<'a> = (Gateway, u32, &'a [u8]);
-
-/// The calls in turn; all must give so many orders.
-fn messages(name: &str, calls: &[Call], orders: u32) {
+/// Events in turn; all must give so many orders.
+fn turns(name: &str, calls: &[(Gateway, bench::lines::Call)], orders: u32) {
     let (mut x, mut y) = ([0xaa; ROOM], [0xaa; ROOM]);
     let (mut v, mut w) = (vec![0xaa; HOLD_BYTES], vec![0xaa; HOLD_BYTES]);
-    for (state, p, msg) in calls {
-        let a = proved::message(*state, *p as usize, msg, &mut v, &mut x);
-        let b = hand_message(*state, *p, msg, &mut w, &mut y);
+    for (state, call) in calls {
+        let (mut g, mut h) = (*state, *state);
+        let a = call.proved(&mut g, &mut v, &mut x);
+        let b = hand(&mut h, call.event(), &mut w, &mut y);
         assert_eq!((a.refusal, a.count), (b.code, b.count as usize), "{name}");
         assert_eq!((b.code, b.count), (0, orders), "{name}");
-        assert!(a.gateway == b.gateway && x == y && v == w, "{name}");
+        assert!(g == h && x == y && v == w, "{name}");
     }
-    let (mut i, mut j) = (0, 0);
+    let turns = Turns::new(calls, &v);
+    let (mut ours, mut theirs) = (turns.side(), turns.side());
+    let star = if turns.puts_back() { " *" } else { "" };
     timing::compare(
-        name,
+        &format!("{name}{star}"),
         || {
-            i = (i + 1) % calls.len();
-            let (state, p, msg) = black_box(&calls[i]);
-            proved::message(*state, *p as usize, msg, &mut v, &mut x)
+            let (g, call) = ours.next();
+            black_box(call).proved(g, &mut v, &mut x)
         },
         || {
-            j = (j + 1) % calls.len();
-            let (state, p, msg) = black_box(&calls[j]);
-            hand_message(*state, *p, msg, &mut w, &mut y)
+            let (g, call) = theirs.next();
+            hand(g, black_box(call).event(), &mut w, &mut y)
         },
     );
+}
+
+/// Messages of ASPs at states.
+fn messages(name: &str, of: &[(Gateway, u32, &[u8])], orders: u32) {
+    let calls: Vec<_> = (of.iter())
+        .map(|(state, p, msg)| (*state, call(What::Message, *p, msg)))
+        .collect();
+    turns(name, &calls, orders);
 }
 
 fn link_message(name: &str, state: &Gateway, msg: &[u8], orders: u32) {
-    let (mut x, mut y) = ([0xaa; ROOM], [0xaa; ROOM]);
-    let (mut v, mut w) = (vec![0xaa; HOLD_BYTES], vec![0xaa; HOLD_BYTES]);
-    let a = proved::link_message(*state, msg, &mut v, &mut x);
-    let b = hand_link_message(*state, msg, &mut w, &mut y);
-    assert_eq!((a.refusal, a.count), (b.code, b.count as usize), "{name}");
-    assert_eq!((b.code, b.count), (0, orders), "{name}");
-    assert!(a.gateway == b.gateway && x == y && v == w, "{name}");
-    timing::compare(
-        name,
-        || proved::link_message(*black_box(state), msg, &mut v, &mut x),
-        || hand_link_message(*black_box(state), msg, &mut w, &mut y),
-    );
+    turns(name, &[(*state, call(What::LinkMessage, 0, msg))], orders);
 }
 
 /// The state after messages of ASPs.
@@ -276,4 +269,5 @@ fn main() {
     with_ranges();
     in_part();
     with_sequence_numbers();
+    timing::end();
 }

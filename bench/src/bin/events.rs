@@ -2,10 +2,10 @@
 //! of words and the whole hold must be the same, and a hold of another length must stay. So must all that is read of each event's message, and the
 //! state that each plan file gives, of the histories and of other generated plans. `events SEED LINES [KIND]`; KIND: event (where none is given), bytes, ranges, partly.
 use bench::lines::{asked, generated_of, Call, Hold, Line};
-use bench::proved::{self, Outcome};
+use bench::proved;
 use second::generate::Kind;
 use second::read::read;
-use second::{load, Gateway, Next};
+use second::{load, Gateway};
 use std::fmt::Debug;
 
 #[derive(Default)]
@@ -16,10 +16,6 @@ struct Tried {
     refused: u32,
     orders: u32,
     failures: u32,
-}
-
-fn differs(a: &Outcome, b: &Next, x: &[u32], y: &[u32]) -> bool {
-    a.refusal != b.code || a.count != b.count as usize || a.gateway != b.gateway || x != y
 }
 
 impl Tried {
@@ -36,25 +32,31 @@ impl Tried {
     /// A plan file; gives its state.
     fn plan(&mut self, file: &[u8]) -> Gateway {
         let loaded = load(file);
-        self.expect(proved::load(file) == loaded, &("plan", file));
+        self.expect(proved::loaded(file) == loaded, &("plan", file));
         self.plans += 1;
         loaded.gateway
     }
 
     /// An event, lent one hold by the proved library and the other by the second program; gives the next state.
-    fn call(&mut self, call: &Call, state: Gateway, v: &mut Hold, w: &mut Hold) -> Gateway {
+    fn call(&mut self, call: &Call, state: &Gateway, v: &mut Hold, w: &mut Hold) -> Gateway {
         let message = &call.message[..];
-        self.expect(proved::read(message) == read(message), &("read", message));
+        self.expect(
+            proved::reading(message) == read(message),
+            &("read", message),
+        );
         let (mut x, mut y) = (call.list(), call.list());
-        let a = call.proved(state, v.lend(call.hold), &mut x);
-        let b = call.second(state, w.lend(call.hold), &mut y);
-        let same = !differs(&a, &b, &x, &y) && v == w && w.other_untouched();
+        let (mut g, mut h) = (*state, *state);
+        let a = call.proved(&mut g, v.lend(call.hold), &mut x);
+        let b = call.second(&mut h, w.lend(call.hold), &mut y);
+        let same = (a.refusal, a.count) == (b.code, b.count as usize)
+            && (g == h && x == y && v == w && w.other_untouched())
+            && (b.code == 0 || h == *state);
         self.expect(same, call);
         self.calls += 1;
         self.kinds[call.what as usize] += 1;
         self.refused += (b.code != 0) as u32;
         self.orders += b.count;
-        b.gateway
+        h
     }
 }
 
@@ -73,7 +75,7 @@ fn main() {
                 v.kept.fill(byte);
                 w.kept.fill(byte);
             }
-            Line::Call(call) => state = tried.call(&call, state, &mut v, &mut w),
+            Line::Call(call) => state = tried.call(&call, &state, &mut v, &mut w),
         }
     }
     for line in generated_of(Kind::Plan, seed, lines / 4) {

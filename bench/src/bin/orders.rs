@@ -1,9 +1,11 @@
 //! Actions as bytes, call by call through the proved library and through the second program. Of each event of generated histories every place is
 //! tried, with buffers of the message's length, one short, longer and of no byte, and so is the batch form from random places, with random lists and buffers,
-//! also against the single form. Results and all bytes and lengths, with guards around what is lent, must be the same. `orders SEED LINES [KIND]`; KIND: event, bytes (where none is given, half of the
+//! also against the single form. Then the event with all its bytes by one call, against the event and the batch, and against the second program's; and the same with a room that is short,
+//! which is refused (103) and changes nothing. Results and all bytes and lengths, with guards around what is lent, must be the same. `orders SEED LINES [KIND]`; KIND: event, bytes (where none is given, half of the
 //! lines are of each), ranges, partly.
 use bench::lines::{asked, generated_of, Call, Hold, Line};
 use bench::proved::{self, Batch, Written};
+use second::bytes::{MAX_ORDERS, ROOM_BYTES};
 use second::events::LIST_WORDS;
 use second::generate::{Kind, Rng};
 use second::{load, Gateway};
@@ -42,6 +44,44 @@ struct Tried {
     types: BTreeMap<(u8, u8), u64>,
     /// Most actions in one batch.
     most: usize,
+    /// Events with all their bytes, and rooms that were short.
+    whole: u64,
+    short: u64,
+}
+
+/// What an event with all its bytes is lent, kept from event to event, as a host keeps it.
+struct Room {
+    words: [u32; LIST_WORDS],
+    lens: [u32; MAX_ORDERS],
+    out: Lent<u8>,
+}
+
+impl Room {
+    fn new() -> Box<Room> {
+        Box::new(Room {
+            words: [UNSET; LIST_WORDS],
+            lens: [UNSET; MAX_ORDERS],
+            out: Lent::new(ROOM_BYTES, LEFT),
+        })
+    }
+
+    /// As it was before an event that wrote so many bytes.
+    fn clear(&mut self, bytes: usize) {
+        self.words.fill(UNSET);
+        self.lens.fill(UNSET);
+        self.out.0[..bytes + 2 * GUARD].fill(LEFT);
+    }
+
+    /// Whether nothing is written behind so many actions and bytes (and two guards behind them).
+    fn ends_at(&self, count: usize, bytes: usize) -> bool {
+        let untouched = self.words[4 * count..].iter().all(|w| *w == UNSET)
+            && self.lens[count..].iter().all(|l| *l == UNSET);
+        let guards = [
+            &self.out.0[..GUARD],
+            &self.out.0[GUARD + bytes..2 * GUARD + bytes],
+        ];
+        untouched && guards.concat().iter().all(|byte| *byte == LEFT)
+    }
 }
 
 impl Tried {
@@ -149,6 +189,88 @@ impl Tried {
         self.expect(place == count, call, "host's last place", place, room);
     }
 
+    /// The event with all its bytes by one call: the state, the hold and the words of the event alone, and the bytes of the batch.
+    fn whole(
+        &mut self,
+        call: &Call,
+        (state, hold): Met,
+        rooms: &mut [Box<Room>; 2],
+        rng: &mut Rng,
+    ) {
+        let (mut g, mut h, mut alone) = (*state, *state, *state);
+        let (mut u, mut v, mut w) = (hold.to_vec(), hold.to_vec(), hold.to_vec());
+        let [ours, theirs] = rooms;
+        // short by one byte or by more: refused, after what else is wrong, and nothing changes
+        let bytes = rng.pick(&[0, 1, 2048, 65_536, ROOM_BYTES - 1]);
+        let no = call.handled(
+            &mut g,
+            &mut u,
+            &mut ours.words,
+            &mut ours.lens,
+            &mut ours.out.lend()[..bytes],
+        );
+        let theirs_no = h.handle(
+            call.event(),
+            &mut v,
+            &mut theirs.words,
+            &mut theirs.lens,
+            &mut theirs.out.lend()[..bytes],
+        );
+        let mut words = [UNSET; LIST_WORDS];
+        let done = call.proved(&mut alone, &mut w, &mut words);
+        let code = if done.refusal == 0 { 103 } else { done.refusal };
+        let refused = (no.refusal, no.count, no.length) == (code, 0, 0)
+            && (theirs_no.code, theirs_no.count, theirs_no.length) == (code, 0, 0);
+        let kept = g == *state
+            && h == *state
+            && u == hold
+            && v == hold
+            && ours.ends_at(0, 0)
+            && theirs.ends_at(0, 0);
+        self.expect(refused && kept, call, "a short room", 0, bytes);
+        self.short += 1;
+        let a = call.handled(
+            &mut g,
+            &mut u,
+            &mut ours.words,
+            &mut ours.lens,
+            ours.out.lend(),
+        );
+        let b = h.handle(
+            call.event(),
+            &mut v,
+            &mut theirs.words,
+            &mut theirs.lens,
+            theirs.out.lend(),
+        );
+        let numbers = (b.code, b.count as usize, b.length as usize);
+        let same = (a.refusal, a.count, a.length) == numbers
+            && (a.refusal, a.count) == (done.refusal, done.count)
+            && (g == h && g == alone && u == v && u == w)
+            && (ours.words == theirs.words && ours.words == words && ours.lens == theirs.lens);
+        let end = 2 * GUARD + a.length;
+        let same =
+            same && ours.out.0[..end] == theirs.out.0[..end] && ours.ends_at(a.count, a.length);
+        self.expect(same, call, "with its bytes", 0, ROOM_BYTES);
+        if a.count > 0 {
+            let (mut lens, mut out) = (Lent::new(MAX_ORDERS, UNSET), Lent::new(a.length, LEFT));
+            let batch = call.orders(state, hold, 0, lens.lend(), out.lend());
+            let same = (batch.code, batch.count, batch.length) == (0, a.count, a.length)
+                && *lens.lend() == ours.lens
+                && *out.lend() == ours.out.lend()[..a.length];
+            self.expect(
+                same,
+                call,
+                "with its bytes against the batch",
+                0,
+                ROOM_BYTES,
+            );
+        }
+        ours.clear(a.length);
+        theirs.clear(a.length);
+        self.whole += 1;
+    }
+
     /// Numbers beyond 32 bits are not cut, and a kind that there is not is an ASP beyond the plan.
     fn wide(&mut self, call: &Call, (state, hold): Met, refusal: u32) {
         let (far, kind, index) = (1 << 32, call.what as u32, call.index as usize);
@@ -199,7 +321,7 @@ fn by_singles(
         length: 0,
     };
     let mut words = [0; LIST_WORDS];
-    let next = call.second(*state, &mut hold.to_vec(), &mut words);
+    let next = call.second(&mut { *state }, &mut hold.to_vec(), &mut words);
     if next.code != 0 {
         return refused(next.code);
     }
@@ -240,6 +362,7 @@ fn main() {
     let mut rng = Rng::new(seed);
     let mut tried = Tried::default();
     let mut events = 0;
+    let mut rooms = [Room::new(), Room::new()];
     for kind in kinds {
         let mut state = Gateway::ZERO;
         let mut hold = Hold::default();
@@ -258,15 +381,16 @@ fn main() {
             // the list's length plays no part
             call.room = LIST_WORDS;
             let before = hold.lent(call.hold).to_vec();
-            let next = call.second(state, hold.lend(call.hold), &mut [0; LIST_WORDS]);
+            let was = state;
+            let next = call.second(&mut state, hold.lend(call.hold), &mut [0; LIST_WORDS]);
             let count = next.count as usize;
-            let met = (&state, &before[..]);
+            let met = (&was, &before[..]);
             tried.all_places(&call, met, count, &mut rng);
             tried.some_batches(&call, met, count, &mut rng);
             tried.host(&call, met, count, &mut rng);
             tried.wide(&call, met, next.code);
+            tried.whole(&call, met, &mut rooms, &mut rng);
             events += 1;
-            state = next.gateway;
         }
     }
     let Tried {
@@ -274,9 +398,11 @@ fn main() {
         batches,
         failures,
         most,
+        whole,
+        short,
         ..
     } = tried;
-    println!("{name}, seed {seed}: {events} events, {singles} single calls (results {:?}), {batches} batches (results {:?}, at most {most} actions in one), {failures} differences", tried.codes, tried.batch_codes);
+    println!("{name}, seed {seed}: {events} events, {singles} single calls (results {:?}), {batches} batches (results {:?}, at most {most} actions in one), {whole} events with all their bytes, {short} short rooms, {failures} differences", tried.codes, tried.batch_codes);
     println!("  messages by class and type: {:?}", tried.types);
     std::process::exit((failures > 0) as i32);
 }

@@ -4,32 +4,39 @@ use bench::messages::{active_of, active_of_ranges, message};
 use bench::plans::full_plan_of;
 use bench::{proved, timing};
 use second::events::LIST_WORDS as ROOM;
-use second::{load, Gateway, Next, HOLD_BYTES};
+use second::{load, Done, Event, Gateway, HOLD_BYTES};
 use std::hint::black_box;
 
 /// The most ranges that a message has.
 const MOST: u32 = 254;
 
-// The hand-written baseline gets the state by value too.
+// The hand-written baseline, not compiled into the loop that calls it.
 #[inline(never)]
-fn hand(state: Gateway, msg: &[u8], hold: &mut [u8], words: &mut [u32]) -> Next {
-    state.message(0, msg, hold, words)
+fn hand(state: &mut Gateway, msg: &[u8], hold: &mut [u8], words: &mut [u32]) -> Done {
+    let event = Event::Message {
+        asp: 0,
+        message: msg,
+    };
+    state.run(event, hold, words)
 }
 
 /// So many links, identifiers 0, 1 and so on; ASP 0 up and active everywhere.
 fn active_on(links: u32) -> Gateway {
     let (mut hold, mut words) = (vec![0; HOLD_BYTES], [0; ROOM]);
-    let fresh = load(&full_plan_of(links, 1)).gateway;
-    let up = hand(fresh, &message(3, 1, &[]), &mut hold, &mut words).gateway;
-    hand(up, &message(4, 1, &[]), &mut hold, &mut words).gateway
+    let mut state = load(&full_plan_of(links, 1)).gateway;
+    for msg in [message(3, 1, &[]), message(4, 1, &[])] {
+        hand(&mut state, &msg, &mut hold, &mut words);
+    }
+    state
 }
 
 /// The Active, first seen to give its Ack alone on both sides.
 fn time(name: &str, state: &Gateway, msg: &[u8]) {
     let (mut x, mut y) = ([0xaa; ROOM], [0xaa; ROOM]);
     let (mut v, mut w) = (vec![0xaa; HOLD_BYTES], vec![0xaa; HOLD_BYTES]);
-    let a = proved::message(*state, 0, msg, &mut v, &mut x);
-    let b = hand(*state, msg, &mut w, &mut y);
+    let (mut g, mut h) = (*state, *state);
+    let a = proved::event(&mut g, 0, 0, msg, &mut v, &mut x);
+    let b = hand(&mut h, msg, &mut w, &mut y);
     assert_eq!(
         (a.refusal, a.count, b.code, b.count),
         (0, 1, 0, 1),
@@ -37,11 +44,11 @@ fn time(name: &str, state: &Gateway, msg: &[u8]) {
     );
     assert_eq!(y[..4], [0, 0x403, 0, 0], "{name}");
     assert!(x == y && v == w, "{name}");
-    assert!(a.gateway == *state && b.gateway == *state, "{name}");
+    assert!(g == *state && h == *state, "{name}");
     timing::compare(
         name,
-        || proved::message(*black_box(state), 0, msg, &mut v, &mut x),
-        || hand(*black_box(state), msg, &mut w, &mut y),
+        || proved::event(black_box(&mut g), 0, 0, msg, &mut v, &mut x),
+        || hand(black_box(&mut h), msg, &mut w, &mut y),
     );
 }
 

@@ -30,27 +30,17 @@ impl World {
     }
 }
 
-/// An event by one of the two libraries: refusal, count and next state.
-type Side = fn(&Call, Gateway, &mut [u8], &mut [u32]) -> (u32, usize, Gateway);
+/// An event by one of the two libraries, on the state where it lies: refusal and count.
+type Side = fn(&Call, &mut Gateway, &mut [u8], &mut [u32]) -> (u32, usize);
 
-fn by_proved(
-    call: &Call,
-    state: Gateway,
-    hold: &mut [u8],
-    list: &mut [u32],
-) -> (u32, usize, Gateway) {
+fn by_proved(call: &Call, state: &mut Gateway, hold: &mut [u8], list: &mut [u32]) -> (u32, usize) {
     let r = call.proved(state, hold, list);
-    (r.refusal, r.count, r.gateway)
+    (r.refusal, r.count)
 }
 
-fn by_second(
-    call: &Call,
-    state: Gateway,
-    hold: &mut [u8],
-    list: &mut [u32],
-) -> (u32, usize, Gateway) {
+fn by_second(call: &Call, state: &mut Gateway, hold: &mut [u8], list: &mut [u32]) -> (u32, usize) {
     let r = call.second(state, hold, list);
-    (r.code, r.count as usize, r.gateway)
+    (r.code, r.count as usize)
 }
 
 /// What stands in a hold that is lent for its length alone.
@@ -62,10 +52,9 @@ fn step(side: Side, call: &Call, world: &World) -> (Given, World) {
     let mut other = vec![OTHER; call.hold];
     let right = call.hold == HOLD_BYTES;
     let lent = if right { &mut next.hold } else { &mut other };
-    let (refusal, count, state) = side(call, world.state, lent, &mut list);
+    let (refusal, count) = side(call, &mut next.state, lent, &mut list);
     let same = right || other.iter().all(|byte| *byte == OTHER);
     assert!(same, "a hold of another length was written: {call:?}");
-    next.state = state;
     list.truncate(4 * count);
     let given = Given {
         refusal,

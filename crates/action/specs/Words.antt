@@ -1,5 +1,4 @@
--- Actions as words. A function that emits leaves the list `place ws n os`: by stores, so that one list of actions after the other needs no
--- bounds; `place-first` is the same as the whole list, the actions' words and after them the words that were there.
+-- An action, its four words (Rule 8.1), and one action to each of several ASPs.
 -- Assumes nothing.
 use Prim.Native.Nat.{ℕ}
 use mathlib.Core.Bool.{Bool}

@@ -2,10 +2,10 @@
 -- Assumes nothing.
 use Prim.Native.Nat.{ℕ}
 use mathlib.Core.Bool.{cond}
-use mathlib.Core.List.{List, [], _∷_}
+use mathlib.Core.List.{List}
 use lib.Dec.{eqb}
 use lib.ListN.{length}
-use Rattle.rules.specs.Event.{EventKind, message, lost, recovery, linkUp, linkDown, linkMessage, Event}
+use Rattle.rules.specs.Event.{EventKind, message, lost, recovery, linkUp, linkDown, linkMessage, lending, Event}
 
 -- the numbers of the six kinds
 abbrev pub messageKind : ℕ
@@ -39,12 +39,8 @@ happened k i s =
 
 -- an event of a kind, with the lengths of its list and of its hold
 abbrev pub eventOf : EventKind → ℕ → ℕ → Event
-eventOf k room hold = record { kind = k; room = room; hold = hold }
+eventOf k room hold = record { kind = k; lent = lending room hold }
 
 -- the same of the lent list and hold
 abbrev pub event : EventKind → List ℕ → List ℕ → Event
 event k ws hold = eventOf k (length ws) (length hold)
-
--- the message of a class and type that has no parameters: 8 bytes
-abbrev pub plain : ℕ → ℕ → List ℕ
-plain class msgtype = 1 ∷ 0 ∷ class ∷ msgtype ∷ 0 ∷ 0 ∷ 0 ∷ 8 ∷ []

@@ -1,12 +1,16 @@
 // What an event asks of the gateway, its message read, and whether it is refused: for the events and for reach alike.
 use message::Reading;
+use rules::Link;
 ghost use mathlib.Core.Path.{_≡_};
 ghost use mathlib.Core.Bool.{true, _||_};
-ghost use Prim.Native.Nat.{_≤_};
-ghost use lib.Dec.{eqb, ltb};
+ghost use Prim.Native.Nat.{_<_, _≤_};
+ghost use lib.Dec.{eqb};
 ghost use Rattle.gateway.specs.Sound.{ascends};
+ghost use Rattle.rules.specs.Event.{lending};
 ghost use Rattle.rules.specs.Rules.{refusalOf};
-ghost use Rattle.ask.specs.Inner.Ask.{askKnown, askOf, AskAt, Asks};
+ghost use Rattle.ask.specs.Inner.Ask.{askOf, Asks};
+ghost use Rattle.links.specs.Inner.Records.{Placed, linkIn};
+ghost use Rattle.ask.specs.Inner.Place.{knownIn, Named};
 
 // The numbers of the six kinds of event.
 pub const MESSAGE: u32 = 0;
@@ -45,7 +49,7 @@ pub enum Ask {
 
 // Rule 6.3: 105, then 102, then 106, then 101; known is that what the event names is in the plan.
 fn refusal(sound: bool, known: bool, hold: usize, room: usize) -> u32
-    ensures { λ r. ⌜ r ≡ refusalOf sound known hold room ⌝ }
+    ensures { λ r. ⌜ r ≡ refusalOf sound known (lending room hold) ⌝ }
 {
     if sound {
         if known {
@@ -62,85 +66,102 @@ fn refusal(sound: bool, known: bool, hold: usize, room: usize) -> u32
     105
 }
 
-// What an event names: whether it is in the plan, and its index.
+// The place among the links that an event names: whether there is such a link, and its index, or 0.
 pub struct Place {
-    pub known: bool,
+    pub there: bool,
     pub index: usize,
 }
 
-fn named(i: usize, n: usize) -> Place
-    ensures { λ r. ⌜ (r .known ≡ ltb i n) × (r .index ≡ i) ⌝ }
+fn place_at(l: usize, links: usize) -> Place
+    requires { ⌜ links ≤ 128 ⌝ }
+    ensures { λ r. ⌜ Placed links l (r .there) (r .index) ⌝ }
 {
+    if l < links {
+        return Place {
+            there: true,
+            index: l,
+        };
+    }
     Place {
-        known: i < n,
-        index: i,
+        there: false,
+        index: 0,
     }
 }
 
-fn find<'a>(
-    ask: Ask,
-    asps: usize,
-    ases: usize,
-    links: usize,
-    iid: &'a [u32; 128],
-    highspeed: &'a [u8; 128],
-) -> Place
+// The link that a message names: only one of class 6 names one.
+fn place_in(iid: &[u32; 128], links: usize, r: Reading) -> Place
     requires { ⌜ (links ≤ 128) × (ascends (now iid) links ≡ true) ⌝ }
-    ensures { λ r. ⌜ (r .known ≡ askKnown asps ases links (now (iid .entry)) (now (highspeed .entry)) ask) × (r .known ≡ true → AskAt links (now (iid .entry)) ask (r .index)) ⌝ }
+    ensures { λ t. ⌜ Placed links (linkIn links (now (iid .entry)) r) (t .there) (t .index) ⌝ }
+{
+    if r.class == 6 {
+        return place_at(lookup::index_of(iid, links, r.id), links);
+    }
+    place_at(links, links)
+}
+
+fn place_by(iid: &[u32; 128], links: usize, ask: Ask) -> Place
+    requires { ⌜ (links ≤ 128) × (ascends (now iid) links ≡ true) ⌝ }
+    ensures { λ r. ⌜ Named links (now (iid .entry)) ask (r .there) (r .index) ⌝ }
 {
     match ask {
-        Ask::Up(p, _) => named(p, asps),
-        Ask::Down(p) => named(p, asps),
-        Ask::Traffic(p, _, _) => named(p, asps),
-        Ask::Other(p, _, _) => named(p, asps),
-        Ask::Lost(p) => named(p, asps),
-        Ask::Recovery(a) => named(a, ases),
-        Ask::LinkUp(l) => named(l, links),
-        Ask::LinkDown(l) => named(l, links),
-        Ask::LinkMessage(r) => named(links::place_of(iid, highspeed, links, r), links),
+        Ask::Up(_, _) => place_at(links, links),
+        Ask::Down(_) => place_at(links, links),
+        Ask::Traffic(_, _, _) => place_at(links, links),
+        Ask::Other(_, r, _) => place_in(iid, links, r),
+        Ask::Lost(_) => place_at(links, links),
+        Ask::Recovery(_) => place_at(links, links),
+        Ask::LinkUp(l) => place_at(l, links),
+        Ask::LinkDown(l) => place_at(l, links),
+        Ask::LinkMessage(r) => place_in(iid, links, r),
     }
 }
 
-// A refusal, or 0 and the index of what the event names: a link's identifier is looked up in this one place.
-pub struct Found {
-    pub code: u32,
-    pub index: usize,
-}
-
-// The refusal of an event, or 0: `sound` says that the state is, `hold` and `room` are the lengths of what is lent. What it names is looked up only where the state is sound.
-pub fn refused<'a>(
-    sound: bool,
-    asps: u8,
-    ases: u8,
-    links: u8,
-    iid: &'a [u32; 128],
-    highspeed: &'a [u8; 128],
-    ask: Ask,
-    hold: usize,
-    room: usize,
-) -> Found
+// The one place where a link's identifier is looked up; only where the state is sound.
+pub fn placed(sound: bool, links: u8, iid: &[u32; 128], ask: Ask) -> Place
     requires { ⌜ (sound ≡ true → (links ≤ 128) × (ascends (now iid) links ≡ true)) ⌝ }
-    ensures { λ r. ⌜ (r .code ≡ refusalOf sound (askKnown asps ases links (now (iid .entry)) (now (highspeed .entry)) ask) hold room) × (r .code ≡ 0 → AskAt links (now (iid .entry)) ask (r .index)) ⌝ }
+    ensures { λ r. ⌜ (r .index < 128) × (sound ≡ true → Named links (now (iid .entry)) ask (r .there) (r .index)) ⌝ }
 {
     if !sound {
-        return Found {
-            code: 105,
+        return Place {
+            there: false,
             index: 0,
         };
     }
-    let n = find(
-        ask,
-        gateway::wide(asps),
-        gateway::wide(ases),
-        gateway::wide(links),
-        iid,
-        highspeed,
-    );
-    let code = refusal(sound, n.known, hold, room);
-    Found {
-        code,
-        index: n.index,
+    place_by(iid, gateway::wide(links), ask)
+}
+
+// What an event names is in the plan: there and k are the link, where it names one.
+fn is_known(ask: Ask, asps: usize, ases: usize, there: bool, k: Link) -> bool
+    ensures { λ r. ⌜ r ≡ knownIn asps ases there k ask ⌝ }
+{
+    match ask {
+        Ask::Up(p, _) => p < asps,
+        Ask::Down(p) => p < asps,
+        Ask::Traffic(p, _, _) => p < asps,
+        Ask::Other(p, _, _) => p < asps,
+        Ask::Lost(p) => p < asps,
+        Ask::Recovery(a) => a < ases,
+        Ask::LinkUp(_) => there,
+        Ask::LinkDown(_) => there,
+        Ask::LinkMessage(r) => links::passes(there, k, r),
     }
+}
+
+// The refusal of an event, or 0: `sound` says that the state is, `hold` and `room` are the lengths of what is lent.
+pub fn refused(
+    sound: bool,
+    asps: u8,
+    ases: u8,
+    there: bool,
+    k: Link,
+    ask: Ask,
+    hold: usize,
+    room: usize,
+) -> u32
+    ensures { λ r. ⌜ r ≡ refusalOf sound (knownIn asps ases there k ask) (lending room hold) ⌝ }
+{
+    let known = is_known(ask, gateway::wide(asps), gateway::wide(ases), there, k);
+    refusal(sound, known, hold, room)
 }
 
 // ---- what is asked

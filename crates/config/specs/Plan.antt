@@ -98,6 +98,34 @@ owners s = column 128 (count s 2) (λ l. low (be 4 s (offset s 2 + 4 + linkBody 
 unfoldable pub kinds : List ℕ → List ℕ
 kinds s = column 128 (count s 2) (λ l. high (be 4 s (offset s 2 + 4 + linkBody .row * l)))
 
+-- what a file says: how many ASPs, ASes and links, and a column for each field of their rows
+pub record Tables : Type 0 where
+  pub asps : ℕ
+  pub ases : ℕ
+  pub links : ℕ
+  pub aspid : List ℕ
+  pub mask : List ℕ
+  pub list : List ℕ
+  pub mode : List ℕ
+  pub iid : List ℕ
+  pub owner : List ℕ
+  pub kind : List ℕ
+
+abbrev pub tablesOf : List ℕ → Tables
+tablesOf s =
+    record {
+      asps = count s 0;
+      ases = count s 1;
+      links = count s 2;
+      aspid = aspIds s;
+      mask = masks s;
+      list = lists s;
+      mode = modes s;
+      iid = linkIds s;
+      owner = owners s;
+      kind = kinds s;
+    }
+
 -- bit a of a mask, 0 or 1, and the bits from a on as one number
 abbrev pub bit : ℕ → ℕ → ℕ
 bit mask a = mask / 2 ^ a % 2
@@ -122,34 +150,35 @@ abbrev pub listRules : ℕ
 listRules = 2
 
 -- else 202 (Rule 4.5): besides, no two ASPs share an identifier, those of links ascend, and owners are the plan's
-unfoldable pub rowsOk : ℕ → ℕ → ℕ → List ℕ → List ℕ → List ℕ → List ℕ → List ℕ → List ℕ → List ℕ → Bool
-rowsOk asps ases links aspid mask list mode iid owner kind =
-    (modesOk mode ases && (masksOk mask asps ases && allUnder list listRules asps))
-    && (allBelow (differs aspid) asps && (ascends iid links && (allUnder owner ases links && allUnder kind linkKinds links)))
+unfoldable pub rowsOk : Tables → Bool
+rowsOk t =
+    (modesOk (t .mode) (t .ases) && (masksOk (t .mask) (t .asps) (t .ases) && allUnder (t .list) listRules (t .asps)))
+    && (allBelow (differs (t .aspid)) (t .asps)
+    && (ascends (t .iid) (t .links) && (allUnder (t .owner) (t .ases) (t .links) && allUnder (t .kind) linkKinds (t .links))))
 
 -- member or not, pair by pair, of the masks
 unfoldable pub members : List ℕ → List ℕ
 members mask = tabulate 256 (λ i. bit (numberAt mask (i % 16)) (i / 16))
 
 -- the state with the plan's tables in which nothing has happened yet (Rule 4.6)
-unfoldable pub fresh : ℕ → ℕ → ℕ → List ℕ → List ℕ → List ℕ → List ℕ → List ℕ → List ℕ → List ℕ → Gateway
-fresh asps ases links aspid mask list mode iid owner kind =
+unfoldable pub fresh : Tables → Gateway
+fresh t =
     record {
-      asps = asps;
-      ases = ases;
-      links = links;
+      asps = t .asps;
+      ases = t .ases;
+      links = t .links;
       spare = 0;
-      aspid = aspid;
+      aspid = t .aspid;
       up = replicate 16 0;
-      member = members mask;
+      member = members (t .mask);
       active = replicate 256 0;
-      mode = mode;
+      mode = t .mode;
       waiting = replicate 16 0;
-      iid = iid;
-      owner = owner;
+      iid = t .iid;
+      owner = t .owner;
       state = replicate 128 0;
-      highspeed = kind;
-      wholelists = list;
+      highspeed = t .kind;
+      wholelists = t .list;
       held = noUnits;
     }
 
@@ -159,15 +188,9 @@ refused n = record { code = n; gateway = zeros }
 abbrev pub accepted : Gateway → Loaded
 accepted g = record { code = 0; gateway = g }
 
--- the answer to a file that is laid out well, from its counts and tables
-unfoldable pub built : ℕ → ℕ → ℕ → List ℕ → List ℕ → List ℕ → List ℕ → List ℕ → List ℕ → List ℕ → Loaded
-built asps ases links aspid mask list mode iid owner kind =
-    cond (rowsOk asps ases links aspid mask list mode iid owner kind)
-    (accepted (fresh asps ases links aspid mask list mode iid owner kind))
-    (refused 202)
+-- the answer to a file that is laid out well, from what it says
+unfoldable pub built : Tables → Loaded
+built t = cond (rowsOk t) (accepted (fresh t)) (refused 202)
 
 unfoldable pub loadOf : List ℕ → Loaded
-loadOf s =
-    cond (layoutOk s)
-    (built (count s 0) (count s 1) (count s 2) (aspIds s) (masks s) (lists s) (modes s) (linkIds s) (owners s) (kinds s))
-    (refused 201)
+loadOf s = cond (layoutOk s) (built (tablesOf s)) (refused 201)

@@ -14,7 +14,7 @@ use Rattle.gateway.specs.declared.Gateway.{Gateway}
 use Rattle.action.specs.declared.Action.{Action}
 use Rattle.action.specs.Types.{userData}
 use Rattle.action.specs.Words.{wordsOf, linkSide}
-use Rattle.conserve.specs.Conserve.{isData, isDataAt, least, sumBelow}
+use Rattle.conserve.specs.Conserve.{isDataOf, isDataAt, least, sumBelow}
 
 -- ---- tests
 
@@ -75,7 +75,7 @@ least-is k n b = go (decLt k n)
 
 unfoldable pub dataIn : Gateway → ℕ → List Action → ℕ
 dataIn g a [] = 0
-dataIn g a (o ∷ os) = one (isData g a (o .to) (o .classtype) (o .subject)) + dataIn g a os
+dataIn g a (o ∷ os) = one (isDataOf g a (o .to) (o .classtype) (o .subject)) + dataIn g a os
 
 module _ (g : Gateway) (a : ℕ) where
   pub data-append : (os ps : List Action) → dataIn g a (os ++ ps) ≡ dataIn g a os + dataIn g a ps
@@ -89,7 +89,7 @@ module _ (g : Gateway) (a : ℕ) where
   data-concat f (suc n) = data-append (concatBelow f n) (f n) ∙ rw (data-concat f n)
 
   -- any other action
-  pub no-data : (q k s : ℕ) → eqb k userData ≡ false → isData g a q k s ≡ false
+  pub no-data : (q k s : ℕ) → eqb k userData ≡ false → isDataOf g a q k s ≡ false
   no-data q k s e = rw e (and-no (not (eqb q linkSide)))
 
   -- ---- as words
@@ -113,5 +113,5 @@ module _ (g : Gateway) (a : ℕ) where
   data-words [] ws = refl
   data-words (o ∷ os) ws =
       front (isDataAt g a (wordsOf (o ∷ os) ++ ws)) (length os)
-      ∙ ap (λ (f : ℕ → Bool). one (isData g a (o .to) (o .classtype) (o .subject)) + countBelow f (length os)) (λ j i. behind (o .to) (o .classtype) (o .subject) (o .value) (wordsOf os ++ ws) i j)
-      ∙ ap (λ (x : ℕ). one (isData g a (o .to) (o .classtype) (o .subject)) + x) (data-words os ws)
+      ∙ ap (λ (f : ℕ → Bool). one (isDataOf g a (o .to) (o .classtype) (o .subject)) + countBelow f (length os)) (λ j i. behind (o .to) (o .classtype) (o .subject) (o .value) (wordsOf os ++ ws) i j)
+      ∙ ap (λ (x : ℕ). one (isDataOf g a (o .to) (o .classtype) (o .subject)) + x) (data-words os ws)

@@ -33,13 +33,13 @@ use Rattle.rules.specs.Identifiers.{isKnown, linkOf, ownerAt}
 use Rattle.rules.specs.Reach.{ownsId}
 use Rattle.rules.specs.Effect.{Effect, send, setLink, changeIn, actionsOf, stateAfter}
 use Rattle.rules.specs.Asp.{lostEffect}
-use Rattle.rules.specs.Link.{isPending, arrival, holdEffect, linkMessageEffect}
+use Rattle.rules.specs.Link.{isPending, arrival, holdEffect, linkMessageOn, linkMessageEffect}
 use Rattle.rules.specs.Rules.{effectOf, inPlan, refusal}
 use Rattle.rules.specs.Entry.{actions, next}
 use Rattle.rules.specs.Inner.Accepted.{accepted}
 use Rattle.rules.specs.Inner.TakeIn.{planned}
 use Rattle.conserve.specs.Conserve.{isArrival, isRecovery, holds}
-use Rattle.rules.specs.Sent.{isPassed, isData as isToAsp}
+use Rattle.rules.specs.Sent.{isPassed, isData}
 use Rattle.rules.specs.Inner.Shapes.{Shapes, isOver, of-message, of-up, of-down}
 use Rattle.conserve.proofs.Count.{sum-none, dataIn, data-concat, and-yes, and-no, zero-either}
 use Rattle.conserve.proofs.Step.{Step, still, joins, changed}
@@ -51,8 +51,8 @@ module _ (g : Gateway) (a : ℕ) where
   unfolding dataIn
   none = refl
 
-  other : (x : Action) (os : List Action) → isToAsp x ≡ false → dataIn g a os ≡ 0 → dataIn g a (x ∷ os) ≡ 0
-  unfolding dataIn isToAsp
+  other : (x : Action) (os : List Action) → isData x ≡ false → dataIn g a os ≡ 0 → dataIn g a (x ∷ os) ≡ 0
+  unfolding dataIn isData
   other x os e n = rw (go (eqb (x .to) linkSide) (eqb (x .classtype) userData) e) (omega (arith, n))
     where
       go : (u v : Bool) → (v && not u) ≡ false → (not u && (v && ownsId g (x .subject) a)) ≡ false
@@ -65,7 +65,7 @@ module _ (g : Gateway) (a : ℕ) where
   may false os n = none
 
   others : (who : List Bool) (k s v : ℕ) → eqb k userData ≡ false → dataIn g a (toAll who k s v) ≡ 0
-  unfolding toAll toEach isToAsp
+  unfolding toAll toEach isData
   others who k s v e =
       data-concat g a (toEach who k s v) 16
       ∙ sum-none (λ q. dataIn g a (toEach who k s v q)) 16 (λ q b. may (flagAt who q) (action q k s v ∷ []) (other (action q k s v) [] (rw e) none))
@@ -88,7 +88,7 @@ module _ (g : Gateway) (a : ℕ) where
     unfolding Fair
     altered k named os f o n s = rw o at (changed g ok a b k named f os n s)
 
-    second : (x y : Action) (u : Bool) → isToAsp x ≡ false → isToAsp y ≡ false → dataIn g a (x ∷ cond u (y ∷ []) []) ≡ 0
+    second : (x y : Action) (u : Bool) → isData x ≡ false → isData y ≡ false → dataIn g a (x ∷ cond u (y ∷ []) []) ≡ 0
     second x y u e d = other x _ e (may u (y ∷ []) (other y [] d none))
 
     fair : Shapes Fair
@@ -121,7 +121,7 @@ module _ (g : Gateway) (a : ℕ) where
 
     -- Data for an AS that is pending joins its units, or is the ninth; all else leaves them
     linked : (s : List ℕ) → inPlan g (linkMessage s) ≡ true → Step g a (isArrival g (linkMessage s) a) false 0 (stateAfter g (linkMessageEffect g s (readingOf s)))
-    unfolding linkMessageEffect holdEffect ownsId
+    unfolding linkMessageEffect linkMessageOn holdEffect ownsId
     linked s i =
         rw (k, own (eqb o a) refl)
         (by-cond (eqb (readingOf s .msgtype) 1 && isPending g o) (λ (d : Effect). Step g a ((eqb (readingOf s .msgtype) 1 && isPending g o) && eqb o a) false 0 (stateAfter g d))
@@ -166,5 +166,5 @@ module _ (g : Gateway) (a : ℕ) where
       where
         go : (t : Bool) → eqb (refusal g e) 0 ≡ t → isSound (cond t (stateAfter g (effectOf g (e .kind))) g) ≡ true
             → Step g a (t && isArrival g (e .kind) a) (t && isRecovery (e .kind) a) (cond (isPassed (e .kind)) 0 (dataIn g a (cond t (actionsOf g (effectOf g (e .kind))) []))) (cond t (stateAfter g (effectOf g (e .kind))) g)
-        go true h s = of-kind (e .kind) (accepted (isSound g) (inPlan g (e .kind)) (e .hold) (e .room) (eqb-true (refusal g e) 0 h) .known-yes) s
+        go true h s = of-kind (e .kind) (accepted (isSound g) (inPlan g (e .kind)) (e .lent) (eqb-true (refusal g e) 0 h) .known-yes) s
         go false h s = rw (none, ← zero-either (isPassed (e .kind))) (still g ok a b refl refl)

@@ -11,7 +11,7 @@ use Rattle.wire.specs.Walk.{stepAt, walkF, walk, partOf}
 use Rattle.parameter.specs.Check.{textCode, allowedCode, parCode}
 use Rattle.parameter.specs.Table.{table, among, hasClass, rowIn, entriesIn, useIn, usage}
 use Rattle.parameter.specs.Value.{limitsOf, wordCode, plainCode, idCode, bodyCode}
-use Rattle.message.specs.Meaning.{meaning, outcome, readingOf, bodyIn, tagIn, placeIn, dataOf, dataTag, dataAt}
+use Rattle.message.specs.Meaning.{meaning, outcome, readingOf, bodyIn, foundIn, dataOf, dataTag, dataAt}
 use Rattle.message.specs.Verdict.{has, head, number, isNone, inTurn, allThere, sequenceCode, parsCode, lastChecks, verdict}
 use Rattle.gateway.specs.Sound.{countsIn, blankFrom, differs, flagWithin, soundAsps, memberAt, activeAt, soundRow, activeIn, modeAt, waitingAt, overrideAt, soundAs, soundAses, ascends, allUnder, soundLinks, soundKinds, soundLists, isLinkOf, unitAt, blankAt, unitsOk, sized, allUnits, soundUnits, soundTables, isSound}
 use Rattle.config.specs.Plan.{offset, count, follow, layoutOk, column, aspIds, masks, lists, modes, linkIds, owners, kinds, modesOk, masksOk, rowsOk, members, fresh, built, loadOf}
@@ -25,22 +25,22 @@ use Rattle.servers.specs.Changed.{columnOf, withFlag, actionsAt, newActive, new
 use Rattle.rules.specs.Asp.{upEffect, downEffect, otherMode, activeEffect, inactiveEffect, trafficEffect}
 use Rattle.rules.specs.Entry.{actions, next}
 use Rattle.rules.specs.Identifiers.{isKnown, linkOf}
-use Rattle.rules.specs.Link.{canHave, isPending, arrival, holdEffect, linkMessageEffect}
+use Rattle.rules.specs.Link.{canHave, isPending, arrival, holdEffect, linkMessageOn, linkMessageEffect}
 use Rattle.rules.specs.Reach.{ownsId}
 use Rattle.rules.specs.Rules.{isError, fromAsp, readEffect, messageEffect, fromLink, refusalOf}
-use Rattle.rules.specs.Samples.{planS, fresh as fresh-rules, bare, unit, event}
+use Rattle.rules.specs.Samples.{planS, freshS, unit, sampleEvent}
 use Rattle.rules.specs.Event.{EventKind, Event}
 use Rattle.rules.specs.Effect.{holdBytes}
 use Rattle.rules.specs.Calls.{Board, Call, events, boardAfter, Calls, none, call}
 use Rattle.rules.specs.Inner.Calls.{made, lend-same, made-meets, made-hold}
-use Rattle.conserve.specs.Conserve.{cameIn, isDataAt, sentOut, since, tally, holds}
-use Rattle.conserve.specs.Samples.{leaves, day, Day}
+use Rattle.conserve.specs.Conserve.{cameIn, isDataAt, sentOut, since, tally, holds, sumBelow}
+use Rattle.conserve.specs.Samples.{leaves, day, Day, Sums}
 
 -- ---- calls for events
 
 -- lent a list of zeros
 abbrev given : Board → EventKind → Call
-given b k = made b (event k) (replicate 1544 0)
+given b k = made b (sampleEvent k) (replicate 1544 0)
 
 unfoldable callsOf : Board → List EventKind → List Call
 callsOf b [] = []
@@ -54,21 +54,21 @@ are-calls : (b : Board) (ks : List EventKind) → length (b .hold) ≡ holdBytes
 unfolding callsOf endOf
 are-calls b [] n = none
 are-calls b (k ∷ ks) n =
-    call {d = given b k} (made-meets b (event k) n (replicate 1544 0) (length-replicate {A = ℕ} 1544 0)) (lend-same b (event k))
-    (are-calls (boardAfter b (given b k)) ks (made-hold b (event k) n (replicate 1544 0)))
+    call {d = given b k} (made-meets b (sampleEvent k) n (replicate 1544 0) (length-replicate {A = ℕ} 1544 0)) (lend-same b (sampleEvent k))
+    (are-calls (boardAfter b (given b k)) ks (made-hold b (sampleEvent k) n (replicate 1544 0)))
 
-of-events : (b : Board) (ks : List EventKind) → events (callsOf b ks) ≡ map event ks
+of-events : (b : Board) (ks : List EventKind) → events (callsOf b ks) ≡ map sampleEvent ks
 unfolding callsOf
 of-events b [] = refl
-of-events b (k ∷ ks) = ap (λ (es : List Event). event k ∷ es) (of-events (boardAfter b (given b k)) ks)
+of-events b (k ∷ ks) = ap (λ (es : List Event). sampleEvent k ∷ es) (of-events (boardAfter b (given b k)) ks)
 
 -- ---- the sample
 
 abbrev first : Board
-first = record { gateway = fresh-rules; hold = replicate holdBytes 0 }
+first = record { gateway = freshS; hold = replicate holdBytes 0 }
 
-computed : (tally 0 0 fresh-rules (callsOf first day) ≡ record { came = 11; sent = 8; discarded = 1; turned = 1 }) × (holds (endOf first day .gateway) 0 ≡ 1)
-unfolding anyBelow allBelow concatBelow firstBelow countBelow tabulate be stepAt walkF walk partOf textCode allowedCode parCode table among hasClass rowIn entriesIn useIn usage limitsOf wordCode plainCode idCode bodyCode meaning outcome readingOf bodyIn tagIn placeIn dataOf dataTag dataAt has head number isNone inTurn allThere sequenceCode parsCode lastChecks verdict countsIn blankFrom differs flagWithin soundAsps memberAt activeAt soundRow activeIn modeAt waitingAt overrideAt soundAs ascends allUnder soundLinks soundKinds soundLists isLinkOf unitAt blankAt unitsOk sized allUnits soundUnits soundTables isSound soundAses offset count follow layoutOk column aspIds masks lists modes linkIds owners kinds modesOk masksOk rowsOk members fresh built loadOf indexOf known wordsOf without joined activated overtaken nobody recordWith isNotified notifiesTo notifies actionsIn unitOut unitsOut letOut row membersUp recordFrom some stateIn columnOf withFlag actionsAt newActive newWaiting clearedFrom letsGo withChange allActions upEffect downEffect otherMode activeEffect inactiveEffect trafficEffect actions next isKnown linkOf canHave isPending arrival holdEffect linkMessageEffect ownsId isError fromAsp readEffect messageEffect fromLink refusalOf planS fresh-rules bare unit cameIn isDataAt sentOut since tally callsOf endOf leaves day
+computed : (tally 0 0 freshS (callsOf first day) ≡ record { came = 11; sent = 8; discarded = 1; turned = 1 }) × (holds (endOf first day .gateway) 0 ≡ 1)
+unfolding anyBelow allBelow concatBelow firstBelow countBelow tabulate be stepAt walkF walk partOf textCode allowedCode parCode table among hasClass rowIn entriesIn useIn usage limitsOf wordCode plainCode idCode bodyCode meaning outcome readingOf bodyIn foundIn dataOf dataTag dataAt has head number isNone inTurn allThere sequenceCode parsCode lastChecks verdict countsIn blankFrom differs flagWithin soundAsps memberAt activeAt soundRow activeIn modeAt waitingAt overrideAt soundAs ascends allUnder soundLinks soundKinds soundLists isLinkOf unitAt blankAt unitsOk sized allUnits soundUnits soundTables isSound soundAses offset count follow layoutOk column aspIds masks lists modes linkIds owners kinds modesOk masksOk rowsOk members fresh built loadOf indexOf known wordsOf without joined activated overtaken nobody recordWith isNotified notifiesTo notifies actionsIn unitOut unitsOut letOut row membersUp recordFrom some stateIn columnOf withFlag actionsAt newActive newWaiting clearedFrom letsGo withChange allActions upEffect downEffect otherMode activeEffect inactiveEffect trafficEffect actions next isKnown linkOf canHave isPending arrival holdEffect linkMessageOn linkMessageEffect ownsId isError fromAsp readEffect messageEffect fromLink refusalOf planS freshS unit cameIn isDataAt sentOut since tally callsOf endOf leaves day
 computed = (refl, refl)
 
 pub sample-day : Day
@@ -81,3 +81,7 @@ sample-day =
       counts = computed .0;
       left = computed .1;
     }
+
+pub sums : Sums
+unfolding sumBelow
+sums = record { all = refl }

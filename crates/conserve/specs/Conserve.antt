@@ -48,12 +48,12 @@ unfoldable pub cameIn : Gateway → Call → ℕ → Bool
 cameIn g d a = done d && isArrival g (d .event .kind) a
 
 -- an action that is Data to an ASP about a link of AS a
-abbrev pub isData : Gateway → ℕ → ℕ → ℕ → ℕ → Bool
-isData g a to classtype subject = not (eqb to linkSide) && (eqb classtype userData && ownsId g subject a)
+abbrev pub isDataOf : Gateway → ℕ → ℕ → ℕ → ℕ → Bool
+isDataOf g a to classtype subject = not (eqb to linkSide) && (eqb classtype userData && ownsId g subject a)
 
 -- action i of those in the words is
 unfoldable pub isDataAt : Gateway → ℕ → List ℕ → ℕ → Bool
-isDataAt g a ws i = isData g a (numberAt ws (i * 4)) (numberAt ws (i * 4 + 1)) (numberAt ws (i * 4 + 2))
+isDataAt g a ws i = isDataOf g a (numberAt ws (i * 4)) (numberAt ws (i * 4 + 1)) (numberAt ws (i * 4 + 2))
 
 -- how many are; what the link side sends goes on at once, and was not held
 unfoldable pub sentOut : Gateway → Call → ℕ → ℕ

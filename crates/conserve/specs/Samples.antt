@@ -4,11 +4,11 @@ use mathlib.Core.Path.{_≡_}
 use mathlib.Core.List.{List, [], _∷_, _++_, map}
 use Prim.Native.Nat.{ℕ}
 use lib.ListN.{replicate}
-use Rattle.rules.specs.Event.{EventKind, message, recovery, linkMessage}
+use Rattle.rules.specs.Event.{EventKind, message, recovery, linkMessage, bare}
 use Rattle.rules.specs.Effect.{holdBytes}
 use Rattle.rules.specs.Calls.{Board, Call, events, Calls}
-use Rattle.rules.specs.Samples.{fresh, event, bare, unit}
-use Rattle.conserve.specs.Conserve.{Tally, tally, holds}
+use Rattle.rules.specs.Samples.{freshS, sampleEvent, unit}
+use Rattle.conserve.specs.Conserve.{Tally, tally, holds, sum}
 
 -- ASP 0 takes AS 0 over, and leaves it pending
 unfoldable pub leaves : List EventKind
@@ -23,7 +23,11 @@ day =
 pub record Day : Type 0 where
   pub calls : List Call
   pub end : Board
-  pub are : Calls (record { gateway = fresh; hold = replicate holdBytes 0 }) calls end
-  pub of : events calls ≡ map event day
-  pub counts : tally 0 0 fresh calls ≡ record { came = 11; sent = 8; discarded = 1; turned = 1 }
+  pub are : Calls (record { gateway = freshS; hold = replicate holdBytes 0 }) calls end
+  pub of : events calls ≡ map sampleEvent day
+  pub counts : tally 0 0 freshS calls ≡ record { came = 11; sent = 8; discarded = 1; turned = 1 }
   pub left : holds (end .gateway) 0 ≡ 1
+
+-- the sum over all ASes takes each of the sixteen once
+pub record Sums : Type 0 where
+  pub all : sum (λ a. record { came = a; sent = 1; discarded = 2; turned = 3 }) ≡ record { came = 120; sent = 16; discarded = 32; turned = 48 }

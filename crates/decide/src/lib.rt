@@ -1,14 +1,14 @@
 // What a message of an ASP is, and what those do that are not of the ASP itself: Beat, Beat Ack, class 6, and any other.
 use message::Reading;
 use rules::Decision;
+use rules::Link;
+use rules::Sender;
 ghost use mathlib.Core.Path.{_≡_};
 ghost use Prim.Native.Nat.{_<_};
-ghost use Rattle.ranges.specs.Inner.Laws.{Table};
+ghost use Rattle.rules.specs.Link.{classSixOn};
 ghost use Rattle.rules.specs.Rules.{isError, fromAsp};
-ghost use Rattle.rules.specs.Link.{classSixEffect};
-ghost use Rattle.work.specs.Inner.Decides.{DecidesOn};
-ghost use Rattle.links.specs.Inner.Six.{SixColumns};
-ghost use Rattle.decide.specs.Inner.Other.{otherTree, otherEffect, typeIn};
+ghost use Rattle.work.specs.Inner.Decides.{Decides};
+ghost use Rattle.decide.specs.Inner.Other.{otherTree, otherIn, typeIn};
 
 // Whether a message is an Error (Rule 7.2).
 pub fn is_error(s: &[u8]) -> bool
@@ -28,21 +28,17 @@ fn from_asp(k: u32) -> bool
 }
 
 // Beat, Beat Ack, class 6 and any other (Rules 7.7, 7.14, 7.23), by class and type; six says that the type is one of class 6 that ASPs send.
-fn other_tree<'a>(
-    links: usize,
-    up: &'a [u8; 16],
-    member: &'a [u8; 256],
-    active: &'a [u8; 256],
-    iid: &'a [u32; 128],
-    owner: &'a [u8; 128],
-    state: &'a [u8; 128],
-    highspeed: &'a [u8; 128],
+fn other_tree(
+    there: bool,
     p: usize,
+    l: usize,
+    k: Link,
+    s: Sender,
     r: Reading,
     six: bool,
 ) -> Decision
-    requires { ⌜ Table (now iid) (now owner) links × (p < 16) × (r .class < 256) × (r .msgtype < 256) ⌝ }
-    ensures { λ w. ⌜ DecidesOn (SixColumns links (now (up .entry)) (now (member .entry)) (now (active .entry)) (now (iid .entry)) (now (owner .entry)) (now (state .entry)) (now (highspeed .entry))) (λ g. otherTree (classSixEffect g p r) p r six) w ⌝ }
+    requires { ⌜ (p < 16) × (l < 128) × (r .class < 256) × (r .msgtype < 256) ⌝ }
+    ensures { λ w. ⌜ Decides w (otherTree (classSixOn there p l k s r) p r six) ⌝ }
 {
     let t = r.class * 256 + r.msgtype;
     if t == action::BEAT {
@@ -53,59 +49,33 @@ fn other_tree<'a>(
     }
     if r.class == 6 {
         if six {
-            return links::class_six(
-                links,
-                up,
-                member,
-                active,
-                iid,
-                owner,
-                state,
-                highspeed,
-                p,
-                r,
-            );
+            return links::class_six(there, p, l, k, s, r);
         }
         return work::error(p, 6);
     }
     work::error(p, 6)
 }
 
-// What a message of ASP p does that is neither Up, Down, Active nor Inactive: error says that it is an Error.
-pub fn other_work<'a>(
-    links: usize,
-    up: &'a [u8; 16],
-    member: &'a [u8; 256],
-    active: &'a [u8; 256],
-    iid: &'a [u32; 128],
-    owner: &'a [u8; 128],
-    state: &'a [u8; 128],
-    highspeed: &'a [u8; 128],
+// What a message of ASP p does that is neither Up, Down, Active nor Inactive: error says that it is an Error. One of class 6 names the link k at l, or none
+// where there says so; s is what the link's owner has of p.
+pub fn other_work(
+    there: bool,
     p: usize,
+    l: usize,
+    k: Link,
+    s: Sender,
     error: bool,
     r: Reading,
 ) -> Decision
-    requires { ⌜ Table (now iid) (now owner) links × (p < 16) × (r .class < 256) × (r .msgtype < 256) ⌝ }
-    ensures { λ w. ⌜ DecidesOn (SixColumns links (now (up .entry)) (now (member .entry)) (now (active .entry)) (now (iid .entry)) (now (owner .entry)) (now (state .entry)) (now (highspeed .entry))) (λ g. otherEffect g p error r) w ⌝ }
+    requires { ⌜ (p < 16) × (l < 128) × (r .class < 256) × (r .msgtype < 256) ⌝ }
+    ensures { λ w. ⌜ Decides w (otherIn there p l k s error r) ⌝ }
 {
     if error {
         return work::nothing();
     }
     if r.code == 0 {
         let six = from_asp(r.msgtype);
-        return other_tree(
-            links,
-            up,
-            member,
-            active,
-            iid,
-            owner,
-            state,
-            highspeed,
-            p,
-            r,
-            six,
-        );
+        return other_tree(there, p, l, k, s, r, six);
     }
     work::error(p, r.code)
 }

@@ -2,15 +2,15 @@
 use encode::Written;
 use eventline::EventKind;
 use gateway::Gateway;
+use node::Next;
 use node::Node;
-use rules::Outcome;
 ghost use mathlib.Core.Path.{_≡_};
 ghost use Rattle.ask.specs.Happened.{event, eventOf};
 ghost use Rattle.outgoing.specs.Send.{Sends};
 ghost use Rattle.reach.specs.Reached.{reached};
 ghost use Rattle.rules.specs.Entry.{MeetsRules};
 ghost use Rattle.eventrun.specs.Line.{said};
-ghost use Rattle.eventrun.specs.Inner.Numbers.{numberOf};
+ghost use Rattle.node.specs.Next.{outcomeOf};
 
 // One of the six events, with the index and the message of its line.
 pub fn happen(
@@ -20,8 +20,8 @@ pub fn happen(
     hold: &mut [u8],
     words: &mut [u32],
     g: Gateway,
-) -> Outcome
-    ensures { λ r. ⌜ MeetsRules g (event (said kind index (now (msg .entry))) (now (words .entry)) (now (hold .entry))) (now (words .entry)) (now (words .exit)) (now (hold .entry)) (now (hold .exit)) r ⌝ }
+) -> Next
+    ensures { λ r. ⌜ MeetsRules g (event (said kind index (now (msg .entry))) (now (words .entry)) (now (hold .entry))) (now (words .entry)) (now (words .exit)) (now (hold .entry)) (now (hold .exit)) (outcomeOf r) ⌝ }
 {
     let i = index as usize;
     let node = Node { gateway: g };
@@ -57,20 +57,6 @@ pub fn reached_by(
     }
 }
 
-// The number that a call says a kind by.
-fn number(kind: EventKind) -> u32
-    ensures { λ r. ⌜ r ≡ numberOf kind ⌝ }
-{
-    match kind {
-        EventKind::Message => ask::MESSAGE,
-        EventKind::Lost => ask::LOST,
-        EventKind::Recovery => ask::RECOVERY,
-        EventKind::LinkUp => ask::LINK_UP,
-        EventKind::LinkDown => ask::LINK_DOWN,
-        EventKind::LinkMessage => ask::LINK_MESSAGE,
-    }
-}
-
 // One of its actions as bytes.
 pub fn written_by<'a>(
     kind: EventKind,
@@ -83,13 +69,15 @@ pub fn written_by<'a>(
 ) -> Written
     ensures { λ r. ⌜ Sends g (now (hold .entry)) (said kind index (now (msg .entry))) place (now (out .entry)) r (now (out .exit)) ⌝ }
 {
-    sending::m2ua_order(
-        g,
-        number(kind),
-        index as usize,
-        msg,
-        hold,
-        place as usize,
-        out,
-    )
+    let i = index as usize;
+    let n = place as usize;
+    let node = Node { gateway: g };
+    match kind {
+        EventKind::Message => node.message_order(i, msg, hold, n, out),
+        EventKind::Lost => node.lost_order(i, hold, n, out),
+        EventKind::Recovery => node.recovery_order(i, hold, n, out),
+        EventKind::LinkUp => node.link_up_order(i, hold, n, out),
+        EventKind::LinkDown => node.link_down_order(i, hold, n, out),
+        EventKind::LinkMessage => node.link_message_order(msg, hold, n, out),
+    }
 }

@@ -1,8 +1,9 @@
 // Every event: what is asked is refused, or decided and done.
 use ask::Ask;
-use gateway::Gateway;
+use ask::Place;
 use rules::Decision;
-use rules::Outcome;
+use rules::Link;
+use rules::Owner;
 use server::has_some;
 ghost use mathlib.Core.Path.{_≡_};
 ghost use mathlib.Core.Bool.{cond};
@@ -13,37 +14,39 @@ ghost use Rattle.laws.specs.Columns.{numberAt};
 ghost use Rattle.put.specs.Bytes.{overlay};
 ghost use Rattle.action.specs.Inner.Words.{Written};
 ghost use Rattle.ranges.specs.Inner.Laws.{Table};
-ghost use Rattle.rules.specs.Entry.{Runs};
+ghost use Rattle.rules.specs.Entry.{MeetsRules, Runs};
 ghost use Rattle.rules.specs.Inner.Decision.{firstActions, spread, effectIn};
 ghost use Rattle.work.specs.Inner.Decides.{aspOf, DecidesOn};
-ghost use Rattle.ask.specs.Happened.{happened, eventOf};
-ghost use Rattle.ask.specs.Inner.Ask.{askEffect, AskAt, AskFits};
+ghost use Rattle.ask.specs.Happened.{happened, eventOf, event};
+ghost use Rattle.ask.specs.Inner.Ask.{askEffect, AskFits};
+ghost use Rattle.ask.specs.Inner.Place.{Named};
+ghost use Rattle.gateway.specs.State.{gatewayOf, unitsOf};
+ghost use Rattle.events.specs.At.{outcomeOf};
 ghost use Rattle.events.specs.Inner.Columns.{AskColumns};
 ghost use Rattle.events.specs.Inner.Decision.{firstOf, Changed, linkAfter, putIn};
 
 // ---- what is done
 
-// What the event does (Rule 7.1), decided. `at` is the index of the link that a message of the link side names.
+// What the event does (Rule 7.1), decided. `at` is the place of the link that it names, k that link, o the AS that owns it. Lent are only the columns that are searched
+// for more than one place.
 fn decided<'a>(
     ask: Ask,
-    at: usize,
     msg: &[u8],
+    at: Place,
+    k: Link,
+    o: Owner,
     links: usize,
     aspid: &'a [u32; 16],
     up: &'a [u8; 16],
     member: &'a [u8; 256],
     active: &'a [u8; 256],
     mode: &'a [u8; 16],
-    waiting: &'a [u8; 16],
-    count: &'a [u8; 16],
     iid: &'a [u32; 128],
     owner: &'a [u8; 128],
-    state: &'a [u8; 128],
-    highspeed: &'a [u8; 128],
     wholelists: &'a [u8; 16],
 ) -> Decision
-    requires { ⌜ Table (now iid) (now owner) links × AskFits links (now iid) (now msg) ask × AskAt links (now iid) ask at ⌝ }
-    ensures { λ w. ⌜ DecidesOn (AskColumns links (now (aspid .entry)) (now (up .entry)) (now (member .entry)) (now (active .entry)) (now (mode .entry)) (now (waiting .entry)) (now (count .entry)) (now (iid .entry)) (now (owner .entry)) (now (state .entry)) (now (highspeed .entry)) (now (wholelists .entry))) (λ g. askEffect g (now (msg .entry)) ask) w ⌝ }
+    requires { ⌜ Table (now iid) (now owner) links × AskFits links (now iid) (now msg) ask × Named links (now iid) ask (at .there) (at .index) × (k .owner < 16) ⌝ }
+    ensures { λ w. ⌜ DecidesOn (AskColumns (at .index) k o links (now (aspid .entry)) (now (up .entry)) (now (member .entry)) (now (active .entry)) (now (mode .entry)) (now (iid .entry)) (now (owner .entry)) (now (wholelists .entry))) (λ g. askEffect g (now (msg .entry)) ask) w ⌝ }
 {
     match ask {
         Ask::Up(p, r) => asps::up_work(aspid, member, active, p, r),
@@ -64,27 +67,14 @@ fn decided<'a>(
             )
         }
         Ask::Other(p, r, error) => {
-            decide::other_work(
-                links,
-                up,
-                member,
-                active,
-                iid,
-                owner,
-                state,
-                highspeed,
-                p,
-                error,
-                r,
-            )
+            let s = links::sender_of(up, member, active, gateway::wide(k.owner), p);
+            decide::other_work(at.there, p, at.index, k, s, error, r)
         }
         Ask::Lost(p) => asps::lost_work(member, p),
         Ask::Recovery(a) => asps::recovery_work(a),
-        Ask::LinkUp(l) => links::link_turns(true, links, active, mode, iid, owner, state, l),
-        Ask::LinkDown(l) => links::link_turns(false, links, active, mode, iid, owner, state, l),
-        Ask::LinkMessage(r) => {
-            links::link_message(msg, links, active, mode, waiting, count, iid, owner, at, r)
-        }
+        Ask::LinkUp(_) => links::link_turns(true, active, at.index, k, o),
+        Ask::LinkDown(_) => links::link_turns(false, active, at.index, k, o),
+        Ask::LinkMessage(r) => links::link_message(msg, active, k, o, r),
     }
 }
 
@@ -221,152 +211,221 @@ fn put_of(w: Decision, k: usize) -> Put
 
 // ---- the entry
 
-// Every event (Rule 6.2): the number of its kind (`ask::MESSAGE` ..), the index and the message that it has; any other number is refused (`happened`).
-// `size` is the length of the hold; a caller that only wants the actions lends no part of it (`Runs`).
-// The state is held here alone, and columns of it are lent: so an accepted event copies it twice, in and out (tools/copies-check). Columns are copied out of it
-// only where ASes change.
-#[no_mangle]
-pub extern "C" fn m2ua_run(
-    g: Gateway,
+// Lent as slices, so that their lengths are known (nothing is left of this in the machine code).
+fn seen<'a>(up: &'a [u8], active: &'a [u8], waiting: &'a [u8], state: &'a [u8], count: &'a [u8]) {}
+
+// What an event hands back beside the columns: a refusal, or 0, and the number of actions written.
+#[repr(C)]
+pub struct Done {
+    pub refusal: u32,
+    pub count: usize,
+}
+
+// Every event (Rule 6.2), on the state where it lies: the number of its kind (`ask::MESSAGE` ..), the
+// index and the message that it has; any other number is refused (`happened`). The state's columns are
+// lent, those that events change as `&mut`; the link that the event names and the AS that owns it are
+// read here, once. `size` is the length of the hold; a caller that only wants the actions lends no part
+// of it (`Runs`).
+pub fn run<'a>(
+    asps: u8,
+    ases: u8,
+    links: u8,
+    spare: u8,
+    aspid: &'a [u32; 16],
+    up: &mut [u8; 16],
+    member: &'a [u8; 256],
+    active: &mut [u8; 256],
+    mode: &'a [u8; 16],
+    waiting: &mut [u8; 16],
+    iid: &'a [u32; 128],
+    owner: &'a [u8; 128],
+    state: &mut [u8; 128],
+    highspeed: &'a [u8; 128],
+    wholelists: &'a [u8; 16],
+    count: &mut [u8; 16],
+    tag: &mut [u16; 128],
+    len: &mut [u16; 128],
+    marked: &mut [u16; 128],
+    id: &mut [u32; 128],
+    correlation: &mut [u32; 128],
     kind: u32,
     i: usize,
     msg: &[u8],
     hold: &mut [u8],
     size: usize,
     words: &mut [u32],
-) -> Outcome
-    ensures { λ r. ⌜ Runs g (eventOf (happened kind i (now (msg .entry))) (length (now (words .entry))) size) (now (words .entry)) (now (words .exit)) (now (hold .entry)) (now (hold .exit)) r ⌝ }
+) -> Done
+    ensures { λ r. ⌜ Runs (gatewayOf asps ases links spare (now (aspid .entry)) (now (up .entry)) (now (member .entry)) (now (active .entry)) (now (mode .entry)) (now (waiting .entry)) (now (iid .entry)) (now (owner .entry)) (now (state .entry)) (now (highspeed .entry)) (now (wholelists .entry)) (unitsOf (now (count .entry)) (now (tag .entry)) (now (len .entry)) (now (marked .entry)) (now (id .entry)) (now (correlation .entry)))) (eventOf (happened kind i (now (msg .entry))) (length (now (words .entry))) size) (now (words .entry)) (now (words .exit)) (now (hold .entry)) (now (hold .exit)) (outcomeOf r (gatewayOf asps ases links spare (now (aspid .entry)) (now (up .exit)) (now (member .entry)) (now (active .exit)) (now (mode .entry)) (now (waiting .exit)) (now (iid .entry)) (now (owner .entry)) (now (state .exit)) (now (highspeed .entry)) (now (wholelists .entry)) (unitsOf (now (count .exit)) (now (tag .exit)) (now (len .exit)) (now (marked .exit)) (now (id .exit)) (now (correlation .exit))))) ⌝ }
 {
-    let mut g = g;
+    seen(up, active, waiting, state, count);
     let ask = ask::asked(kind, i, msg);
-    let asps = g.asps;
-    let ases = g.ases;
-    let links = g.links;
-    let spare = g.spare;
     let sound = held::sound_of(
         asps,
         ases,
         links,
         spare,
-        &g.aspid,
-        &g.up,
-        &g.member,
-        &g.active,
-        &g.mode,
-        &g.waiting,
-        &g.iid,
-        &g.owner,
-        &g.state,
-        &g.highspeed,
-        &g.wholelists,
-        &g.held.count,
-        &g.held.tag,
-        &g.held.length,
-        &g.held.marked,
-        &g.held.id,
-        &g.held.correlation,
+        aspid,
+        up,
+        member,
+        active,
+        mode,
+        waiting,
+        iid,
+        owner,
+        state,
+        highspeed,
+        wholelists,
+        count,
+        tag,
+        len,
+        marked,
+        id,
+        correlation,
     );
-    let found = ask::refused(
-        sound,
-        asps,
-        ases,
-        links,
-        &g.iid,
-        &g.highspeed,
-        ask,
-        size,
-        words.len(),
-    );
-    if found.code != 0 {
-        return Outcome {
-            refusal: found.code,
+    let at = ask::placed(sound, links, iid, ask);
+    let l = at.index;
+    let k = Link {
+        id: iid[l],
+        owner: owner[l],
+        state: state[l],
+        highspeed: highspeed[l],
+    };
+    let code = ask::refused(sound, asps, ases, at.there, k, ask, size, words.len());
+    if code != 0 {
+        return Done {
+            refusal: code,
             count: 0,
-            gateway: g,
         };
     }
+    let a = gateway::wide(k.owner);
+    let o = Owner {
+        mode: mode[a],
+        waiting: waiting[a],
+        held: gateway::wide(count[a]),
+    };
     let w = decided(
         ask,
-        found.index,
         msg,
+        at,
+        k,
+        o,
         gateway::wide(links),
-        &g.aspid,
-        &g.up,
-        &g.member,
-        &g.active,
-        &g.mode,
-        &g.waiting,
-        &g.held.count,
-        &g.iid,
-        &g.owner,
-        &g.state,
-        &g.highspeed,
-        &g.wholelists,
+        aspid,
+        up,
+        member,
+        active,
+        mode,
+        iid,
+        owner,
+        wholelists,
     );
     if 4 < w.what {
         let a = w.link;
         let o = w.first;
-        let k = held_by(&g.held.count, a);
+        let k = held_by(count, a);
         let p = put_of(w, k);
         let at = p.at;
-        units::put_half(&mut g.held.tag, at, p.tag);
-        units::put_half(&mut g.held.length, at, p.length);
-        units::put_half(&mut g.held.marked, at, p.marked);
-        units::put_word(&mut g.held.id, at, o.subject);
-        units::put_word(&mut g.held.correlation, at, o.value);
-        units::put_count(&mut g.held.count, a, p.count);
+        units::put_half(tag, at, p.tag);
+        units::put_half(len, at, p.length);
+        units::put_half(marked, at, p.marked);
+        units::put_word(id, at, o.subject);
+        units::put_word(correlation, at, o.value);
+        units::put_count(count, a, p.count);
         lay(msg, p.start, p.bytes, hold, size, p.place);
-        return Outcome {
+        return Done {
             refusal: 0,
             count: 0,
-            gateway: g,
         };
     }
-    settle(w, &mut g.state);
+    settle(w, state);
     let n = first(w, words);
     if w.what == 2 {
-        let mut up = g.up;
-        let mut active = g.active;
-        let mut waiting = g.waiting;
-        let m = enact(
-            w,
-            &mut up,
-            &g.member,
-            &g.mode,
-            &g.held.count,
-            &g.held.id,
-            &mut active,
-            &mut waiting,
-            words,
-            n,
-        );
+        let m = enact(w, up, member, mode, count, id, active, waiting, words, n);
         let who = w.who;
-        let before = g.held.count;
-        let go = units::goes(&before, who, &waiting);
-        g.up = up;
-        g.active = active;
-        g.waiting = waiting;
+        let go = units::goes(count, who, waiting);
         if has_some(go) {
-            units::clear_counts(&mut g.held.count, go);
-            units::clear_halves(&mut g.held.tag, go);
-            units::clear_halves(&mut g.held.length, go);
-            units::clear_halves(&mut g.held.marked, go);
-            units::clear_words(&mut g.held.id, go);
-            units::clear_words(&mut g.held.correlation, go);
-            return Outcome {
+            units::clear_counts(count, go);
+            units::clear_halves(tag, go);
+            units::clear_halves(len, go);
+            units::clear_halves(marked, go);
+            units::clear_words(id, go);
+            units::clear_words(correlation, go);
+            return Done {
                 refusal: 0,
                 count: m,
-                gateway: g,
             };
         }
-        return Outcome {
+        return Done {
             refusal: 0,
             count: m,
-            gateway: g,
         };
     }
-    Outcome {
+    Done {
         refusal: 0,
         count: n,
-        gateway: g,
     }
+}
+
+// The entry for hosts: the hold is lent whole, so no unit is taken in without its bytes.
+#[no_mangle]
+pub extern "C" fn m2ua_event_at<'a>(
+    asps: u8,
+    ases: u8,
+    links: u8,
+    spare: u8,
+    aspid: &'a [u32; 16],
+    up: &mut [u8; 16],
+    member: &'a [u8; 256],
+    active: &mut [u8; 256],
+    mode: &'a [u8; 16],
+    waiting: &mut [u8; 16],
+    iid: &'a [u32; 128],
+    owner: &'a [u8; 128],
+    state: &mut [u8; 128],
+    highspeed: &'a [u8; 128],
+    wholelists: &'a [u8; 16],
+    count: &mut [u8; 16],
+    tag: &mut [u16; 128],
+    len: &mut [u16; 128],
+    marked: &mut [u16; 128],
+    id: &mut [u32; 128],
+    correlation: &mut [u32; 128],
+    kind: u32,
+    i: usize,
+    msg: &[u8],
+    hold: &mut [u8],
+    words: &mut [u32],
+) -> Done
+    ensures { λ r. ⌜ MeetsRules (gatewayOf asps ases links spare (now (aspid .entry)) (now (up .entry)) (now (member .entry)) (now (active .entry)) (now (mode .entry)) (now (waiting .entry)) (now (iid .entry)) (now (owner .entry)) (now (state .entry)) (now (highspeed .entry)) (now (wholelists .entry)) (unitsOf (now (count .entry)) (now (tag .entry)) (now (len .entry)) (now (marked .entry)) (now (id .entry)) (now (correlation .entry)))) (event (happened kind i (now (msg .entry))) (now (words .entry)) (now (hold .entry))) (now (words .entry)) (now (words .exit)) (now (hold .entry)) (now (hold .exit)) (outcomeOf r (gatewayOf asps ases links spare (now (aspid .entry)) (now (up .exit)) (now (member .entry)) (now (active .exit)) (now (mode .entry)) (now (waiting .exit)) (now (iid .entry)) (now (owner .entry)) (now (state .exit)) (now (highspeed .entry)) (now (wholelists .entry)) (unitsOf (now (count .exit)) (now (tag .exit)) (now (len .exit)) (now (marked .exit)) (now (id .exit)) (now (correlation .exit))))) ⌝ }
+{
+    let size = hold.len();
+    run(
+        asps,
+        ases,
+        links,
+        spare,
+        aspid,
+        up,
+        member,
+        active,
+        mode,
+        waiting,
+        iid,
+        owner,
+        state,
+        highspeed,
+        wholelists,
+        count,
+        tag,
+        len,
+        marked,
+        id,
+        correlation,
+        kind,
+        i,
+        msg,
+        hold,
+        size,
+        words,
+    )
 }

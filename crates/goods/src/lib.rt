@@ -5,7 +5,7 @@ use select::Which;
 use wire::HEADER;
 use wire::Step;
 ghost use mathlib.Core.Path.{_≡_};
-ghost use mathlib.Core.Bool.{true, false, _&&_};
+ghost use mathlib.Core.Bool.{true, false, cond, _&&_};
 ghost use Prim.Native.Nat.{_+_, _<_, _≤_};
 ghost use lib.Dec.{eqb, leb, ltb};
 ghost use lib.ListN.{length};
@@ -25,7 +25,7 @@ ghost use Rattle.goods.specs.Inner.Made.{goodForm, ModeFits, GoodMessage
 
 // Place l and those behind it, before past, are named.
 fn mark(until: &mut [u8; 128], l: usize, past: usize)
-    requires { ⌜ (length (now until) ≡ 128) × (l < past) × (past ≤ 128) ⌝ }
+    requires { ⌜ (length (now until) ≡ 128) × (l < 128) × (past ≤ 128) ⌝ }
     ensures { λ _. ⌜ Marked (now (until .entry)) l past (now (until .exit)) ⌝ }
 {
     until[l] = ranges::later(until[l], past as u8);
@@ -139,8 +139,8 @@ fn mark_id(
     l + 1
 }
 
-// Those of the value of a 0x1.
-fn mark_ids(until: &mut [u8; 128], value: &[u8], iid: &[u32; 128], links: usize, guess: &[u8; 256])
+// Those of the value of a 0x1: few, which often come in order.
+fn mark_few(until: &mut [u8; 128], value: &[u8], iid: &[u32; 128], links: usize, guess: &[u8; 256])
     requires { ⌜ (length (now until) ≡ 128) × (links ≤ 128) × (ascends (now iid) links ≡ true) ⌝ }
     ensures { λ _. ⌜ Adds (now (until .entry)) (now (iid .entry)) links (λ x. someOf (eqb x) false (now (value .entry))) (now (until .exit)) ⌝ }
 {
@@ -150,6 +150,41 @@ fn mark_ids(until: &mut [u8; 128], value: &[u8], iid: &[u32; 128], links: usize,
         let x = naming::start_at(value, false, i);
         near = mark_id(until, iid, links, guess, x, near);
     }
+}
+
+// The place behind l where it is named, else 0.
+fn past_if(named: bool, l: usize) -> usize
+    requires { ⌜ l < 128 ⌝ }
+    ensures { λ r. ⌜ r ≡ cond named (l + 1) 0 ⌝ }
+{
+    if named { l + 1 } else { 0 }
+}
+
+// The same of many, in no order as a rule: by a table. What is unknown marks nothing, and no branch goes by it.
+fn mark_many(until: &mut [u8; 128], value: &[u8], iid: &[u32; 128], links: usize)
+    requires { ⌜ (length (now until) ≡ 128) × (links ≤ 128) × (ascends (now iid) links ≡ true) ⌝ }
+    ensures { λ _. ⌜ Adds (now (until .entry)) (now (iid .entry)) links (λ x. someOf (eqb x) false (now (value .entry))) (now (until .exit)) ⌝ }
+{
+    let table = index::table_of(iid, links);
+    let n = naming::entries_of(value, false);
+    for i in 0..n {
+        let x = naming::start_at(value, false, i);
+        let f = index::find(&table, iid, links, x);
+        let l = f.at;
+        mark(until, l, past_if(f.known, l));
+    }
+}
+
+// The same of any number.
+fn mark_ids(until: &mut [u8; 128], value: &[u8], iid: &[u32; 128], links: usize, guess: &[u8; 256])
+    requires { ⌜ (length (now until) ≡ 128) × (links ≤ 128) × (ascends (now iid) links ≡ true) ⌝ }
+    ensures { λ _. ⌜ Adds (now (until .entry)) (now (iid .entry)) links (λ x. someOf (eqb x) false (now (value .entry))) (now (until .exit)) ⌝ }
+{
+    if naming::MANY <= value.len() {
+        mark_many(until, value, iid, links);
+        return;
+    }
+    mark_few(until, value, iid, links, guess);
 }
 
 // Those of the value of a 0x8.

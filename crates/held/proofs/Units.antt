@@ -15,7 +15,8 @@ use Rattle.laws.specs.Columns.{numberAt, isSet}
 use Rattle.gateway.specs.declared.Gateway.{Gateway}
 use Rattle.gateway.specs.declared.Units.{Units}
 use Rattle.gateway.specs.Sound.{ascends, countsIn, soundAsps, soundAses, soundLinks, soundKinds, soundLists, soundTables, isLinkOf, unitAt, blankAt, unitsOk, sized, allUnits, soundUnits, isSound}
-use Rattle.gateway.specs.Inner.Sound.{soundTablesOf, unitsOf}
+use Rattle.gateway.specs.State.{unitsOf}
+use Rattle.gateway.specs.Inner.Sound.{soundTablesOf}
 use Rattle.gateway.specs.Inner.Laws.{limits, links-parts}
 use Rattle.lookup.specs.Links.{indexOf}
 use Rattle.lookup.specs.Inner.Links.{index-own, index-is}

@@ -7,7 +7,7 @@ ghost use lib.ListN.{length};
 ghost use lib.Dec.{eqb, ltb};
 ghost use Rattle.laws.specs.Columns.{numberAt};
 ghost use Rattle.gateway.specs.Sound.{ascends, isSound, sized, allUnits};
-ghost use Rattle.gateway.specs.Inner.Sound.{unitsOf};
+ghost use Rattle.gateway.specs.State.{unitsOf};
 ghost use Rattle.lookup.specs.Links.{indexOf};
 ghost use Rattle.held.specs.Inner.Sound.{isSoundOf, narrowBlank, wideBlank, blankPlaces, noneCounted, countsFit, dataFit, fieldsFit, idsFit, emptyFit, emptiesFit, rowFit, rowsFit};
 

@@ -30,11 +30,12 @@ use Rattle.action.specs.Types.{aspActiveAck, aspUpAck, aspUp, aspDown, beat, be
 use Rattle.server.specs.declared.AsRecord.{AsRecord}
 use Rattle.server.specs.Record.{some, recordOf, stateIn}
 use Rattle.rules.specs.Event.{EventKind, message, lost, recovery, linkUp, linkDown, linkMessage}
-use Rattle.rules.specs.Identifiers.{firstRefused, namesSome, ownsGood, ownersGood, isKnown, linkOf, ownerAt, isMember, isActive}
+use Rattle.rules.specs.Identifiers.{firstRefused, namesSome, ownsGood, ownersGood, isKnown, linkOf, ownerAt, isMember}
 use Rattle.action.specs.declared.Action.{Action}
 use Rattle.rules.specs.Effect.{Effect, send, setLink, changeIn, takeIn, oneAction, error, error2}
-use Rattle.rules.specs.Asp.{asesOf, activeIn, upEffect, downEffect, lostEffect, otherMode, activeEffect, partEffect, trafficEffect}
-use Rattle.rules.specs.Link.{canHave, linkEffect, classSixEffect, recipientsOf, toRecipients, linkUpEffect, linkDownEffect, isPending, arrival, holdEffect, linkMessageEffect, starting, idle, inService, stopping}
+use Rattle.rules.specs.Asp.{asesOf, activeAses, upEffect, downEffect, lostEffect, otherMode, activeEffect, partEffect, trafficEffect}
+use Rattle.rules.specs.Records.{linkAt, ownerOf}
+use Rattle.rules.specs.Link.{canHave, linkEffect, classSixOn, classSixEffect, recipientsOf, recipientsAt, toRecipients, linkUpOn, linkUpEffect, linkDownOn, linkDownEffect, isPending, arrival, holdEffect, linkMessageOn, linkMessageEffect, starting, idle, inService, stopping}
 use Rattle.rules.specs.Inner.TakeIn.{planned}
 use Rattle.rules.specs.Rules.{isError, classTypeOf, fromAsp, readEffect, messageEffect, effectOf, inPlan}
 use Rattle.rules.specs.Reach.{ownsId, readReach, messageReach, kindReach, fromController}
@@ -82,7 +83,7 @@ module _ (g : Gateway) (g′ : Gateway) where
   active-plan p mode told n = ap (λ (t : Bool). cond t (send (error p 5)) (changeIn (oneAction p aspActiveAck 0 0 ++ told) (Activate p) n)) (other-plan mode n)
 
   pub in-plan : (k : EventKind) → inPlan (dyn g g′) k ≡ inPlan g k
-  unfolding isKnown linkOf
+  unfolding isKnown linkOf canHave
   in-plan (message p m) = refl
   in-plan (lost p) = refl
   in-plan (recovery a) = refl
@@ -125,7 +126,7 @@ record-alike g R own g′ k a b r =
 
 module _ (g : Gateway) (g′ : Gateway) (ok : isSound g ≡ true) (ok′ : isSound (dyn g g′) ≡ true) where
   -- an ASP is active in its own ASes alone
-  active-alike : (R own : ℕ → Bool) → Alike g R own g′ → (p : ℕ) → p < 16 → ((a : ℕ) → a < 16 → isMember g a p ≡ true → R a ≡ true) → some (activeIn (dyn g g′) p) ≡ some (activeIn g p)
+  active-alike : (R own : ℕ → Bool) → Alike g R own g′ → (p : ℕ) → p < 16 → ((a : ℕ) → a < 16 → isMember g a p ≡ true → R a ≡ true) → some (activeAses (dyn g g′) p) ≡ some (activeAses g p)
   unfolding some
   active-alike R own k p b h =
       any-ext _ _ 16 (λ a d. column-at (g′ .active) p a d ∙ go a d (isMember g a p) refl ∙ sym (column-at (g .active) p a d))
@@ -137,7 +138,7 @@ module _ (g : Gateway) (g′ : Gateway) (ok : isSound g ≡ true) (ok′ : isSou
           ∙ sym (false-of (isSet (g .active) (pair a p)) (λ e. clash (isMember g a p) m (active-is-member g ok a p d b e .0)))
 
   -- the recipients of a link reached
-  recipients-alike : (R own : ℕ → Bool) → Alike g R own g′ → (l : ℕ) → ownerAt g l < 16 → R (ownerAt g l) ≡ true → recipientsOf (dyn g g′) l ≡ recipientsOf g l
+  recipients-alike : (R own : ℕ → Bool) → Alike g R own g′ → (l : ℕ) → ownerAt g l < 16 → R (ownerAt g l) ≡ true → recipientsAt (dyn g g′) l ≡ recipientsAt g l
   unfolding recipientsOf receives before sound.activeIn
   recipients-alike R own k l b r =
       tabulate-ext false 16 _ _
@@ -152,7 +153,7 @@ module _ (g : Gateway) (g′ : Gateway) (ok : isSound g ≡ true) (ok′ : isSou
       every : countBelow (λ i. isSet (g′ .active) (pair (ownerAt g l) i)) 16 ≡ countBelow (λ i. isSet (g .active) (pair (ownerAt g l) i)) 16
       every = count-ext _ _ 16 at-q
 
-  told-alike : (R own : ℕ → Bool) → Alike g R own g′ → (l n : ℕ) → ownerAt g l < 16 → R (ownerAt g l) ≡ true → toRecipients (dyn g g′) l n ≡ toRecipients g l n
+  told-alike : (R own : ℕ → Bool) → Alike g R own g′ → (l n : ℕ) → ownerAt g l < 16 → R (ownerAt g l) ≡ true → toRecipients (recipientsAt (dyn g g′) l) (linkAt (dyn g g′) l) n ≡ toRecipients (recipientsAt g l) (linkAt g l) n
   unfolding toRecipients
   told-alike R own k l n b r = ap (λ (x : List Bool). toAll x n (numberAt (g .iid) l) 0) (recipients-alike R own k l b r)
 
@@ -186,17 +187,17 @@ module _ (g : Gateway) (g′ : Gateway) (ok : isSound g ≡ true) (ok′ : isSou
         (λ _. cond-same (some (asesOf g p)) (λ _. h [] (asesOf g p)) (λ _. refl)))
 
     six-alike : (R : ℕ → Bool) → Alike g R (eqb p) g′ → (r : Reading) → (isKnown g (r .id) ≡ true → R (ownerAt g (linkOf g (r .id))) ≡ true) → classSixEffect (dyn g g′) p r ≡ classSixEffect g p r
-    unfolding classSixEffect isKnown linkOf
+    unfolding classSixEffect classSixOn canHave isKnown linkOf
     six-alike R k r h =
         cond-both (not (isSet (g .up) p)) (ap not (mine-alike R k)) (λ _. refl)
         (λ _. cond-same (not (isKnown g (r .id) && isMember g (ownerAt g (linkOf g (r .id))) p)) (λ _. refl)
         (λ n.
         let y = and-left (isKnown g (r .id)) _ (not-false (isKnown g (r .id) && isMember g (ownerAt g (linkOf g (r .id))) p) n) in
         let o = owner-16 (linkOf g (r .id)) (known-below g ok (r .id) y) in
-        cond-both (not (isActive g (ownerAt g (linkOf g (r .id))) p)) (ap not (flag (k .acts (ownerAt g (linkOf g (r .id))) p o (asps-16 g ok p b) (h y))))
+        cond-both (not (isSet (g .active) (pair (ownerAt g (linkOf g (r .id))) p))) (ap not (flag (k .acts (ownerAt g (linkOf g (r .id))) p o (asps-16 g ok p b) (h y))))
         (λ _. refl)
-        (λ _. cond-same (not (canHave (numberAt (g .highspeed) (linkOf g (r .id))) (r .sequence))) (λ _. refl)
-        (λ _. ap (λ (x : ℕ). linkEffect p (r .id) (linkOf g (r .id)) x r) (k .lines (linkOf g (r .id)) (h y))))))
+        (λ _. cond-same (not (canHave (linkAt g (linkOf g (r .id))) (r .sequence))) (λ _. refl)
+        (λ _. ap (λ (x : ℕ). linkEffect p (r .id) (linkOf g (r .id)) (record { id = numberAt (g .iid) (linkOf g (r .id)); owner = ownerAt g (linkOf g (r .id)); state = x; highspeed = numberAt (g .highspeed) (linkOf g (r .id)) }) r) (k .lines (linkOf g (r .id)) (h y))))))
 
     read-alike : (m : List ℕ) (r : Reading) → Alike g (λ a. ltb a (g .ases) && readReach g p m r a) (eqb p) g′ → readEffect (dyn g g′) p m r ≡ readEffect g p m r
     unfolding readEffect downEffect
@@ -231,7 +232,7 @@ module _ (g : Gateway) (g′ : Gateway) (ok : isSound g ≡ true) (ok′ : isSou
   unfolding isPending
   pending-alike R own k a b r = ap (λ (z : AsRecord). eqb (stateIn z) 4) (record-alike g R own g′ k a b r)
 
-  hold-alike : (R own : ℕ → Bool) → Alike g R own g′ → (m : List ℕ) (z : Reading) (a : ℕ) → R a ≡ true → holdEffect (dyn g g′) m z a ≡ holdEffect g m z a
+  hold-alike : (R own : ℕ → Bool) → Alike g R own g′ → (m : List ℕ) (z : Reading) (a : ℕ) → R a ≡ true → holdEffect m z a (ownerOf (dyn g g′) a) ≡ holdEffect m z a (ownerOf g a)
   unfolding holdEffect
   hold-alike R own k m z a r = ap (λ (n : ℕ). cond (ltb n mostHeld) (takeIn a (arrival m z)) (send [])) (k .units counts a r)
 
@@ -241,7 +242,7 @@ module _ (g : Gateway) (g′ : Gateway) (ok : isSound g ≡ true) (ok′ : isSou
   link-reached l b = and-both (ltb (ownerAt g l) (g .ases)) (eqb (ownerAt g l) (ownerAt g l)) (owner-in g ok l b) (eq-eqb (ownerAt g l) (ownerAt g l) refl)
 
   pub effect-alike : (k : EventKind) → inPlan g k ≡ true → Alike g (Reaches g k) (fromController k) g′ → effectOf (dyn g g′) k ≡ effectOf g k
-  unfolding lostEffect linkUpEffect linkDownEffect linkMessageEffect linkOf
+  unfolding lostEffect linkUpEffect linkUpOn linkDownEffect linkDownOn linkMessageEffect linkMessageOn linkOf
   effect-alike (message p m) i h = message-alike p (ltb-true p (g .asps) i) m h
   effect-alike (lost p) i h = refl
   effect-alike (recovery a) i h = refl
@@ -253,7 +254,7 @@ module _ (g : Gateway) (g′ : Gateway) (ok : isSound g ≡ true) (ok′ : isSou
       let b = ltb-true l (g .links) i in
       let e = h .lines l (link-reached l b) in
       cond-both (eqb (numberAt (g .state) l) idle) (ap (λ (x : ℕ). eqb x idle) e) (λ _. refl)
-      (λ _. ap (λ (x : ℕ). setLink l idle (toRecipients (dyn g g′) l (cond (eqb x stopping) releaseConfirm releaseIndication))) e
+      (λ _. ap (λ (x : ℕ). setLink l idle (toRecipients (recipientsAt (dyn g g′) l) (linkAt (dyn g g′) l) (cond (eqb x stopping) releaseConfirm releaseIndication))) e
       ∙ ap (setLink l idle) (told-alike (Reaches g (linkDown l)) (λ q. false) h l (cond (eqb (numberAt (g .state) l) stopping) releaseConfirm releaseIndication) (owner-16 l b) (link-reached l b)))
   effect-alike (linkMessage m) i h =
       let x = readingOf m .id in

@@ -18,6 +18,7 @@ use Rattle.laws.specs.Columns.{flagAt, numberAt}
 use Rattle.gateway.specs.Sound.{pair, unitIndex, isSound}
 use Rattle.gateway.specs.Inner.Laws.{parts, counts-within}
 use Rattle.gateway.specs.declared.Gateway.{Gateway}
+use Rattle.gateway.specs.declared.Units.{Units}
 use Rattle.action.specs.declared.Action.{Action}
 use Rattle.server.specs.declared.Change.{Change}
 use Rattle.server.specs.Change.{after}
@@ -31,6 +32,7 @@ use Rattle.rules.specs.Rules.{effectOf, inPlan, refusalOf, refusal}
 use Rattle.rules.specs.Reach.{kindReach, reach, fromController}
 use Rattle.rules.specs.Entry.{actions, next}
 use Rattle.rules.specs.Inner.Accepted.{accepted}
+use Rattle.history.specs.History.{Plan, planOf}
 use Rattle.history.specs.Inner.Local.{Agree, Apart}
 use Rattle.history.proofs.Bits.{or-left, or-right, set-same, ext-front, cond-yes, cond-no}
 use Rattle.history.proofs.Units.{Column, counts, tags, lengths, marks, ids, correlations, column, asOf, placeOf, valueOf, as-place, change-unit, change-long, goes-not, same-goes, with-is, with-long}
@@ -41,34 +43,26 @@ use Rattle.history.proofs.Alike.{Alike, in-plan, reach-plan, record-ali
 
 -- ---- the keys of a state
 
--- what no event changes
-pub record Plan : Type 0 where
-  pub asps : ℕ
-  pub ases : ℕ
-  pub links : ℕ
-  pub spare : ℕ
-  pub aspid : List ℕ
-  pub member : List ℕ
-  pub mode : List ℕ
-  pub iid : List ℕ
-  pub owner : List ℕ
-  pub highspeed : List ℕ
-  pub wholelists : List ℕ
-
-abbrev pub planOf : Gateway → Plan
-planOf g =
+-- the state with this plan, and with these columns, which events change
+abbrev fromPlan : Plan → List ℕ → List ℕ → List ℕ → List ℕ → Units → Gateway
+fromPlan p up active waiting state held =
     record {
-      asps = g .asps;
-      ases = g .ases;
-      links = g .links;
-      spare = g .spare;
-      aspid = g .aspid;
-      member = g .member;
-      mode = g .mode;
-      iid = g .iid;
-      owner = g .owner;
-      highspeed = g .highspeed;
-      wholelists = g .wholelists;
+      asps = p .asps;
+      ases = p .ases;
+      links = p .links;
+      spare = p .spare;
+      aspid = p .aspid;
+      up = up;
+      member = p .member;
+      active = active;
+      mode = p .mode;
+      waiting = waiting;
+      iid = p .iid;
+      owner = p .owner;
+      state = state;
+      highspeed = p .highspeed;
+      wholelists = p .wholelists;
+      held = held;
     }
 
 pub data Key : Type 0 where
@@ -183,24 +177,9 @@ writes g e (wait a b) = reach g e a
 -- ---- a state is what it holds at its keys, with its shape
 
 pub ext : (g h : Gateway) → ((k : Key) → get g k ≡ get h k) → shape g ≡ shape h → g ≡ h
-ext g h e s = λ j. record {
-  asps = e plan j .asps;
-  ases = e plan j .ases;
-  links = e plan j .links;
-  spare = e plan j .spare;
-  aspid = e plan j .aspid;
-  up = ups j;
-  member = e plan j .member;
-  active = acts j;
-  mode = e plan j .mode;
-  waiting = waits j;
-  iid = e plan j .iid;
-  owner = e plan j .owner;
-  state = lines j;
-  highspeed = e plan j .highspeed;
-  wholelists = e plan j .wholelists;
-  held = record { count = units counts j; tag = units tags j; length = units lengths j; marked = units marks j; id = units ids j; correlation = units correlations j };
-}
+ext g h e s =
+    λ j. fromPlan (e plan j) (ups j) (acts j) (waits j) (lines j)
+    (record { count = units counts j; tag = units tags j; length = units lengths j; marked = units marks j; id = units ids j; correlation = units correlations j })
   where
     ups : g .up ≡ h .up
     ups = ext-front 16 (g .up) (h .up) (λ i b. e (up i b)) (λ j. s j .ups) (λ j. s j .afterUps)
@@ -224,10 +203,10 @@ ext g h e s = λ j. record {
 
 module _ (g : Gateway) (e : Event) where
   pub live-sound : live g e ≡ true → isSound g ≡ true
-  live-sound l = accepted (isSound g) (inPlan g (e .kind)) (e .hold) (e .room) (eqb-true (refusal g e) 0 l) .sound-yes
+  live-sound l = accepted (isSound g) (inPlan g (e .kind)) (e .lent) (eqb-true (refusal g e) 0 l) .sound-yes
 
   pub live-plan : live g e ≡ true → inPlan g (e .kind) ≡ true
-  live-plan l = accepted (isSound g) (inPlan g (e .kind)) (e .hold) (e .room) (eqb-true (refusal g e) 0 l) .known-yes
+  live-plan l = accepted (isSound g) (inPlan g (e .kind)) (e .lent) (eqb-true (refusal g e) 0 l) .known-yes
 
   pub next-live : live g e ≡ true → next g e ≡ stateAfter g (effectOf g (e .kind))
   unfolding next
@@ -431,31 +410,14 @@ module _ (g : Gateway) (R own : ℕ → Bool) (g′ : Gateway) (k : Alike g R ow
 module _ (b b′ : Gateway) (P : planOf b′ ≡ planOf b) where
   -- b′ is b with other contents
   to : b′ ≡ dyn b b′
-  to = λ j. record {
-    asps = P j .asps;
-    ases = P j .ases;
-    links = P j .links;
-    spare = P j .spare;
-    aspid = P j .aspid;
-    up = b′ .up;
-    member = P j .member;
-    active = b′ .active;
-    mode = P j .mode;
-    waiting = b′ .waiting;
-    iid = P j .iid;
-    owner = P j .owner;
-    state = b′ .state;
-    highspeed = P j .highspeed;
-    wholelists = P j .wholelists;
-    held = b′ .held;
-  }
+  to = λ j. fromPlan (P j) (b′ .up) (b′ .active) (b′ .waiting) (b′ .state) (b′ .held)
 
   module _ (S : isSound b′ ≡ isSound b) (e : Event) where
     plan-in : inPlan b′ (e .kind) ≡ inPlan b (e .kind)
     plan-in = ap (λ (x : Gateway). inPlan x (e .kind)) to ∙ in-plan b b′ (e .kind)
 
     plan-refusal : refusal b′ e ≡ refusal b e
-    plan-refusal = λ j. refusalOf (S j) (plan-in j) (e .hold) (e .room)
+    plan-refusal = λ j. refusalOf (S j) (plan-in j) (e .lent)
 
     plan-reaches : (a : ℕ) → Reaches b′ (e .kind) a ≡ Reaches b (e .kind) a
     plan-reaches a =

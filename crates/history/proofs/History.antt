@@ -28,14 +28,14 @@ use Rattle.rules.specs.Entry.{actions, next, nextHold, MeetsRules}
 use Rattle.rules.specs.Calls.{Board, nextBoard, Call, events, boardAfter, Calls, none, call, answer, rulesAnswer}
 use Rattle.rules.specs.Inner.Accepted.{accepted}
 use Rattle.rules.specs.Inner.Calls.{made, lend-same, made-meets, made-hold}
-use Rattle.rules.specs.Samples.{event, g₁, g₅, takes, arrives, comesUp}
+use Rattle.rules.specs.Samples.{sampleEvent, g₁, g₅, takes, arrives, comesUp}
 use Rattle.rules.specs.Inner.Samples.{ReachApart}
 use Rattle.rules.proofs.Samples.{reach-apart, held-apart}
 use Rattle.history.specs.Trade.{swaps, outs, last}
 use Rattle.history.specs.Inner.Trade.{traded-outs, traded-last}
-use Rattle.history.specs.History.{reaches, Independent, Untouched, UnitsStay, Outside, Statement, isUp, ReachOfUp, Rooms, blanks, Made, sampleBoard, TradeExists, TradesExist}
+use Rattle.history.specs.History.{Independent, Untouched, UnitsStay, Outside, Statement, isUp, ReachOfUp, Rooms, blanks, Made, sampleBoard, TradeExists, TradesExist}
 use Rattle.history.proofs.Units.{Column, counts, tags, lengths, marks, ids, correlations, column, placeOf, as-place}
-use Rattle.history.proofs.Frame.{Plan, planOf, plan, wait, act, line, up, unit, live, not-mine, not-reached, reach-next}
+use Rattle.history.proofs.Frame.{plan, wait, act, line, up, unit, live, not-mine, not-reached, reach-next}
 use Rattle.history.proofs.Boards.{gate, byte, hold-dead, untouched, free-commute}
 
 -- ---- what the calls hand back is what the rules give
@@ -53,21 +53,21 @@ one-given b d h = λ j. record { refusal = h .refused j; count = h .count j; wor
     words = (λ j. take (4 * h .count j) (h .words j)) ∙ take-at (wordsOf os) (drop (4 * length os) (d .lent)) (4 * length os) long
 
 -- an event with a hold of another length is refused
-short-dead : (g : Gateway) (e : Event) → eqb (e .hold) holdBytes ≡ false → live g e ≡ false
+short-dead : (g : Gateway) (e : Event) → eqb (e .lent .hold) holdBytes ≡ false → live g e ≡ false
 short-dead g e n =
     false-of (live g e)
-    (λ l. clash (eqb (e .hold) holdBytes) n (eq-eqb (e .hold) holdBytes (accepted (isSound g) (inPlan g (e .kind)) (e .hold) (e .room) (eqb-true (refusal g e) 0 l) .whole)))
+    (λ l. clash (eqb (e .lent .hold) holdBytes) n (eq-eqb (e .lent .hold) holdBytes (accepted (isSound g) (inPlan g (e .kind)) (e .lent) (eqb-true (refusal g e) 0 l) .whole)))
 
 -- so the hold that goes on is the rules', whatever was lent
-one-hold : (b : Board) (d : Call) → d .held ≡ nextHold (b .gateway) (d .event) (d .hold) → (d .event .hold ≡ holdBytes → d .hold ≡ b .hold)
-    → cond (eqb (d .event .hold) holdBytes) (d .held) (b .hold) ≡ nextHold (b .gateway) (d .event) (b .hold)
-one-hold b d h s = go (eqb (d .event .hold) holdBytes) refl
+one-hold : (b : Board) (d : Call) → d .held ≡ nextHold (b .gateway) (d .event) (d .hold) → (d .event .lent .hold ≡ holdBytes → d .hold ≡ b .hold)
+    → cond (eqb (d .event .lent .hold) holdBytes) (d .held) (b .hold) ≡ nextHold (b .gateway) (d .event) (b .hold)
+one-hold b d h s = go (eqb (d .event .lent .hold) holdBytes) refl
   where
-    go : (t : Bool) → eqb (d .event .hold) holdBytes ≡ t → cond t (d .held) (b .hold) ≡ nextHold (b .gateway) (d .event) (b .hold)
-    go true e = h ∙ ap (nextHold (b .gateway) (d .event)) (s (eqb-true (d .event .hold) holdBytes e))
+    go : (t : Bool) → eqb (d .event .lent .hold) holdBytes ≡ t → cond t (d .held) (b .hold) ≡ nextHold (b .gateway) (d .event) (b .hold)
+    go true e = h ∙ ap (nextHold (b .gateway) (d .event)) (s (eqb-true (d .event .lent .hold) holdBytes e))
     go false e = sym (hold-dead (b .gateway) (d .event) (b .hold) (short-dead (b .gateway) (d .event) e))
 
-one-after : (b : Board) (d : Call) → MeetsRules (b .gateway) (d .event) (d .lent) (d .left) (d .hold) (d .held) (d .outcome) → (d .event .hold ≡ holdBytes → d .hold ≡ b .hold)
+one-after : (b : Board) (d : Call) → MeetsRules (b .gateway) (d .event) (d .lent) (d .left) (d .hold) (d .held) (d .outcome) → (d .event .lent .hold ≡ holdBytes → d .hold ≡ b .hold)
     → boardAfter b d ≡ nextBoard b (d .event)
 one-after b d h s = λ j. record { gateway = h .state j; hold = one-hold b d (h .bytes) s j }
 
@@ -85,26 +85,13 @@ state-by-rules (call {b} {d = d} {ds} h s t) = state-by-rules t ∙ ap (λ (x : 
 one-outside : (b : Board) (e : Event) → Untouched (b .gateway) e (next (b .gateway) e)
 one-outside b e =
     record {
-      asps = ap (λ (x : Plan). x .asps) same;
-      ases = ap (λ (x : Plan). x .ases) same;
-      links = ap (λ (x : Plan). x .links) same;
-      spare = ap (λ (x : Plan). x .spare) same;
-      aspid = ap (λ (x : Plan). x .aspid) same;
-      member = ap (λ (x : Plan). x .member) same;
-      mode = ap (λ (x : Plan). x .mode) same;
-      iid = ap (λ (x : Plan). x .iid) same;
-      owner = ap (λ (x : Plan). x .owner) same;
-      highspeed = ap (λ (x : Plan). x .highspeed) same;
-      wholelists = ap (λ (x : Plan). x .wholelists) same;
+      plan = untouched b e (gate plan) refl;
       waiting = λ a l r. untouched b e (gate (wait a l)) r;
       active = λ a q l m r. untouched b e (gate (act a q l m)) r;
       state = λ l r. untouched b e (gate (line l)) r;
       up = λ q l n. untouched b e (gate (up q l)) (not-mine (b .gateway) e q l n);
       ups = λ a q k l n m. untouched b e (gate (up q l)) (not-reached (b .gateway) e a q k l n m);
     }
-  where
-    same : planOf (next (b .gateway) e) ≡ planOf (b .gateway)
-    same = untouched b e (gate plan) refl
 
 one-stays : (b : Board) (e : Event) → UnitsStay b e (nextBoard b e)
 one-stays b e =
@@ -159,7 +146,7 @@ some-calls b n (e ∷ h) (l ∷ ls) r =
 -- there are such lists
 pub some-rooms : (h : List Event) → Rooms h (blanks h)
 some-rooms [] = tt
-some-rooms (e ∷ h) = (length-replicate (e .room) 0, some-rooms h)
+some-rooms (e ∷ h) = (length-replicate (e .lent .room) 0, some-rooms h)
 
 -- ---- and trades exist
 
@@ -168,7 +155,7 @@ apart-events : (g : Gateway) (e f : Event) → ReachApart g e f → ((q : ℕ) �
 unfolding reach
 apart-events g e f r n = record { controllers = n; servers = go }
   where
-    go : (a : ℕ) → reaches g e a ≡ true → reaches g f a ≡ true → ⊥
+    go : (a : ℕ) → reach g e a ≡ true → reach g f a ≡ true → ⊥
     go zero x y = false≢true (sym (r .second .0) ∙ y)
     go (suc zero) x y = false≢true (sym (r .first .1) ∙ x)
     go (suc (suc a)) x y =
@@ -176,11 +163,11 @@ apart-events g e f r n = record { controllers = n; servers = go }
         let z : ⊥ = omega (arith, w, r .ases) in
         absurd z
 
-trade-exists : (g : Gateway) (k m : EventKind) → (let e : Event = event k in let f : Event = event m in ReachApart g e f → Independent (sampleBoard g) e f → TradeExists g e f)
+trade-exists : (g : Gateway) (k m : EventKind) → (let e : Event = sampleEvent k in let f : Event = sampleEvent m in ReachApart g e f → Independent (sampleBoard g) e f → TradeExists g e f)
 trade-exists g k m r i =
     record {
-      calls = some-calls (sampleBoard g) (length-replicate {A = ℕ} holdBytes 0) (event k ∷ event m ∷ []) _ (some-rooms (event k ∷ event m ∷ []));
-      traded = some-calls (sampleBoard g) (length-replicate {A = ℕ} holdBytes 0) (event m ∷ event k ∷ []) _ (some-rooms (event m ∷ event k ∷ []));
+      calls = some-calls (sampleBoard g) (length-replicate {A = ℕ} holdBytes 0) (sampleEvent k ∷ sampleEvent m ∷ []) _ (some-rooms (sampleEvent k ∷ sampleEvent m ∷ []));
+      traded = some-calls (sampleBoard g) (length-replicate {A = ℕ} holdBytes 0) (sampleEvent m ∷ sampleEvent k ∷ []) _ (some-rooms (sampleEvent m ∷ sampleEvent k ∷ []));
       trades = (i, tt);
       events-trade = refl;
       first = r .first .0;
@@ -197,12 +184,12 @@ trades-exist = (
 -- ---- reach
 
 -- it does not change along a history: whether two events may trade can be read off the first state
-pub reach-stays : (g : Gateway) (e f : Event) (a : ℕ) → reaches (next g e) f a ≡ reaches g f a
+pub reach-stays : (g : Gateway) (e f : Event) (a : ℕ) → reach (next g e) f a ≡ reach g f a
 reach-stays g e f a = reach-next g e f a
 
 pub up-reach : ReachOfUp
 unfolding isUp reach messageReach readReach
-up-reach g p s n h a r u = λ j. eq-eqb (refusal g (record { kind = message p s; room = n; hold = h })) 0 r j && (ltb a (g .ases) && inside j)
+up-reach g p s n a r u = λ j. eq-eqb (refusal g (record { kind = message p s; lent = n })) 0 r j && (ltb a (g .ases) && inside j)
   where
     inside : messageReach g p s a ≡ isMember g a p
     inside =

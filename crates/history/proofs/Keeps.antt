@@ -15,4 +15,4 @@ keeps g e ok = next-sound g ok e
 -- an unsound state refuses every event (Rule 6.4): and so it stays, since a refused event changes nothing
 pub refused-unsound : (g : Gateway) (e : Event) → isSound g ≡ false → refusal g e ≡ 105
 unfolding refusalOf
-refused-unsound g e n = ap (λ (t : Bool). refusalOf t (inPlan g (e .kind)) (e .hold) (e .room)) n
+refused-unsound g e n = ap (λ (t : Bool). refusalOf t (inPlan g (e .kind)) (e .lent)) n

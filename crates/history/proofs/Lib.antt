@@ -7,3 +7,4 @@ pub mod Frame
 pub mod Keeps
 pub mod Boards
 pub mod History
+pub mod Samples

@@ -17,11 +17,11 @@ use Rattle.wire.specs.Walk.{Par, walk}
 use Rattle.message.specs.Verdict.{verdict}
 use Rattle.message.specs.Meaning.{readingOf}
 use Rattle.message.specs.declared.Reading.{Reading}
-use Rattle.gateway.specs.Sound.{isSound}
+use Rattle.gateway.specs.Sound.{pair, isSound}
 use Rattle.gateway.specs.Inner.Laws.{counts-within, owner-within, member-within}
 use Rattle.gateway.specs.declared.Gateway.{Gateway}
 use Rattle.lookup.specs.Links.{indexOf, known}
-use Rattle.ranges.specs.Named.{ownerOf, isOwnedBy, span, someIn, startAt, stopAt, entries, someEntry, someOf}
+use Rattle.ranges.specs.Named.{ownerById, isOwnedBy, span, someIn, startAt, stopAt, entries, someEntry, someOf}
 use Rattle.action.specs.declared.Action.{Action}
 use Rattle.action.specs.Types.{aspUp, aspDown, aspActive, aspInactive, beat, beatAck}
 use Rattle.server.specs.declared.Arrival.{Arrival}
@@ -30,10 +30,11 @@ use Rattle.server.specs.declared.Change.the-variants.{AspUp, AspDown, Recover}
 use Rattle.server.specs.Record.{some}
 use Rattle.servers.specs.Inner.Records.{moves, NamesOwn, names-own, column-at}
 use Rattle.rules.specs.Event.{EventKind, message, lost, recovery, linkUp, linkDown, linkMessage}
-use Rattle.rules.specs.Identifiers.{namesSome, firstRefused, ownsGood, ownersGood, isKnown, linkOf, ownerAt, isMember, isActive}
+use Rattle.rules.specs.Identifiers.{namesSome, firstRefused, ownsGood, ownersGood, isKnown, linkOf, ownerAt, isMember}
 use Rattle.rules.specs.Effect.{Effect, send, setLink, changeIn, takeIn, error2}
 use Rattle.rules.specs.Asp.{asesOf, upEffect, downEffect, lostEffect, otherMode, activeEffect, inactiveEffect, partEffect, trafficEffect}
-use Rattle.rules.specs.Link.{starting, inService, stopping, idle, establish, release, dataEffect, canHave, linkEffect, classSixEffect, linkUpEffect, linkDownEffect}
+use Rattle.rules.specs.Link.{starting, inService, stopping, idle, establish, release, dataEffect, canHave, linkEffect, classSixOn, classSixEffect, linkUpOn, linkUpEffect, linkDownOn, linkDownEffect}
+use Rattle.rules.specs.Records.{linkAt}
 use Rattle.rules.specs.Rules.{isError, classTypeOf, fromAsp, readEffect, messageEffect, effectOf, inPlan}
 use Rattle.rules.specs.Reach.{ownsId, readReach, messageReach, kindReach, fromController}
 use Rattle.rules.specs.Inner.TakeIn.{Takes, link-cases, taken-in}
@@ -148,12 +149,12 @@ module _ (g : Gateway) (ok : isSound g ≡ true) where
 
     -- class 6: the owner of a known identifier
     six-in : (K : ℕ → Bool) (r : Reading) → ((a : ℕ) → ownsId g (r .id) a ≡ true → K a ≡ true) → Within g (λ a. ltb a (g .ases) && K a) (eqb p) (classSixEffect g p r)
-    unfolding classSixEffect linkEffect dataEffect establish release ownsId
+    unfolding classSixEffect classSixOn linkEffect dataEffect establish release ownsId
     six-in K r h =
         by-cond (not (isSet (g .up) p)) W (λ _. tt)
         (λ _. by-cond (not (isKnown g x && isMember g (ownerAt g l) p)) W (λ _. tt)
-        (λ k. by-cond (not (isActive g (ownerAt g l) p)) W (λ _. tt)
-        (λ _. by-cond (not (canHave (numberAt (g .highspeed) l) (r .sequence))) W (λ _. tt)
+        (λ k. by-cond (not (isSet (g .active) (pair (ownerAt g l) p))) W (λ _. tt)
+        (λ _. by-cond (not (canHave (linkAt g l) (r .sequence))) W (λ _. tt)
         (λ _. by-cond (eqb (r .msgtype) 1) W (λ _. by-cond (eqb st inService) W (λ _. tt) (λ _. tt))
         (λ _. by-cond (eqb (r .msgtype) 2) W
         (λ _. by-cond (eqb st inService) W (λ _. tt) (λ _. by-cond (eqb st starting) W (λ _. tt) (λ _. turned k)))
@@ -275,7 +276,7 @@ module _ (g : Gateway) (ok : isSound g ≡ true) where
   -- ---- every kind
 
   pub within : (k : EventKind) → inPlan g k ≡ true → Within g (Reaches g k) (fromController k) (effectOf g k)
-  unfolding lostEffect linkUpEffect linkDownEffect
+  unfolding lostEffect linkUpEffect linkUpOn linkDownEffect linkDownOn
   within (message p s) i = message-in p (ltb-true p (g .asps) i) s
   within (lost p) i = down-in p (ltb-true p (g .asps) i) (λ a. isMember g a p) (λ a m. m)
   within (recovery a) i = recover-in a (ltb-true a (g .ases) i)

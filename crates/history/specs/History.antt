@@ -12,7 +12,7 @@ use Rattle.gateway.specs.declared.Gateway.{Gateway}
 use Rattle.message.specs.Verdict.{verdict}
 use Rattle.message.specs.Meaning.{readingOf}
 use Rattle.action.specs.Types.{aspUp}
-use Rattle.rules.specs.Event.{Event, message}
+use Rattle.rules.specs.Event.{Lent, Event, message}
 use Rattle.rules.specs.Identifiers.{isMember}
 use Rattle.rules.specs.Rules.{refusal, isError, classTypeOf}
 use Rattle.rules.specs.Reach.{reach, fromController}
@@ -21,49 +21,70 @@ use Rattle.rules.specs.Calls.{Board, nextBoard, Call, events, boardAfter, Calls
 use Rattle.rules.specs.Samples.{g₁, g₅, takes, arrives, comesUp}
 use Rattle.history.specs.Trade.{swaps, Trades, outs, last}
 
--- AS a is reached by the event e on the state g; a link of the plan is reached with its owner (Rule 9.4).
-abbrev pub reaches : Gateway → Event → ℕ → Bool
-reaches g e a = reach g e a
-
+-- a link of the plan is reached with its owner (Rule 9.4)
 abbrev pub reachesLink : Gateway → Event → ℕ → Bool
-reachesLink g e l = ltb l (g .links) && reaches g e (numberAt (g .owner) l)
+reachesLink g e l = ltb l (g .links) && reach g e (numberAt (g .owner) l)
 
 -- Rule 10.4: two neighbours may trade places if they are not both of one controller (ASP), and no server (AS) is reached by both.
 pub record Independent (b : Board) (e f : Event) : Type 0 where
   pub controllers : (q : ℕ) → fromController (e .kind) q ≡ true → fromController (f .kind) q ≡ true → ⊥
-  pub servers : (a : ℕ) → reaches (b .gateway) e a ≡ true → reaches (b .gateway) f a ≡ true → ⊥
+  pub servers : (a : ℕ) → reach (b .gateway) e a ≡ true → reach (b .gateway) f a ≡ true → ⊥
 
--- What an event leaves as it was, number by number (Rules 9.5, 10.5): the plan; the waiting mark and the activity of an AS out of reach; the state of a
--- link out of reach.
+-- what no event changes
+pub record Plan : Type 0 where
+  pub asps : ℕ
+  pub ases : ℕ
+  pub links : ℕ
+  pub spare : ℕ
+  pub aspid : List ℕ
+  pub member : List ℕ
+  pub mode : List ℕ
+  pub iid : List ℕ
+  pub owner : List ℕ
+  pub highspeed : List ℕ
+  pub wholelists : List ℕ
+
+abbrev pub planOf : Gateway → Plan
+planOf g =
+    record {
+      asps = g .asps;
+      ases = g .ases;
+      links = g .links;
+      spare = g .spare;
+      aspid = g .aspid;
+      member = g .member;
+      mode = g .mode;
+      iid = g .iid;
+      owner = g .owner;
+      highspeed = g .highspeed;
+      wholelists = g .wholelists;
+    }
+
+-- What an event leaves as it was, number by number (Rules 9.5, 10.5): the plan; the waiting mark and the activity of an
+-- AS out of reach; the state of a link out of reach.
 pub record Untouched (g : Gateway) (e : Event) (c : Gateway) : Type 0 where
-  pub asps : c .asps ≡ g .asps
-  pub ases : c .ases ≡ g .ases
-  pub links : c .links ≡ g .links
-  pub spare : c .spare ≡ g .spare
-  pub aspid : c .aspid ≡ g .aspid
-  pub member : c .member ≡ g .member
-  pub mode : c .mode ≡ g .mode
-  pub iid : c .iid ≡ g .iid
-  pub owner : c .owner ≡ g .owner
-  pub highspeed : c .highspeed ≡ g .highspeed
-  pub wholelists : c .wholelists ≡ g .wholelists
-  pub waiting : (a : ℕ) → a < 16 → reaches g e a ≡ false → numberAt (c .waiting) a ≡ numberAt (g .waiting) a
-  pub active : (a q : ℕ) → a < 16 → q < 16 → reaches g e a ≡ false → numberAt (c .active) (pair a q) ≡ numberAt (g .active) (pair a q)
+  pub plan : planOf c ≡ planOf g
+  pub waiting : (a : ℕ) → a < 16 → reach g e a ≡ false → numberAt (c .waiting) a ≡ numberAt (g .waiting) a
+  pub active : (a q : ℕ) → a < 16 → q < 16 → reach g e a ≡ false → numberAt (c .active) (pair a q) ≡ numberAt (g .active) (pair a q)
   pub state : (l : ℕ) → reachesLink g e l ≡ false → numberAt (c .state) l ≡ numberAt (g .state) l
   -- an ASP comes up or goes down by its own events alone
   pub up : (q : ℕ) → q < 16 → fromController (e .kind) q ≡ false → numberAt (c .up) q ≡ numberAt (g .up) q
   -- and the members of an AS out of reach stay up, or down, whoever's event it is
-  pub ups : (a q : ℕ) → a < 16 → q < 16 → reaches g e a ≡ false → isMember g a q ≡ true → numberAt (c .up) q ≡ numberAt (g .up) q
+  pub ups : (a q : ℕ) → a < 16 → q < 16 → reach g e a ≡ false → isMember g a q ≡ true → numberAt (c .up) q ≡ numberAt (g .up) q
+
+-- column x has for each unit of an AS out of reach what column y has
+abbrev pub SameUnits : Gateway → Event → List ℕ → List ℕ → Type 0
+SameUnits g e x y = (a k : ℕ) → a < 16 → k < 8 → reach g e a ≡ false → numberAt x (unitIndex a k) ≡ numberAt y (unitIndex a k)
 
 -- the units and the part of the hold of an AS out of reach: how many it has, what is kept of each, and every byte
 pub record UnitsStay (b : Board) (e : Event) (c : Board) : Type 0 where
-  pub count : (a : ℕ) → a < 16 → reaches (b .gateway) e a ≡ false → numberAt (c .gateway .held .count) a ≡ numberAt (b .gateway .held .count) a
-  pub tag : (a k : ℕ) → a < 16 → k < 8 → reaches (b .gateway) e a ≡ false → numberAt (c .gateway .held .tag) (unitIndex a k) ≡ numberAt (b .gateway .held .tag) (unitIndex a k)
-  pub length : (a k : ℕ) → a < 16 → k < 8 → reaches (b .gateway) e a ≡ false → numberAt (c .gateway .held .length) (unitIndex a k) ≡ numberAt (b .gateway .held .length) (unitIndex a k)
-  pub marked : (a k : ℕ) → a < 16 → k < 8 → reaches (b .gateway) e a ≡ false → numberAt (c .gateway .held .marked) (unitIndex a k) ≡ numberAt (b .gateway .held .marked) (unitIndex a k)
-  pub id : (a k : ℕ) → a < 16 → k < 8 → reaches (b .gateway) e a ≡ false → numberAt (c .gateway .held .id) (unitIndex a k) ≡ numberAt (b .gateway .held .id) (unitIndex a k)
-  pub correlation : (a k : ℕ) → a < 16 → k < 8 → reaches (b .gateway) e a ≡ false → numberAt (c .gateway .held .correlation) (unitIndex a k) ≡ numberAt (b .gateway .held .correlation) (unitIndex a k)
-  pub bytes : (a j : ℕ) → a < 16 → j < 2184 → reaches (b .gateway) e a ≡ false → numberAt (c .hold) (a * 2184 + j) ≡ numberAt (b .hold) (a * 2184 + j)
+  pub count : (a : ℕ) → a < 16 → reach (b .gateway) e a ≡ false → numberAt (c .gateway .held .count) a ≡ numberAt (b .gateway .held .count) a
+  pub tag : SameUnits (b .gateway) e (c .gateway .held .tag) (b .gateway .held .tag)
+  pub length : SameUnits (b .gateway) e (c .gateway .held .length) (b .gateway .held .length)
+  pub marked : SameUnits (b .gateway) e (c .gateway .held .marked) (b .gateway .held .marked)
+  pub id : SameUnits (b .gateway) e (c .gateway .held .id) (b .gateway .held .id)
+  pub correlation : SameUnits (b .gateway) e (c .gateway .held .correlation) (b .gateway .held .correlation)
+  pub bytes : (a j : ℕ) → a < 16 → j < 2184 → reach (b .gateway) e a ≡ false → numberAt (c .hold) (a * 2184 + j) ≡ numberAt (b .hold) (a * 2184 + j)
 
 -- at every call of a history
 abbrev pub Outside : Board → List Call → Type 0
@@ -91,19 +112,19 @@ unfoldable pub isUp : List ℕ → Bool
 isUp s = not (isError s) && (eqb (verdict s) 0 && eqb (classTypeOf (readingOf s)) aspUp)
 
 abbrev pub ReachOfUp : Type 0
-ReachOfUp = (g : Gateway) (p : ℕ) (s : List ℕ) (room hold a : ℕ) → refusal g (record { kind = message p s; room = room; hold = hold }) ≡ 0 → isUp s ≡ true
-    → reaches g (record { kind = message p s; room = room; hold = hold }) a ≡ (ltb a (g .ases) && isMember g a p)
+ReachOfUp = (g : Gateway) (p : ℕ) (s : List ℕ) (lent : Lent) (a : ℕ) → refusal g (record { kind = message p s; lent = lent }) ≡ 0 → isUp s ≡ true
+    → reach g (record { kind = message p s; lent = lent }) a ≡ (ltb a (g .ases) && isMember g a p)
 
 -- lists to lend, of the lengths that the events have
 abbrev pub Rooms : List Event → List (List ℕ) → Type 0
 Rooms [] [] = Unit {0}
 Rooms [] (l ∷ ls) = ⊥
 Rooms (e ∷ h) [] = ⊥
-Rooms (e ∷ h) (l ∷ ls) = (length l ≡ e .room) × Rooms h ls
+Rooms (e ∷ h) (l ∷ ls) = (length l ≡ e .lent .room) × Rooms h ls
 
 -- for instance lists of zeros
 abbrev pub blanks : List Event → List (List ℕ)
-blanks h = map (λ (e : Event). replicate (e .room) 0) h
+blanks h = map (λ (e : Event). replicate (e .lent .room) 0) h
 
 -- Such calls exist for every first state with a hold of the right length, every list of events and all lent lists of their lengths: the statement is about something.
 pub record Made (b : Board) (h : List Event) (ls : List (List ℕ)) : Type 0 where
@@ -123,8 +144,8 @@ pub record TradeExists (g : Gateway) (e f : Event) : Type 0 where
   pub traded : Made (sampleBoard g) (f ∷ e ∷ []) (replicate 1544 0 ∷ replicate 1544 0 ∷ [])
   pub trades : Trades nextBoard Independent (sampleBoard g) (e ∷ f ∷ []) (0 ∷ [])
   pub events-trade : f ∷ e ∷ [] ≡ swaps (0 ∷ []) (e ∷ f ∷ [])
-  pub first : reaches g e 0 ≡ true
-  pub second : reaches g f 1 ≡ true
+  pub first : reach g e 0 ≡ true
+  pub second : reach g f 1 ≡ true
 
 -- Trades exist: ASP 0 takes AS 0 over, or a unit comes in for it and is held; and ASP 2 comes up.
 abbrev pub TradesExist : Type 0

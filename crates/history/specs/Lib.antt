@@ -1,3 +1,4 @@
 pub mod Trade
 pub mod History
+pub mod Samples
 pub mod Inner

@@ -14,7 +14,7 @@ use Rattle.laws.specs.Inner.Columns.{getD-tabulate}
 use Rattle.wire.specs.Walk.{Par, walk}
 use Rattle.message.specs.declared.Reading.{Reading}
 use Rattle.action.specs.declared.Action.{Action}
-use Rattle.gateway.specs.Sound.{isSound}
+use Rattle.gateway.specs.Sound.{pair, isSound}
 use Rattle.gateway.specs.declared.Gateway.{Gateway}
 use Rattle.lookup.specs.Links.{indexOf, known}
 use Rattle.server.specs.declared.Arrival.{Arrival}
@@ -23,10 +23,12 @@ use Rattle.server.specs.Record.{some}
 use Rattle.servers.specs.Inner.Records.{column-at}
 use Rattle.rules.specs.Event.{EventKind, message, lost, recovery, linkUp, linkDown, linkMessage, Event}
 use Rattle.ranges.specs.Named.{isOwnedBy}
-use Rattle.rules.specs.Identifiers.{firstRefused, namesSome, ownsGood, ownersGood, isKnown, linkOf, ownerAt, isMember, isActive}
+use Rattle.rules.specs.Identifiers.{firstRefused, namesSome, ownsGood, ownersGood, isKnown, linkOf, ownerAt, isMember}
 use Rattle.rules.specs.Effect.{Effect, send, setLink, changeIn, takeIn, stateAfter}
 use Rattle.rules.specs.Asp.{asesOf, upEffect, downEffect, lostEffect, activeEffect, inactiveEffect, partEffect, trafficEffect}
-use Rattle.rules.specs.Link.{starting, inService, idle, establish, release, dataEffect, canHave, linkEffect, classSixEffect, linkUpEffect, linkDownEffect}
+use Rattle.rules.specs.Link.{starting, inService, idle, establish, release, dataEffect, canHave, linkEffect, classSixOn, classSixEffect, linkUpOn, linkUpEffect, linkDownOn, linkDownEffect}
+use Rattle.rules.specs.Records.{linkAt}
+use Rattle.rules.specs.declared.Link.{Link}
 use Rattle.rules.specs.Rules.{readEffect, messageEffect, effectOf, inPlan, refusal}
 use Rattle.rules.specs.Entry.{next}
 use Rattle.rules.specs.Inner.Accepted.{accepted}
@@ -103,9 +105,9 @@ module _ (g : Gateway) (ok : isSound g ≡ true) where
         (λ _. h (not-false (isSet (g .up) p) u) [] (asesOf g p) (λ a c e. sym (column-at (g .member) p a c) ∙ e))
         (λ _. said _)))
 
-    link : (x l st : ℕ) (r : Reading) → l < g .links → Keeps (linkEffect p x l st r)
+    link : (x l : ℕ) (k : Link) (r : Reading) → l < g .links → Keeps (linkEffect p x l k r)
     unfolding linkEffect establish release dataEffect
-    link x l st r c = search (either, said, starts, stops) depth 16
+    link x l k r c = search (either, said, starts, stops) depth 16
       where
         starts : (os : List Action) → Keeps (setLink l 1 os)
         starts os = turned l 1 os c (omega arith)
@@ -114,12 +116,12 @@ module _ (g : Gateway) (ok : isSound g ≡ true) where
         stops os = turned l 3 os c (omega arith)
 
     six : (r : Reading) → Keeps (classSixEffect g p r)
-    unfolding classSixEffect
+    unfolding classSixEffect classSixOn
     six r =
         by-cond (not (isSet (g .up) p)) Keeps (λ _. said _)
         (λ _. by-cond (not (isKnown g (r .id) && isMember g (ownerAt g (linkOf g (r .id))) p)) Keeps (λ _. said _)
-        (λ k. by-cond (not (isActive g (ownerAt g (linkOf g (r .id))) p)) Keeps (λ _. said _)
-        (λ _. by-cond (not (canHave (numberAt (g .highspeed) (linkOf g (r .id))) (r .sequence))) Keeps (λ _. said _)
+        (λ k. by-cond (not (isSet (g .active) (pair (ownerAt g (linkOf g (r .id))) p))) Keeps (λ _. said _)
+        (λ _. by-cond (not (canHave (linkAt g (linkOf g (r .id))) (r .sequence))) Keeps (λ _. said _)
         (λ _. link (r .id) (linkOf g (r .id)) _ r (known-below (r .id) (and-left (isKnown g (r .id)) _ (not-false (isKnown g (r .id) && isMember g (ownerAt g (linkOf g (r .id))) p) k)))))))
 
     down : Keeps (downEffect g p)
@@ -152,7 +154,7 @@ module _ (g : Gateway) (ok : isSound g ≡ true) where
   -- ---- every kind
 
   kept : (k : EventKind) → inPlan g k ≡ true → Keeps (effectOf g k)
-  unfolding lostEffect linkUpEffect linkDownEffect
+  unfolding lostEffect linkUpEffect linkUpOn linkDownEffect linkDownOn
   kept (message p s) i = of-asp p (ltb-true p (g .asps) i) s
   kept (lost p) i = fell p []
   kept (recovery a) i = recovered [] _
@@ -164,5 +166,5 @@ module _ (g : Gateway) (ok : isSound g ≡ true) where
   unfolding next Keeps
   next-sound e =
       by-cond (eqb (refusal g e) 0) (λ (x : Gateway). isSound x ≡ true)
-      (λ t. kept (e .kind) (accepted (isSound g) (inPlan g (e .kind)) (e .hold) (e .room) (eqb-true (refusal g e) 0 t) .known-yes))
+      (λ t. kept (e .kind) (accepted (isSound g) (inPlan g (e .kind)) (e .lent) (eqb-true (refusal g e) 0 t) .known-yes))
       (λ _. ok)

@@ -1,4 +1,6 @@
--- Definitions over the numbers below a count (whether some, whether all, the first, how many, lists joined), each with its laws at 0 and at n + 1.
+-- Of the numbers below a count: whether some of them, whether all have a property, the first and the last that
+-- has it, how many have it; and their lists, joined.
+-- Assumes nothing.
 use Prim.Native.Nat.{ℕ, zero, suc, _+_}
 use mathlib.Core.Bool.{Bool, true, false, _||_, _&&_, cond}
 use mathlib.Core.List.{List, [], _∷_, _++_}

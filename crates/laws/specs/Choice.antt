@@ -1,4 +1,4 @@
--- What a choice by a test is, from a fact on the numbers: lemmas for `search`, with which a `return` follows the tests that led to it.
+-- Of several checks, the number of the first that applies.
 -- Assumes nothing.
 use mathlib.Core.Bool.{Bool, cond}
 use Prim.Native.Nat.{ℕ, zero, suc}

@@ -1,4 +1,5 @@
--- Lists given place by place, and a loop that sets the places in turn.
+-- Columns, which are lists of numbers or of flags: what stands at a place, and a list by what stands at each place.
+-- Assumes nothing.
 use Prim.Native.Nat.{ℕ, zero, suc}
 use mathlib.Core.Bool.{Bool, false}
 use mathlib.Core.List.{List, [], _∷_}

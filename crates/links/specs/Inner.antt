@@ -1,3 +1,4 @@
 pub mod Recipients
+pub mod Records
 pub mod Side
 pub mod Six

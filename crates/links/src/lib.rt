@@ -1,8 +1,12 @@
 // What the events of links do: class 6 messages of an ASP, link up, link down, messages of the link side.
 use action::Action;
-use message::DataUnit;
+use gateway::Gateway;
+use message::Found;
 use message::Reading;
 use rules::Decision;
+use rules::Link;
+use rules::Owner;
+use rules::Sender;
 use server::Change;
 use server::has_some;
 use server::row_of;
@@ -12,48 +16,79 @@ ghost use mathlib.Core.List.{[], _∷_};
 ghost use Prim.Native.Nat.{_+_, _<_, _≤_};
 ghost use lib.Dec.{eqb};
 ghost use Rattle.action.specs.Words.{action, linkSide, toAll};
-ghost use Rattle.gateway.specs.Sound.{ascends};
 ghost use Rattle.laws.specs.Columns.{tabulate};
-ghost use Rattle.lookup.specs.Links.{indexOf};
 ghost use Rattle.lookup.specs.Servers.{receives};
-ghost use Rattle.ranges.specs.Inner.Laws.{Table};
-ghost use Rattle.rules.specs.Link.{establish, release, dataEffect, canHave, linkEffect, classSixEffect, linkUpEffect, linkDownEffect, holdEffect, linkMessageEffect};
+ghost use Rattle.rules.specs.Link.{establish, release, dataEffect, canHave, linkEffect, classSixOn, recipientsOf, linkUpOn, linkDownOn, holdEffect, linkMessageOn};
+ghost use Rattle.rules.specs.Records.{linkAt};
 ghost use Rattle.rules.specs.Effect.{send, setLink, takeIn};
 ghost use Rattle.rules.specs.Rules.{fromLink};
-ghost use Rattle.work.specs.Inner.Decides.{Decides, DecidesOn};
-ghost use Rattle.links.specs.Inner.Recipients.{recipientsAt, pendingAt, SideColumns, SideHeld};
-ghost use Rattle.links.specs.Inner.Six.{dataTree, SixColumns};
-ghost use Rattle.links.specs.Inner.Side.{placeWith, placeOf, Side, Fits};
+ghost use Rattle.work.specs.Inner.Decides.{Decides};
+ghost use Rattle.links.specs.Inner.Records.{senderFrom, pendingIn};
+ghost use Rattle.links.specs.Inner.Six.{dataTree};
+ghost use Rattle.links.specs.Inner.Side.{passesIn, Fits};
 ghost use Rattle.action.specs.Types.{establishConfirm, releaseConfirm, releaseIndication};
 
 // The largest sequence number of a plain link (Rule 5.23).
 const PLAIN_MOST: u32 = 127;
 
-// ---- class 6 of an ASP: p is the ASP, x the identifier, l the link's index, st its state
+// ---- records (Rule 5.27)
+
+// The link at l of a whole state, for who does not hold it for an event. (Who does reads the places itself: a state that is passed is copied.)
+pub fn link_at(g: Gateway, l: usize) -> Link
+    requires { ⌜ l < 128 ⌝ }
+    ensures { λ r. ⌜ r ≡ linkAt g l ⌝ }
+{
+    Link {
+        id: g.iid[l],
+        owner: g.owner[l],
+        state: g.state[l],
+        highspeed: g.highspeed[l],
+    }
+}
+
+// ASP p, as AS a has it.
+pub fn sender_of<'a>(
+    up: &'a [u8; 16],
+    member: &'a [u8; 256],
+    active: &'a [u8; 256],
+    a: usize,
+    p: usize,
+) -> Sender
+    requires { ⌜ (a < 16) × (p < 16) ⌝ }
+    ensures { λ r. ⌜ r ≡ senderFrom (now (up .entry)) (now (member .entry)) (now (active .entry)) a p ⌝ }
+{
+    Sender {
+        up: up[p],
+        member: member[a * 16 + p],
+        active: active[a * 16 + p],
+    }
+}
+
+// ---- class 6 of an ASP: p is the ASP, x the identifier, k the link, at the index l
 
 // Establish (Rule 7.15).
-fn establish_work(p: usize, x: u32, l: usize, st: u8) -> Decision
+fn establish_work(p: usize, x: u32, l: usize, k: Link) -> Decision
     requires { ⌜ (p < 16) × (l < 128) ⌝ }
-    ensures { λ r. ⌜ Decides r (establish p x l st) ⌝ }
+    ensures { λ r. ⌜ Decides r (establish p x l k) ⌝ }
 {
-    if st == 2 {
+    if k.state == 2 {
         return work::reply(p, action::ESTABLISH_CONFIRM, x, 0);
     }
-    if st == 1 {
+    if k.state == 1 {
         return work::nothing();
     }
     work::turn_and_send(l, 1, action::ESTABLISH_REQUEST, x)
 }
 
 // Release (Rule 7.16).
-fn release_work(p: usize, x: u32, l: usize, st: u8) -> Decision
+fn release_work(p: usize, x: u32, l: usize, k: Link) -> Decision
     requires { ⌜ (p < 16) × (l < 128) ⌝ }
-    ensures { λ r. ⌜ Decides r (release p x l st) ⌝ }
+    ensures { λ r. ⌜ Decides r (release p x l k) ⌝ }
 {
-    if st == 0 {
+    if k.state == 0 {
         return work::reply(p, action::RELEASE_CONFIRM, x, 0);
     }
-    if st == 3 {
+    if k.state == 3 {
         return work::nothing();
     }
     work::turn_and_send(l, 3, action::RELEASE_REQUEST, x)
@@ -71,11 +106,11 @@ fn send_and_reply(p: usize, classtype: u32, x: u32, reply: u32, value: u32) -> D
 }
 
 // Data (Rule 7.17), as a tree.
-fn data_tree(p: usize, x: u32, st: u8, r: Reading) -> Decision
+fn data_tree(p: usize, x: u32, k: Link, r: Reading) -> Decision
     requires { ⌜ p < 16 ⌝ }
-    ensures { λ w. ⌜ Decides w (dataTree p x st r) ⌝ }
+    ensures { λ w. ⌜ Decides w (dataTree p x k r) ⌝ }
 {
-    if st == 2 {
+    if k.state == 2 {
         if r.correlated == 1 {
             return send_and_reply(p, action::USER_DATA, x, action::DATA_ACK, r.correlation);
         }
@@ -84,33 +119,33 @@ fn data_tree(p: usize, x: u32, st: u8, r: Reading) -> Decision
     work::error(p, 6)
 }
 
-fn data_work(p: usize, x: u32, st: u8, r: Reading) -> Decision
+fn data_work(p: usize, x: u32, k: Link, r: Reading) -> Decision
     requires { ⌜ p < 16 ⌝ }
-    ensures { λ w. ⌜ Decides w (dataEffect p x st r) ⌝ }
+    ensures { λ w. ⌜ Decides w (dataEffect p x k r) ⌝ }
 {
-    data_tree(p, x, st, r)
+    data_tree(p, x, k, r)
 }
 
 // A link can have the sequence number n (Rule 5.23).
-fn can_have(highspeed: u8, n: u32) -> bool
-    ensures { λ r. ⌜ r ≡ canHave highspeed n ⌝ }
+fn can_have(k: Link, n: u32) -> bool
+    ensures { λ r. ⌜ r ≡ canHave k n ⌝ }
 {
-    (highspeed == 1) | (n <= PLAIN_MOST)
+    (k.highspeed == 1) | (n <= PLAIN_MOST)
 }
 
 // A message of class 6 whose sender may send it, by its type (Rules 7.15 to 7.19).
-fn link_work(p: usize, x: u32, l: usize, st: u8, r: Reading) -> Decision
+fn link_work(p: usize, x: u32, l: usize, k: Link, r: Reading) -> Decision
     requires { ⌜ (p < 16) × (l < 128) ⌝ }
-    ensures { λ w. ⌜ Decides w (linkEffect p x l st r) ⌝ }
+    ensures { λ w. ⌜ Decides w (linkEffect p x l k r) ⌝ }
 {
     if r.msgtype == 1 {
-        return data_work(p, x, st, r);
+        return data_work(p, x, k, r);
     }
     if r.msgtype == 2 {
-        return establish_work(p, x, l, st);
+        return establish_work(p, x, l, k);
     }
     if r.msgtype == 4 {
-        return release_work(p, x, l, st);
+        return release_work(p, x, l, k);
     }
     if r.msgtype == 7 {
         return work::order(action::STATE_REQUEST, x, r.state);
@@ -121,32 +156,18 @@ fn link_work(p: usize, x: u32, l: usize, st: u8, r: Reading) -> Decision
     work::nothing()
 }
 
-// A message of class 6 that ASPs send: the questions of Rule 7.14, of the link that it names.
-pub fn class_six<'a>(
-    links: usize,
-    up: &'a [u8; 16],
-    member: &'a [u8; 256],
-    active: &'a [u8; 256],
-    iid: &'a [u32; 128],
-    owner: &'a [u8; 128],
-    state: &'a [u8; 128],
-    highspeed: &'a [u8; 128],
-    p: usize,
-    r: Reading,
-) -> Decision
-    requires { ⌜ Table (now iid) (now owner) links × (p < 16) ⌝ }
-    ensures { λ w. ⌜ DecidesOn (SixColumns links (now (up .entry)) (now (member .entry)) (now (active .entry)) (now (iid .entry)) (now (owner .entry)) (now (state .entry)) (now (highspeed .entry))) (λ g. classSixEffect g p r) w ⌝ }
+// A message of class 6 that ASPs send: the questions of Rule 7.14, of the link that it names; there says that there is such a link.
+pub fn class_six(there: bool, p: usize, l: usize, k: Link, s: Sender, r: Reading) -> Decision
+    requires { ⌜ (p < 16) × (l < 128) ⌝ }
+    ensures { λ w. ⌜ Decides w (classSixOn there p l k s r) ⌝ }
 {
-    let l = lookup::index_of(iid, links, r.id);
-    if up[p] == 1 {
-        if l < links {
-            let a = owner[l] as usize;
-            if member[a * 16 + p] == 1 {
-                let on = active[a * 16 + p] == 1;
-                let fits = can_have(highspeed[l], r.sequence);
-                if on {
+    let fits = can_have(k, r.sequence);
+    if s.up == 1 {
+        if there {
+            if s.member == 1 {
+                if s.active == 1 {
                     if fits {
-                        return link_work(p, r.id, l, state[l], r);
+                        return link_work(p, r.id, l, k, r);
                     }
                     return work::error(p, 17);
                 }
@@ -172,29 +193,21 @@ fn receivers(active: &[u8; 256], mode: u8, a: usize, x: u32) -> [bool; 16]
     row_of(active, a)
 }
 
-// Who they are.
-fn recipients_at<'a>(
-    links: usize,
-    active: &'a [u8; 256],
-    mode: &'a [u8; 16],
-    iid: &'a [u32; 128],
-    owner: &'a [u8; 128],
-    l: usize,
-) -> [bool; 16]
-    requires { ⌜ Table (now iid) (now owner) links × (l < links) ⌝ }
-    ensures { λ r. ⌜ r ≡ recipientsAt (now (active .entry)) (now (mode .entry)) (now (iid .entry)) (now (owner .entry)) l ⌝ }
+// Those of the link k, whose owner is o.
+fn recipients_of(active: &[u8; 256], k: Link, o: Owner) -> [bool; 16]
+    requires { ⌜ k .owner < 16 ⌝ }
+    ensures { λ r. ⌜ r ≡ recipientsOf (now (active .entry)) k o ⌝ }
 {
-    let a = owner[l] as usize;
-    receivers(active, mode[a], a, iid[l])
+    receivers(active, o.mode, gateway::wide(k.owner), k.id)
 }
 
-// Link up, where they are given.
-fn up_at(l: usize, st: u8, who: [bool; 16], x: u32) -> Decision
+// Link up (Rule 7.20), where they are given.
+fn up_at(l: usize, k: Link, who: [bool; 16]) -> Decision
     requires { ⌜ l < 128 ⌝ }
-    ensures { λ w. ⌜ Decides w (cond (eqb st 1) (setLink l 2 (toAll who establishConfirm x 0)) (send [])) ⌝ }
+    ensures { λ w. ⌜ Decides w (linkUpOn l k who) ⌝ }
 {
-    if st == 1 {
-        return work::turn_spread(l, 2, who, action::ESTABLISH_CONFIRM, x);
+    if k.state == 1 {
+        return work::turn_spread(l, 2, who, action::ESTABLISH_CONFIRM, k.id);
     }
     work::nothing()
 }
@@ -209,35 +222,27 @@ fn down_type(st: u8) -> u32
     action::RELEASE_INDICATION
 }
 
-fn down_at(l: usize, st: u8, who: [bool; 16], classtype: u32, x: u32) -> Decision
+// Link down (Rule 7.21).
+fn down_at(l: usize, k: Link, who: [bool; 16]) -> Decision
     requires { ⌜ l < 128 ⌝ }
-    ensures { λ w. ⌜ Decides w (cond (eqb st 0) (send []) (setLink l 0 (toAll who classtype x 0))) ⌝ }
+    ensures { λ w. ⌜ Decides w (linkDownOn l k who) ⌝ }
 {
-    if st == 0 {
+    if k.state == 0 {
         return work::nothing();
     }
-    work::turn_spread(l, 0, who, classtype, x)
+    work::turn_spread(l, 0, who, down_type(k.state), k.id)
 }
 
-// The link goes up (Rule 7.20), or down (Rule 7.21).
-pub fn link_turns<'a>(
-    up: bool,
-    links: usize,
-    active: &'a [u8; 256],
-    mode: &'a [u8; 16],
-    iid: &'a [u32; 128],
-    owner: &'a [u8; 128],
-    state: &'a [u8; 128],
-    l: usize,
-) -> Decision
-    requires { ⌜ Table (now iid) (now owner) links × (l < links) ⌝ }
-    ensures { λ w. ⌜ DecidesOn (SideColumns links (now (active .entry)) (now (mode .entry)) (now (iid .entry)) (now (owner .entry)) (now (state .entry))) (λ g. cond up (linkUpEffect g l) (linkDownEffect g l)) w ⌝ }
+// The link k at l goes up (Rule 7.20), or down (Rule 7.21).
+pub fn link_turns(up: bool, active: &[u8; 256], l: usize, k: Link, o: Owner) -> Decision
+    requires { ⌜ (k .owner < 16) × (l < 128) ⌝ }
+    ensures { λ w. ⌜ Decides w (cond up (linkUpOn l k (recipientsOf (now (active .entry)) k o)) (linkDownOn l k (recipientsOf (now (active .entry)) k o))) ⌝ }
 {
-    let who = recipients_at(links, active, mode, iid, owner, l);
+    let who = recipients_of(active, k, o);
     if up {
-        return up_at(l, state[l], who, iid[l]);
+        return up_at(l, k, who);
     }
-    down_at(l, state[l], who, down_type(state[l]), iid[l])
+    down_at(l, k, who)
 }
 
 // ---- a message of the link side
@@ -249,50 +254,28 @@ fn from_link(k: u32) -> bool
     (((k == 1) | (k == 8)) | (k == 9)) | ((11 <= k) & (k <= 14))
 }
 
-// The index l, if there is such a link and it can have the sequence number n; else the number of links.
-fn place_with(highspeed: &[u8; 128], links: usize, l: usize, n: u32) -> usize
-    requires { ⌜ links ≤ 128 ⌝ }
-    ensures { λ r. ⌜ r ≡ placeWith (now (highspeed .entry)) links l n ⌝ }
+// A message of the link side that is not refused with 102 (Rule 6.5); there says that there is a link with its identifier, which is k.
+pub fn passes(there: bool, k: Link, r: Reading) -> bool
+    ensures { λ t. ⌜ t ≡ passesIn there k r ⌝ }
 {
-    if l < links {
-        if can_have(highspeed[l], n) {
-            return l;
-        }
-        return links;
-    }
-    links
+    let kind = from_link(r.msgtype);
+    let fits = can_have(k, r.sequence);
+    (r.code == 0) & ((r.class == 6) & (kind & (there & fits)))
 }
 
-// The index of the link that a message of the link side names, and the number of links where the message is refused (Rule 6.5).
-pub fn place_of<'a>(
-    iid: &'a [u32; 128],
-    highspeed: &'a [u8; 128],
-    links: usize,
-    r: Reading,
-) -> usize
-    requires { ⌜ (links ≤ 128) × (ascends (now iid) links ≡ true) ⌝ }
-    ensures { λ l. ⌜ l ≡ placeOf (now (iid .entry)) (now (highspeed .entry)) links r ⌝ }
-{
-    if (r.code == 0) & ((r.class == 6) & from_link(r.msgtype)) {
-        let l = lookup::index_of(iid, links, r.id);
-        return place_with(highspeed, links, l, r.sequence);
-    }
-    links
-}
-
-// AS a is pending (Rule 5.2).
-fn is_pending<'a>(active: &'a [u8; 256], waiting: &'a [u8; 16], a: usize) -> bool
+// AS a, which is o, is pending (Rule 5.2).
+fn is_pending(active: &[u8; 256], o: Owner, a: usize) -> bool
     requires { ⌜ a < 16 ⌝ }
-    ensures { λ r. ⌜ r ≡ pendingAt (now (active .entry)) (now (waiting .entry)) a ⌝ }
+    ensures { λ r. ⌜ r ≡ pendingIn (now (active .entry)) o a ⌝ }
 {
-    if waiting[a] == 1 {
+    if o.waiting == 1 {
         return !has_some(row_of(active, a));
     }
     false
 }
 
 // A unit that comes in for AS a: d is its protocol data, r what else was read.
-fn take_in(a: usize, d: DataUnit, r: Reading) -> Decision
+fn take_in(a: usize, d: Found, r: Reading) -> Decision
     requires { ⌜ (a < 16) × (d .length ≤ 273) × (d .start ≤ 2048) × (r .correlated ≤ 1) ⌝ }
     ensures { λ w. ⌜ Decides w (takeIn a (record { tag = d .tag; length = d .length + 4; marked = r .correlated; id = r .id; correlation = r .correlation; start = d .start })) ⌝ }
 {
@@ -319,37 +302,26 @@ fn take_in(a: usize, d: DataUnit, r: Reading) -> Decision
 }
 
 // It is held behind those that AS a has, and a ninth turned away (Rule 7.24).
-fn hold_work(msg: &[u8], count: &[u8; 16], a: usize, r: Reading) -> Decision
+fn hold_work(msg: &[u8], a: usize, o: Owner, r: Reading) -> Decision
     requires { ⌜ (a < 16) × Fits (now msg) r ⌝ }
-    ensures { λ w. ⌜ DecidesOn (λ g. g .held .count ≡ now (count .entry)) (λ g. holdEffect g (now (msg .entry)) r a) w ⌝ }
+    ensures { λ w. ⌜ Decides w (holdEffect (now (msg .entry)) r a o) ⌝ }
 {
-    if count[a] < 8 {
+    if o.held < 8 {
         return take_in(a, message::data_unit(msg), r);
     }
     work::nothing()
 }
 
-// A message of the link side that is not refused (Rules 7.22, 7.24), where l is the index of its link.
-pub fn link_message<'a>(
-    msg: &[u8],
-    links: usize,
-    active: &'a [u8; 256],
-    mode: &'a [u8; 16],
-    waiting: &'a [u8; 16],
-    count: &'a [u8; 16],
-    iid: &'a [u32; 128],
-    owner: &'a [u8; 128],
-    l: usize,
-    r: Reading,
-) -> Decision
-    requires { ⌜ Table (now iid) (now owner) links × Side (now iid) links r × (l ≡ indexOf (now iid) links (r .id)) × (r .msgtype ≡ 1 → Fits (now msg) r) ⌝ }
-    ensures { λ w. ⌜ DecidesOn (SideHeld links (now (active .entry)) (now (mode .entry)) (now (waiting .entry)) (now (count .entry)) (now (iid .entry)) (now (owner .entry))) (λ g. linkMessageEffect g (now (msg .entry)) r) w ⌝ }
+// A message of the link side that is not refused (Rules 7.22, 7.24), of the link k, whose owner is o.
+pub fn link_message(msg: &[u8], active: &[u8; 256], k: Link, o: Owner, r: Reading) -> Decision
+    requires { ⌜ (k .owner < 16) × (r .class ≡ 6) × (r .msgtype < 256) × (r .msgtype ≡ 1 → Fits (now msg) r) ⌝ }
+    ensures { λ w. ⌜ Decides w (linkMessageOn (pendingIn (now (active .entry)) o (k .owner)) (now (msg .entry)) k o (recipientsOf (now (active .entry)) k o) r) ⌝ }
 {
-    let a = owner[l] as usize;
-    let held = (r.msgtype == 1) & is_pending(active, waiting, a);
+    let a = gateway::wide(k.owner);
+    let held = (r.msgtype == 1) & is_pending(active, o, a);
     if held {
-        return hold_work(msg, count, a, r);
+        return hold_work(msg, a, o, r);
     }
-    let who = recipients_at(links, active, mode, iid, owner, l);
-    work::spread(who, r.class * 256 + r.msgtype, iid[l])
+    let who = recipients_of(active, k, o);
+    work::spread(who, r.class * 256 + r.msgtype, k.id)
 }

@@ -15,26 +15,37 @@ use Rattle.parameter.specs.Value.{bytesOf, limitsOf, plainCode, bodyCode}
 use Rattle.parameter.specs.Check.{allowedCode, parCode}
 use Rattle.parameter.proofs.Slots.{near}
 use Rattle.message.specs.Verdict.{has, number, isNone, inTurn, allThere, parsCode, verdict}
-use Rattle.message.specs.Meaning.{flag, refusal, meaning, outcome, readingOf, bodyIn, tagIn, placeIn, dataOf, dataTag, dataAt}
-use Rattle.message.specs.Inner.GoodUnit.{GoodUnit}
+use Rattle.laws.specs.Below.{one}
+use Rattle.message.specs.Meaning.{unreadable, meaning, outcome, readingOf, bodyIn, foundIn, dataOf, dataTag, dataAt}
+use Rattle.message.specs.Inner.GoodUnit.{GoodUnit, tagIn}
 use Rattle.message.specs.declared.Reading.{Reading}
-use Rattle.message.specs.declared.DataAt.{DataAt}
+use Rattle.message.specs.declared.Found.{Found}
 use Rattle.message.proofs.Seen.{or-true, number-none}
-use Rattle.message.proofs.Places.{data-lies}
+use Rattle.message.proofs.Places.{data-key, data-lies}
 use Rattle.message.proofs.Accepted.{or-none, if-none, accepted}
 
 -- ---- the first parameter of a tag
 
--- its value stands behind its tag and length field
-place-behind : (t at : ℕ) (ps : List Par) → has t ps ≡ true → 4 ≤ placeIn t at ps .start
-unfolding has placeIn
-place-behind t at [] h = absurd (false≢true h)
-place-behind t at (p ∷ ps) h = let n = at + padded (4 + length (p .body)) in go (eqb (key (p .tag)) (key t)) h (placeIn t n ps) (place-behind t n ps)
+-- of protocol data: its value stands behind its tag and length field
+place-behind : (at : ℕ) (ps : List Par) → has 0x300 ps ≡ true → 4 ≤ foundIn 0x300 0x301 at ps .start
+unfolding has foundIn
+place-behind at [] h = absurd (false≢true h)
+place-behind at (p ∷ ps) h = let n = at + padded (4 + length (p .body)) in go (eqb (p .tag) 0x300 || eqb (p .tag) 0x301) (rw (data-key (p .tag)) at h) (foundIn 0x300 0x301 n ps) (place-behind n ps)
   where
-    go : (b : Bool) → (b || has t ps) ≡ true → (d : DataAt) → (has t ps ≡ true → 4 ≤ d .start)
-        → 4 ≤ cond b (record { start = at + 4; length = length (p .body) }) d .start
+    go : (b : Bool) → (b || has 0x300 ps) ≡ true → (d : Found) → (has 0x300 ps ≡ true → 4 ≤ d .start)
+        → 4 ≤ cond b (record { found = 1; tag = p .tag; start = at + 4; length = length (p .body) }) d .start
     go true e d ih = omega arith
     go false e d ih = ih e
+
+-- and its tag
+tag-found : (at : ℕ) (ps : List Par) → foundIn 0x300 0x301 at ps .tag ≡ tagIn 0x300 ps
+unfolding foundIn tagIn
+tag-found at [] = refl
+tag-found at (p ∷ ps) = let n = at + padded (4 + length (p .body)) in rw (data-key (p .tag)) (go (eqb (p .tag) 0x300 || eqb (p .tag) 0x301) (foundIn 0x300 0x301 n ps) (tag-found n ps))
+  where
+    go : (b : Bool) (d : Found) → d .tag ≡ tagIn 0x300 ps → cond b (record { found = 1; tag = p .tag; start = at + 4; length = length (p .body) }) d .tag ≡ cond b (p .tag) (tagIn 0x300 ps)
+    go true d ih = refl
+    go false d ih = ih
 
 -- a tag u that counts as t, which the row may have, and a value v of it that was checked
 pub record Passed (i t u : ℕ) (v : List ℕ) : Type 0 where
@@ -114,18 +125,18 @@ good-unit s e ec et =
     let d = data-lies s in
     let l : length (dataOf s) ≡ dataAt s .length = ap length (d .bytes) ∙ simp (length-take, length-drop) (omega arith) in
     record {
-      tagged = tagged;
+      tagged = rw (tag-found 8 ps) tagged;
       least = omega arith;
       most = omega arith;
       within = d .within;
       bytes = sym (d .bytes);
       same-length = l;
-      behind = place-behind 0x300 8 ps (k .1);
+      behind = place-behind 8 ps (k .1);
     }
 
 -- ---- the correlation id
 
-marked : (b : Bool) (n : ℕ) → (b ≡ false → n ≡ 0) → (flag b ≤ 1) × (flag b ≡ 0 → n ≡ 0)
+marked : (b : Bool) (n : ℕ) → (b ≡ false → n ≡ 0) → (one b ≤ 1) × (one b ≡ 0 → n ≡ 0)
 marked true n z = (omega arith, λ e. absurd (omega arith))
 marked false n z = (omega arith, λ e. z refl)
 
@@ -138,6 +149,6 @@ correlation-marked s = go (eqb (verdict s) 0)
     ps = walk s 8 .pars
 
     go : (b : Bool)
-        → (let r : Reading = cond b (meaning (getD s 2 0) (getD s 3 0) ps) (refusal (verdict s)) in (r .correlated ≤ 1) × (r .correlated ≡ 0 → r .correlation ≡ 0))
+        → (let r : Reading = cond b (meaning (getD s 2 0) (getD s 3 0) ps) (unreadable (verdict s)) in (r .correlated ≤ 1) × (r .correlated ≡ 0 → r .correlation ≡ 0))
     go true = marked (has 0x13 ps) (number 0x13 ps) (number-none 0x13 refl ps)
     go false = (omega arith, λ e. refl)

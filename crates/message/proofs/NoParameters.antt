@@ -21,7 +21,7 @@ use Rattle.parameter.specs.Inner.Slot.{infoOf}
 use Rattle.parameter.specs.declared.RowInfo.{RowInfo}
 use Rattle.laws.specs.Choice.{_orElse_}
 use Rattle.message.specs.Verdict.{most, has, number, allThere, exactly, sequenceCode, inTurn, parsCode, lastChecks}
-use Rattle.message.specs.Meaning.{meaning, refusal, outcome, readingOf}
+use Rattle.message.specs.Meaning.{meaning, unreadable, outcome, readingOf}
 use Rattle.message.specs.Inner.Seen.{rowCode, rowOutcome, checksOutcome, needsNone, isBare}
 use Rattle.message.specs.declared.Reading.{Reading}
 use Rattle.message.proofs.Order.{order-same}
@@ -52,13 +52,13 @@ no-walk s h = walk-step s 8 End (step-end s 8 (omega arith))
 
 -- without parameters, what is mandatory decides
 decides : (b : Bool) (c t : ℕ) (s : List ℕ) → walk s 8 .pars ≡ [] → c ≡ getD s 2 0 → t ≡ getD s 3 0
-    → outcome (cond (not b) 22 0 orElse 0) s ≡ cond b (meaning c t []) (refusal 22)
+    → outcome (cond (not b) 22 0 orElse 0) s ≡ cond b (meaning c t []) (unreadable 22)
 unfolding outcome
 decides true c t s e ec et = rw (e, ec, et)
 decides false c t s e ec et = refl
 
 bare-same : (s : List ℕ) (info : RowInfo) → length s ≡ 8 → rowOf s < 17 → info ≡ infoOf (rowOf s)
-    → cond (eqb (info .musts) 0) (meaning (getD s 2 0) (getD s 3 0) []) (refusal 22) ≡ outcome (lastChecks s) s
+    → cond (eqb (info .musts) 0) (meaning (getD s 2 0) (getD s 3 0) []) (unreadable 22) ≡ outcome (lastChecks s) s
 unfolding lastChecks parsCode inTurn
 bare-same s info h hi ei =
     let w = no-walk s h in
@@ -110,7 +110,7 @@ needs-free c t h = go (eqb c 3) (eqb c 4) (leb 1 t) (leb t 6) (leb t 4) refl ref
 
 -- the checks 1 to 5 find nothing
 passed : (len v n i : ℕ) (listed : Bool) (x : Reading) → len ≡ 8 → v ≡ 1 → n ≡ 8 → listed ≡ true → i < 17
-    → cond (ltb len 8) (refusal 7) (cond (ltb most len) (refusal 7) (cond (eqb v 1) (cond (eqb (rowCode listed i n len) 0) x (refusal (rowCode listed i n len))) (refusal 1))) ≡ x
+    → cond (ltb len 8) (unreadable 7) (cond (ltb most len) (unreadable 7) (cond (eqb v 1) (cond (eqb (rowCode listed i n len) 0) x (unreadable (rowCode listed i n len))) (unreadable 1))) ≡ x
 unfolding rowCode
 passed len v n i listed x a b c d e = rw (a, b, c, d, ne-eqb i 17 (λ q. omega (arith, e, q)))
 
@@ -138,7 +138,7 @@ bare-read s h =
     let f = needs-free c t (and-right (v && n) (needsNone c t) x) in
     let g = and-right listed (row && none) f in
     let i = ltb-true (rowIn table c t) 17 (and-left row none g) in
-    ap (λ (b : Bool). cond b (meaning c t []) (refusal 22)) (sym (and-right row none g))
+    ap (λ (b : Bool). cond b (meaning c t []) (unreadable 22)) (sym (and-right row none g))
     ∙ bare-same s (infoOf (rowIn table c t)) e i refl
     ∙ sym (passed (length s) (getD s 0 0) (be 4 s 4) (rowIn table c t) listed (outcome (lastChecks s) s) e (eqb-true (getD s 0 0) 1 (and-left v n vn)) (eqb-true (be 4 s 4) 8 (and-right v n vn)) (and-left listed (row && none) f) i)
     ∙ order-same s

@@ -12,12 +12,12 @@ use Rattle.wire.specs.Number.{be}
 use Rattle.parameter.specs.Table.{table, hasClass, rowIn}
 use Rattle.laws.specs.Choice.{_orElse_, _if_}
 use Rattle.message.specs.Verdict.{most, check2, check3, check4, check5, lastChecks, verdict}
-use Rattle.message.specs.Meaning.{refusal, outcome, readingOf}
+use Rattle.message.specs.Meaning.{unreadable, outcome, readingOf}
 use Rattle.message.specs.Inner.Seen.{rowCode, rowOutcome, kindOutcome, checksOutcome}
 use Rattle.message.specs.declared.Reading.{Reading}
 
 -- a check that applies decides; else the rest does
-first-applies : (n : ℕ) (b : Bool) (m : ℕ) (s : List ℕ) → outcome (((suc n) if b) orElse m) s ≡ cond b (refusal (suc n)) (outcome m s)
+first-applies : (n : ℕ) (b : Bool) (m : ℕ) (s : List ℕ) → outcome (((suc n) if b) orElse m) s ≡ cond b (unreadable (suc n)) (outcome m s)
 unfolding outcome
 first-applies n true m s = rw (ne-eqb (suc n) 0 (λ e. omega arith))
 first-applies n false m s = refl
@@ -33,8 +33,8 @@ turned false x y = refl
 
 -- one number for three checks, or one after the other
 in-turn : (listed none same whole : Bool) (s : List ℕ)
-    → (let n = cond (not listed) 3 (cond none 4 (cond same (cond whole 0 7) 7)) in cond (eqb n 0) (outcome (lastChecks s) s) (refusal n))
-    ≡ cond (not listed) (refusal 3) (cond none (refusal 4) (cond same (cond whole (outcome (lastChecks s) s) (refusal 7)) (refusal 7)))
+    → (let n = cond (not listed) 3 (cond none 4 (cond same (cond whole 0 7) 7)) in cond (eqb n 0) (outcome (lastChecks s) s) (unreadable n))
+    ≡ cond (not listed) (unreadable 3) (cond none (unreadable 4) (cond same (cond whole (outcome (lastChecks s) s) (unreadable 7)) (unreadable 7)))
 in-turn false none same whole s = refl
 in-turn true true same whole s = refl
 in-turn true false false whole s = refl
@@ -45,11 +45,11 @@ order-row : (s : List ℕ) → outcome (check3 (getD s 2 0) orElse (check4 (rowI
 unfolding rowOutcome rowCode table
 order-row s =
     first-applies 2 (not (hasClass table (getD s 2 0))) _ s
-    ∙ ap (cond (not (hasClass table (getD s 2 0))) (refusal 3)) (first-applies 3 (eqb (rowIn table (getD s 2 0) (getD s 3 0)) 17) _ s
-    ∙ ap (cond (eqb (rowIn table (getD s 2 0) (getD s 3 0)) 17) (refusal 4)) (first-applies 6 (not (eqb (be 4 s 4) (length s)) || not (eqb (length s % 4) 0)) (lastChecks s) s
-    ∙ either (not (eqb (be 4 s 4) (length s))) (not (eqb (length s % 4) 0)) (refusal 7) (outcome (lastChecks s) s)
-    ∙ turned (eqb (be 4 s 4) (length s)) (refusal 7) _
-    ∙ ap (λ (x : Reading). cond (eqb (be 4 s 4) (length s)) x (refusal 7)) (turned (eqb (length s % 4) 0) (refusal 7) (outcome (lastChecks s) s))))
+    ∙ ap (cond (not (hasClass table (getD s 2 0))) (unreadable 3)) (first-applies 3 (eqb (rowIn table (getD s 2 0) (getD s 3 0)) 17) _ s
+    ∙ ap (cond (eqb (rowIn table (getD s 2 0) (getD s 3 0)) 17) (unreadable 4)) (first-applies 6 (not (eqb (be 4 s 4) (length s)) || not (eqb (length s % 4) 0)) (lastChecks s) s
+    ∙ either (not (eqb (be 4 s 4) (length s))) (not (eqb (length s % 4) 0)) (unreadable 7) (outcome (lastChecks s) s)
+    ∙ turned (eqb (be 4 s 4) (length s)) (unreadable 7) _
+    ∙ ap (λ (x : Reading). cond (eqb (be 4 s 4) (length s)) x (unreadable 7)) (turned (eqb (length s % 4) 0) (unreadable 7) (outcome (lastChecks s) s))))
     ∙ sym (in-turn (hasClass table (getD s 2 0)) (eqb (rowIn table (getD s 2 0) (getD s 3 0)) 17) (eqb (be 4 s 4) (length s)) (eqb (length s % 4) 0) s)
 
 pub order-same : (s : List ℕ) → checksOutcome s ≡ readingOf s
@@ -57,10 +57,10 @@ unfolding checksOutcome readingOf verdict
 order-same s =
     sym
     (first-applies 6 (ltb (length s) 8 || ltb most (length s)) _ s
-    ∙ either (ltb (length s) 8) (ltb most (length s)) (refusal 7) _
-    ∙ ap (λ (x : Reading). cond (ltb (length s) 8) (refusal 7) (cond (ltb most (length s)) (refusal 7) x)) (first-applies 0 (not (eqb (getD s 0 0) 1)) _ s
-    ∙ turned (eqb (getD s 0 0) 1) (refusal 1) _
-    ∙ ap (λ (x : Reading). cond (eqb (getD s 0 0) 1) x (refusal 1)) (order-row s)))
+    ∙ either (ltb (length s) 8) (ltb most (length s)) (unreadable 7) _
+    ∙ ap (λ (x : Reading). cond (ltb (length s) 8) (unreadable 7) (cond (ltb most (length s)) (unreadable 7) x)) (first-applies 0 (not (eqb (getD s 0 0) 1)) _ s
+    ∙ turned (eqb (getD s 0 0) 1) (unreadable 1) _
+    ∙ ap (λ (x : Reading). cond (eqb (getD s 0 0) 1) x (unreadable 1)) (order-row s)))
 
 -- where the checks 3 to 5 find nothing, there is a row
 pub row-known : (listed : Bool) (i n len : ℕ) → i ≤ 17 → rowCode listed i n len ≡ 0 → i < 17

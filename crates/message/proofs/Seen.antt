@@ -20,7 +20,8 @@ use Rattle.parameter.proofs.Slots.{same-slot, tag-one, usage-slot, all-near, ne
 use Rattle.laws.specs.Choice.{_orElse_}
 use Rattle.parameter.proofs.Info.{musts-row, use-bits}
 use Rattle.message.specs.Verdict.{has, number, head, allThere, exactly, sequenceCode, check8}
-use Rattle.message.specs.Meaning.{flag, meaning, refusal}
+use Rattle.laws.specs.Below.{one}
+use Rattle.message.specs.Meaning.{meaning, unreadable}
 use Rattle.message.specs.Inner.Seen.{there, word, Seen, sequenceAt, endAt, meaningAt}
 use Rattle.message.specs.declared.Reading.{Reading}
 

@@ -13,7 +13,9 @@ use Rattle.parameter.specs.Table.{Usage, forbidden, optional, mandatory, repeat
 use Rattle.parameter.specs.Value.{limitsOf, wordCode, plainCode, bodyCode}
 use Rattle.parameter.proofs.Slots.{near}
 use Rattle.message.specs.Verdict.{has, head, number, isRetrievalRequest, isRetrievalConfirm, inTurn, parsCode, verdict}
-use Rattle.message.specs.Meaning.{flag, refusal, meaning, outcome, readingOf, bodyIn, tagIn, SequenceNumber, SequenceNumbers}
+use Rattle.laws.specs.Below.{one}
+use Rattle.message.specs.Meaning.{unreadable, meaning, outcome, readingOf, bodyIn, SequenceNumber, SequenceNumbers}
+use Rattle.message.specs.Inner.GoodUnit.{tagIn}
 use Rattle.message.specs.declared.Reading.{Reading}
 use Rattle.message.proofs.Seen.{number-none}
 use Rattle.message.proofs.GoodUnit.{Passed, first-passed}
@@ -94,11 +96,11 @@ within w v e = go (ltb (length v) 4) (ltb 4 (length v)) (ltb (be 4 v 0) 0) (ltb 
 
 -- ---- of a message
 
-flag-one : (b : Bool) → flag b ≡ 1 → b ≡ true
+flag-one : (b : Bool) → one b ≡ 1 → b ≡ true
 flag-one true e = refl
 flag-one false e = let k : ⊥ = omega (arith, e) in absurd k
 
-flag-none : (b : Bool) → flag b ≡ 0 → b ≡ false
+flag-none : (b : Bool) → one b ≡ 0 → b ≡ false
 flag-none true e = let k : ⊥ = omega (arith, e) in absurd k
 flag-none false e = refl
 
@@ -122,7 +124,7 @@ module _ (c t : ℕ) (ps : List Par) (ok : inTurn (rowIn table c t) [] ps ≡ 0)
   small true h = rw (number-body 0x307 ps) (within (usage (rowIn table c t) 0x307) (bodyIn 0x307 ps) (first h .no-fault))
   small false h = rw (number-none 0x307 refl ps h) (omega arith)
 
-refused : (n : ℕ) → SequenceNumber (refusal n)
+refused : (n : ℕ) → SequenceNumber (unreadable n)
 unfolding limitsOf
 refused n = record { only = λ f. let k : ⊥ = omega (arith, f) in absurd k; most = omega arith; none = λ f. refl }
 

@@ -22,7 +22,7 @@ use Rattle.parameter.specs.Check.{parCode}
 use Rattle.laws.specs.Choice.{_orElse_}
 use Rattle.laws.specs.Inner.Choice.{or-not}
 use Rattle.message.specs.Verdict.{has, head, isNone, inTurn, parsCode, lastChecks, check8}
-use Rattle.message.specs.Meaning.{meaning, refusal, outcome}
+use Rattle.message.specs.Meaning.{meaning, unreadable, outcome}
 use Rattle.message.specs.Inner.Seen.{there, Seen, endAt, meaningAt, outcomeAt}
 use Rattle.message.proofs.Seen.{check-slot, packed-uses, seen-none, seen-more, end-same, meaning-same}
 
@@ -106,7 +106,7 @@ module _ {i : ℕ} {all : List Par} {met : List Bool} {words : List ℕ} {first 
     pub turn-means : (c t : ℕ) → meaningAt c t met words ≡ meaning c t all
     turn-means c t = meaning-same (h .seen) c t ∙ ap (meaning c t) all-passed
 
-refuses : (n : ℕ) (s : List ℕ) → (n ≡ 0 → ⊥) → outcome n s ≡ refusal n
+refuses : (n : ℕ) (s : List ℕ) → (n ≡ 0 → ⊥) → outcome n s ≡ unreadable n
 unfolding outcome
 refuses n s ne = rw (ne-eqb n 0 ne)
 
@@ -134,7 +134,7 @@ module _ {s : List ℕ} {met : List Bool} {words : List ℕ} {first : Bool} {at 
     next-code : walk s n .code ≡ walk s 8 .code
     next-code = sym (ap (λ (x : Walk). x .code) (walk-step s at (Param t l n) w)) ∙ h .same-code
 
-    pub refused : (r ≡ 0 → ⊥) → refusal (walk s n .code orElse r) ≡ outcome (lastChecks s) s
+    pub refused : (r ≡ 0 → ⊥) → unreadable (walk s n .code orElse r) ≡ outcome (lastChecks s) s
     unfolding lastChecks parsCode
     refused ne =
         let d = turn-refused (h .here) hi ei t k r v (walk s n .pars) (pars-next s at t l n w) ek hk er ne (check8 (rowOf s) (getD s 2 0) (getD s 3 0) (walk s 8 .pars)) in

@@ -6,20 +6,18 @@ use mathlib.Core.Bool.{Bool, true, false, cond, _||_}
 use mathlib.Core.List.{List, [], _∷_}
 use lib.ListN.{length, getD, take, drop}
 use lib.Dec.{eqb}
+use Rattle.laws.specs.Below.{one}
 use Rattle.wire.specs.Walk.{Par, padded, walk}
 use Rattle.parameter.specs.Table.{key}
 use Rattle.parameter.specs.Value.{limitsOf}
 use Rattle.message.specs.Verdict.{has, number, isRetrievalRequest, isRetrievalConfirm, verdict}
 use Rattle.message.specs.declared.Reading.{Reading}
 use Rattle.message.specs.declared.DataAt.{DataAt}
-
--- a flag as a number
-abbrev pub flag : Bool → ℕ
-flag b = cond b 1 0
+use Rattle.message.specs.declared.Found.{Found}
 
 -- a refused message: its number alone
-abbrev pub refusal : ℕ → Reading
-refusal n =
+abbrev pub unreadable : ℕ → Reading
+unreadable n =
     record {
       code = n;
       class = 0;
@@ -44,22 +42,22 @@ meaning c t ps =
       code = 0;
       class = c;
       msgtype = t;
-      ids = flag (has 0x1 ps || has 0x8 ps);
+      ids = one (has 0x1 ps || has 0x8 ps);
       id = number 0x1 ps;
       mode = number 0xb ps;
-      identified = flag (has 0x11 ps);
+      identified = one (has 0x11 ps);
       aspid = number 0x11 ps;
-      correlated = flag (has 0x13 ps);
+      correlated = one (has 0x13 ps);
       correlation = number 0x13 ps;
       state = number 0x302 ps;
       retrieval = number 0x306 ps;
-      sequenced = flag (has 0x307 ps);
+      sequenced = one (has 0x307 ps);
       sequence = number 0x307 ps;
     }
 
 -- what a verdict hands back of a message
 unfoldable pub outcome : ℕ → List ℕ → Reading
-outcome n s = cond (eqb n 0) (meaning (getD s 2 0) (getD s 3 0) (walk s 8 .pars)) (refusal n)
+outcome n s = cond (eqb n 0) (meaning (getD s 2 0) (getD s 3 0) (walk s 8 .pars)) (unreadable n)
 
 -- what reading a message gives
 unfoldable pub readingOf : List ℕ → Reading
@@ -79,26 +77,26 @@ unfoldable pub bodyIn : ℕ → List Par → List ℕ
 bodyIn t [] = []
 bodyIn t (p ∷ ps) = cond (eqb (key (p .tag)) (key t)) (p .body) (bodyIn t ps)
 
--- its tag: two tags may share a slot; 0 where there is none
-unfoldable pub tagIn : ℕ → List Par → ℕ
-tagIn t [] = 0
-tagIn t (p ∷ ps) = cond (eqb (key (p .tag)) (key t)) (p .tag) (tagIn t ps)
+-- the first parameter that has one of two tags, if the first of all stands at a position: that there is one, its tag,
+-- and where its value lies
+unfoldable pub foundIn : ℕ → ℕ → ℕ → List Par → Found
+foundIn t u at [] = record { found = 0; tag = 0; start = 0; length = 0 }
+foundIn t u at (p ∷ ps) =
+    cond (eqb (p .tag) t || eqb (p .tag) u) (record { found = 1; tag = p .tag; start = at + 4; length = length (p .body) })
+    (foundIn t u (at + padded (4 + length (p .body))) ps)
 
--- where that value lies, if the first of the parameters stands at a position
-unfoldable pub placeIn : ℕ → ℕ → List Par → DataAt
-placeIn t at [] = record { start = 0; length = 0 }
-placeIn t at (p ∷ ps) =
-    cond (eqb (key (p .tag)) (key t)) (record { start = at + 4; length = length (p .body) }) (placeIn t (at + padded (4 + length (p .body))) ps)
+abbrev pub placeOf : Found → DataAt
+placeOf f = record { start = f .start; length = f .length }
 
 -- the protocol data (Rule 1.7): its bytes, its tag, 0x300 or 0x301, and where the bytes lie in the message
 unfoldable pub dataOf : List ℕ → List ℕ
 dataOf s = bodyIn 0x300 (walk s 8 .pars)
 
 unfoldable pub dataTag : List ℕ → ℕ
-dataTag s = tagIn 0x300 (walk s 8 .pars)
+dataTag s = foundIn 0x300 0x301 8 (walk s 8 .pars) .tag
 
 unfoldable pub dataAt : List ℕ → DataAt
-dataAt s = placeIn 0x300 8 (walk s 8 .pars)
+dataAt s = placeOf (foundIn 0x300 0x301 8 (walk s 8 .pars))
 
 -- bytes are those that lie in a message at a place
 pub record LiesAt (s : List ℕ) (d : DataAt) (v : List ℕ) : Type 0 where

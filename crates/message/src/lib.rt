@@ -21,8 +21,9 @@ ghost use Rattle.wire.specs.Walk.{walk};
 ghost use Rattle.parameter.specs.Table.{table, rowIn};
 ghost use Rattle.parameter.specs.Inner.Slot.{slot, infoOf};
 ghost use Rattle.message.specs.Verdict.{exactly, head, lastChecks};
-ghost use Rattle.message.specs.Meaning.{flag, refusal, meaning, outcome, readingOf, dataTag, dataAt, dataOf};
-ghost use Rattle.message.specs.Inner.Seen.{sequenceAt, endAt, meaningAt, outcomeAt, unitAt, rowCode, rowOutcome, kindOutcome, checksOutcome, needsNone, isBare};
+ghost use Rattle.laws.specs.Below.{one};
+ghost use Rattle.message.specs.Meaning.{unreadable, meaning, outcome, readingOf, foundIn, dataTag, dataAt, dataOf};
+ghost use Rattle.message.specs.Inner.Seen.{sequenceAt, endAt, meaningAt, outcomeAt, rowCode, rowOutcome, kindOutcome, checksOutcome, needsNone, isBare};
 
 // The slots of the tags that are asked for.
 const ID: usize = 1;
@@ -34,8 +35,6 @@ const MODE: usize = 11;
 const ASP_ID: usize = 17;
 
 const CORRELATION: usize = 19;
-
-const DATA: usize = 20;
 
 const STATE: usize = 22;
 
@@ -87,14 +86,14 @@ pub struct Reading {
 }
 
 fn unit(b: bool) -> u32
-    ensures { λ r. ⌜ r ≡ flag b ⌝ }
+    ensures { λ r. ⌜ r ≡ one b ⌝ }
 {
     if b { 1 } else { 0 }
 }
 
 // A refused message: its number alone.
 fn refused(code: u32) -> Reading
-    ensures { λ r. ⌜ r ≡ refusal code ⌝ }
+    ensures { λ r. ⌜ r ≡ unreadable code ⌝ }
 {
     Reading {
         code,
@@ -251,7 +250,7 @@ pub fn kept(again: bool, old: u32, v: &[u8]) -> u32
 
 // A parameter was refused: a fault in the rest of the walk comes before it.
 fn refused_at(s: &[u8], next: usize, code: u32) -> Reading
-    ensures { λ r. ⌜ r ≡ refusal (walk (now (s .entry)) next .code orElse code) ⌝ }
+    ensures { λ r. ⌜ r ≡ unreadable (walk (now (s .entry)) next .code orElse code) ⌝ }
 {
     refused(first_of(wire::walk_code(s, next), code))
 }
@@ -388,32 +387,34 @@ pub struct DataAt {
     pub length: usize,
 }
 
-// The protocol data of a message with its tag; all 0 where there is none.
-pub struct DataUnit {
-    // 0x300 or 0x301
+// A parameter of a message: whether there is one, its tag, and where its value lies; all 0 where there is none.
+pub struct Found {
+    pub found: u32,
     pub tag: u16,
     pub start: usize,
     pub length: usize,
 }
 
-// The tag of the first parameter of a slot, and where its value lies, from a position on.
-fn find(s: &[u8], from: usize, k: usize) -> DataUnit
-    ensures { λ r. ⌜ r ≡ unitAt k from (walk (now (s .entry)) from .pars) ⌝ }
+// The first parameter that has one of two tags, from a position on.
+pub fn find(s: &[u8], from: usize, t: u16, u: u16) -> Found
+    ensures { λ r. ⌜ r ≡ foundIn t u from (walk (now (s .entry)) from .pars) ⌝ }
 {
     let mut at = from;
     loop {
         let w = wire::reading_at(s, at);
         let Step::Param { tag, len, next } = w else {
-            return DataUnit {
+            return Found {
+                found: 0,
                 tag: 0,
                 start: 0,
                 length: 0,
             };
         };
-        if parameter::slot_of(tag) == k {
+        if (tag == t) | (tag == u) {
             let start = at + 4;
             let stop = at + len as usize;
-            return DataUnit {
+            return Found {
+                found: 1,
                 tag,
                 start,
                 length: stop - start,
@@ -424,10 +425,10 @@ fn find(s: &[u8], from: usize, k: usize) -> DataUnit
 }
 
 // The protocol data of a message, the SS7 signalling unit: the value of the first 0x300 or 0x301 (Rule 1.7), and which of the two it is.
-pub fn data_unit(s: &[u8]) -> DataUnit
+pub fn data_unit(s: &[u8]) -> Found
     ensures { λ r. ⌜ (r .tag ≡ dataTag (now (s .entry))) × (r .start ≡ dataAt (now (s .entry)) .start) × (r .length ≡ dataAt (now (s .entry)) .length) ⌝ }
 {
-    find(s, HEADER, DATA)
+    find(s, HEADER, 0x300, 0x301)
 }
 
 // Where the protocol data of a message lies.

@@ -1,18 +1,22 @@
 // The identifiers that the value of a parameter names (Rule 2.11): the first that is refused, and the ASes that own the known ones.
+use index::Found;
 use ranges::Named;
+use ranges::Refused;
 ghost use mathlib.Core.Path.{_≡_};
-ghost use mathlib.Core.Bool.{true, false, _||_};
+ghost use mathlib.Core.Bool.{true, false, cond, _||_};
 ghost use Prim.Native.Nat.{_<_, _≤_};
 ghost use Rattle.laws.specs.Columns.{flagAt, tabulate};
 ghost use Rattle.gateway.specs.Sound.{ascends};
 ghost use Rattle.lookup.specs.Inner.Links.{rank};
 ghost use Rattle.sets.specs.Inner.Bits.{flagsOf};
-ghost use Rattle.ranges.specs.Named.{isOwnedBy, startAt, stopAt, entries, refusedIn, someOf};
+ghost use Rattle.ranges.specs.Named.{isOwnedBy, startAt, stopAt, entries, firstIn, refusedIn, someIn, someOf};
 ghost use Rattle.ranges.specs.Inner.Laws.{Table};
 ghost use Rattle.ranges.specs.Inner.Refused.{refusedBy};
 ghost use Rattle.ranges.specs.Inner.Owners.{Looked};
 ghost use Rattle.ranges.specs.Inner.Names.{earlier, Plain, Names};
+ghost use Rattle.index.specs.Inner.Spots.{Finds};
 ghost use Rattle.naming.specs.Inner.Run.{GoodAt, GoesOn};
+ghost use Rattle.naming.specs.Inner.Found.{unlessGood};
 
 // ---- identifiers
 
@@ -93,8 +97,73 @@ fn in_order<'a>(
     }
 }
 
-// The identifiers of the value of a 0x1, beside what was named before.
-pub fn of_ids<'a>(
+// From so many bytes on a table of the links is worth its time.
+pub const MANY: usize = 256;
+
+fn id_of(found: bool, id: u32, x: u32) -> u32
+    ensures { λ r. ⌜ r ≡ cond found id x ⌝ }
+{
+    if found { id } else { x }
+}
+
+// The first that is refused, with x unless that is good. No branch goes by it.
+fn first_unless(good: bool, old: Refused, x: u32) -> Refused
+    ensures { λ r. ⌜ r ≡ unlessGood good old x ⌝ }
+{
+    Refused {
+        found: old.found | !good,
+        id: id_of(old.found, old.id, id_of(good, 0, x)),
+    }
+}
+
+// What was named before, with x, of which a table says where it stands. (A place that is not that of x may have any owner: so what is left over by 16.)
+fn with_found<'a>(
+    old: Named,
+    iid: &'a [u32; 128],
+    owner: &'a [u8; 128],
+    links: usize,
+    mine: u32,
+    f: Found,
+    x: u32,
+) -> Named
+    requires { ⌜ Table (now iid) (now owner) links × Finds (now iid) links x f × Plain (old .refused) ⌝ }
+    ensures { λ r. ⌜ Names r (earlier (old .refused) (firstIn (refusedBy (now (iid .entry)) (now (owner .entry)) links (flagsOf mine)) x x)) (tabulate 16 (λ a. flagAt (flagsOf (old .set)) a || someIn (isOwnedBy (now (iid .entry)) (now (owner .entry)) links a) x x)) ⌝ }
+{
+    let first = old.refused;
+    let set = old.set;
+    let known = f.known;
+    let l = f.at;
+    let a = gateway::wide(owner[l]) % 16;
+    let good = known & sets::has(mine, a);
+    ranges::answer(first_unless(good, first, x), sets::with_if(set, a, known))
+}
+
+// The same of many, in no order as a rule.
+fn of_many<'a>(
+    old: Named,
+    value: &[u8],
+    iid: &'a [u32; 128],
+    owner: &'a [u8; 128],
+    links: usize,
+    mine: u32,
+) -> Named
+    requires { ⌜ Table (now iid) (now owner) links × Plain (old .refused) ⌝ }
+    ensures { λ r. ⌜ Names r (earlier (old .refused) (refusedIn (refusedBy (now (iid .entry)) (now (owner .entry)) links (flagsOf mine)) false (now (value .entry)))) (tabulate 16 (λ a. flagAt (flagsOf (old .set)) a || someOf (isOwnedBy (now (iid .entry)) (now (owner .entry)) links a) false (now (value .entry)))) ⌝ }
+{
+    let n = value.len() / 4;
+    let table = index::table_of(iid, links);
+    let mut r = old;
+    for i in 0..n {
+        let x = wire::get32(value, 4 * i);
+        let f = index::find(&table, iid, links, x);
+        let next = with_found(r, iid, owner, links, mine, f, x);
+        r = next;
+    }
+    r
+}
+
+// The identifiers of the value of a 0x1, beside what was named before: few, which often come in order.
+fn of_few<'a>(
     old: Named,
     value: &[u8],
     iid: &'a [u32; 128],
@@ -124,6 +193,24 @@ pub fn of_ids<'a>(
         i = t.i;
     }
     r
+}
+
+// The same of any number.
+pub fn of_ids<'a>(
+    old: Named,
+    value: &[u8],
+    iid: &'a [u32; 128],
+    owner: &'a [u8; 128],
+    links: usize,
+    mine: u32,
+) -> Named
+    requires { ⌜ Table (now iid) (now owner) links × Plain (old .refused) ⌝ }
+    ensures { λ r. ⌜ Names r (earlier (old .refused) (refusedIn (refusedBy (now (iid .entry)) (now (owner .entry)) links (flagsOf mine)) false (now (value .entry)))) (tabulate 16 (λ a. flagAt (flagsOf (old .set)) a || someOf (isOwnedBy (now (iid .entry)) (now (owner .entry)) links a) false (now (value .entry)))) ⌝ }
+{
+    if MANY <= value.len() {
+        return of_many(old, value, iid, owner, links, mine);
+    }
+    of_few(old, value, iid, owner, links, mine)
 }
 
 // ---- ranges

@@ -1,3 +1,4 @@
 pub mod Message
 pub mod Send
+pub mod Handle
 pub mod Inner

@@ -16,7 +16,7 @@ ghost use mathlib.Core.Bool.{cond};
 ghost use mathlib.Core.List.{[], _++_};
 ghost use Prim.Native.Nat.{_+_, _≤_};
 ghost use lib.ListN.{length};
-ghost use Rattle.laws.specs.Below.{when, countBelow};
+ghost use Rattle.laws.specs.Below.{when, countBelow, one};
 ghost use Rattle.wire.specs.Walk.{walk};
 ghost use Rattle.put.specs.Bytes.{overlay, bytes32, par, parsBytes};
 ghost use Rattle.encode.specs.Encode.{sizeOf, encode};
@@ -28,6 +28,15 @@ ghost use Rattle.outgoing.specs.Inner.Form.{owns, idsIn, heldPars, saidP
 #[repr(C)]
 pub struct Batch {
     pub code: u32,
+    pub count: usize,
+    pub length: usize,
+}
+
+// What the call did that runs an event and writes the messages of all its actions: 0, how many actions
+// there are, and the bytes of their messages; or the number of the refusal and zeros.
+#[repr(C)]
+pub struct Handled {
+    pub refusal: u32,
     pub count: usize,
     pub length: usize,
 }
@@ -201,8 +210,26 @@ pub fn form_of(passed: bool, o: Action, u: Unit) -> Form
 
 // ---- its length
 
-// How many of the first links AS a owns.
-fn count_owned(owner: &[u8; 128], links: usize, a: usize) -> usize
+fn one_if(t: bool) -> u8
+    ensures { λ r. ⌜ (r ≡ one t) × (r ≤ 1) ⌝ }
+{
+    if t { 1 } else { 0 }
+}
+
+// How many of the first links AS a owns: a number of one byte is compared with 16 owners at once.
+fn count_byte(owner: &[u8; 128], links: usize, a: u8) -> usize
+    requires { ⌜ links ≤ 128 ⌝ }
+    ensures { λ r. ⌜ (r ≡ countBelow (owns (now (owner .entry)) a) links) × (r ≤ 128) ⌝ }
+{
+    let mut n: u8 = 0;
+    for l in 0..links {
+        n = n + one_if(owner[l] == a);
+    }
+    gateway::wide(n)
+}
+
+// The same of any number.
+fn count_wide(owner: &[u8; 128], links: usize, a: usize) -> usize
     requires { ⌜ links ≤ 128 ⌝ }
     ensures { λ r. ⌜ (r ≡ countBelow (owns (now (owner .entry)) a) links) × (r ≤ 128) ⌝ }
 {
@@ -211,6 +238,16 @@ fn count_owned(owner: &[u8; 128], links: usize, a: usize) -> usize
         n = n + gateway::unit(gateway::wide(owner[l]) == a);
     }
     n
+}
+
+fn count_owned(owner: &[u8; 128], links: usize, a: usize) -> usize
+    requires { ⌜ links ≤ 128 ⌝ }
+    ensures { λ r. ⌜ (r ≡ countBelow (owns (now (owner .entry)) a) links) × (r ≤ 128) ⌝ }
+{
+    if a < 256 {
+        return count_byte(owner, links, a as u8);
+    }
+    count_wide(owner, links, a)
 }
 
 // The bytes of the parameter that lists them.

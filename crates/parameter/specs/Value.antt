@@ -34,7 +34,7 @@ limitsOf t =
     (cond (eqb t 0x306) (numberOf 1 2)
     (cond (eqb t 0x307) (numberOf 0 4095)
     (cond (eqb t 0x308) (numberOf 0 1)
-    (numberOf 0 0xffff_ffff)))))))))))))
+    (bytesOf 8 8)))))))))))))
 
 -- a wrong value: of a traffic mode 5 (Rule 2.7)
 abbrev pub valueCode : ℕ → ℕ

@@ -192,7 +192,7 @@ fn limits_of(t: u16) -> Limits
         0x306 => number_of(1, 2),
         0x307 => number_of(0, 4095),
         0x308 => number_of(0, 1),
-        _ => number_of(0, 0xffff_ffff),
+        _ => bytes_of(8, 8),
     }
 }
 

@@ -1,14 +1,14 @@
 -- What a host asks beside the events: a parameter of a message, the state of an AS, the place of a link, and which recovery times to start and to stop.
 -- Assumes nothing.
-use mathlib.Core.Path.{_≡_}
-use Prim.Native.Nat.{ℕ, _+_}
+use Prim.Native.Nat.{ℕ}
 use mathlib.Core.Bool.{Bool, cond, not, _&&_}
-use mathlib.Core.List.{List, [], _∷_}
-use lib.ListN.{length}
-use lib.Dec.{ltb, eqb}
+use mathlib.Core.List.{List}
+use lib.Dec.{ltb}
 use Rattle.laws.specs.Below.{one}
 use Rattle.laws.specs.Columns.{isSet, tabulate}
-use Rattle.wire.specs.Walk.{Par, padded, walk}
+use Rattle.wire.specs.Walk.{walk}
+use Rattle.message.specs.Meaning.{foundIn}
+use Rattle.message.specs.declared.Found.{Found}
 use Rattle.gateway.specs.Sound.{isSound}
 use Rattle.gateway.specs.declared.Gateway.{Gateway}
 use Rattle.server.specs.Record.{stateIn, recordOf}
@@ -17,34 +17,31 @@ use Rattle.query.specs.declared.ParamAt.{ParamAt}
 use Rattle.query.specs.declared.Answer.{Answer}
 use Rattle.query.specs.declared.Waits.{Waits}
 
--- the first of the parameters that has the tag, if the first of all stands at a position: that there is one, and where its value lies (Rule 1.8)
-unfoldable pub paramIn : ℕ → ℕ → List Par → ParamAt
-paramIn t at [] = record { found = 0; start = 0; length = 0 }
-paramIn t at (p ∷ ps) =
-    cond (eqb (p .tag) t) (record { found = 1; start = at + 4; length = length (p .body) }) (paramIn t (at + padded (4 + length (p .body))) ps)
-
+-- the first parameter that has the tag: that there is one, and where its value lies (Rule 1.8)
 unfoldable pub paramAt : ℕ → List ℕ → ParamAt
-paramAt t s = paramIn t 8 (walk s 8 .pars)
+paramAt t s =
+    let p : Found = foundIn t t 8 (walk s 8 .pars) in
+    record { found = p .found; start = p .start; length = p .length }
 
 -- an answer, and a refused question
-abbrev pub answer : ℕ → Answer
-answer n = record { code = 0; value = n }
+abbrev pub answered : ℕ → Answer
+answered n = record { code = 0; value = n }
 
-abbrev pub refused : ℕ → Answer
-refused n = record { code = n; value = 0 }
+abbrev pub unanswered : ℕ → Answer
+unanswered n = record { code = n; value = 0 }
 
 -- the state of AS a (Rule 5.17)
 unfoldable pub asStateAt : Gateway → ℕ → Answer
-asStateAt g a = cond (not (isSound g)) (refused 105) (cond (ltb a (g .ases)) (answer (stateIn (recordOf g a))) (refused 102))
+asStateAt g a = cond (not (isSound g)) (unanswered 105) (cond (ltb a (g .ases)) (answered (stateIn (recordOf g a))) (unanswered 102))
 
 -- the place of the link with an identifier (Rule 5.18)
 unfoldable pub linkPlace : Gateway → ℕ → Answer
-linkPlace g x = cond (not (isSound g)) (refused 105) (cond (isKnown g x) (answer (linkOf g x)) (refused 102))
+linkPlace g x = cond (not (isSound g)) (unanswered 105) (cond (isKnown g x) (answered (linkOf g x)) (unanswered 102))
 
 -- the ASes that wait in the one column of flags and not in the other
 unfoldable pub newIn : List ℕ → List ℕ → List ℕ
 newIn x y = tabulate 16 (λ a. one (isSet x a && not (isSet y a)))
 
--- the ASes that wait after and not before, and those that waited before and no longer do (Rule 5.19)
-unfoldable pub waits : Gateway → Gateway → Waits
-waits before after = record { began = newIn (after .waiting) (before .waiting); ended = newIn (before .waiting) (after .waiting) }
+-- of the columns of waiting ASes before and after an event: those that wait after and not before, and those that waited before and no longer do (Rule 5.19)
+unfoldable pub waits : List ℕ → List ℕ → Waits
+waits before after = record { began = newIn after before; ended = newIn before after }

@@ -1,15 +1,13 @@
 // What a host asks beside the events, over the C ABI: a parameter of a message, the state of an AS, the place of a link, which recovery times to start and to stop.
-use gateway::Gateway;
 use message::DataAt;
 use wire::HEADER;
-use wire::Step;
 ghost use mathlib.Core.Path.{_≡_};
 ghost use mathlib.Core.Bool.{_&&_, not};
 ghost use Rattle.laws.specs.Below.{one};
 ghost use Rattle.laws.specs.Columns.{isSet};
-ghost use Rattle.wire.specs.Walk.{walk};
 ghost use Rattle.message.specs.Meaning.{dataAt};
-ghost use Rattle.query.specs.Query.{paramIn, paramAt, asStateAt, linkPlace, newIn, waits};
+ghost use Rattle.gateway.specs.State.{gatewayOf, unitsOf};
+ghost use Rattle.query.specs.Query.{paramAt, asStateAt, linkPlace, newIn, waits};
 
 // A state that is not sound, and an AS or a link that the plan has not.
 const NOT_SOUND: u32 = 105;
@@ -41,9 +39,9 @@ pub struct Waits {
 // The version of the entries that this library has: raised by each change of a struct, a limit or a signature (include/m2ua.h, M2UA_ABI).
 #[no_mangle]
 pub extern "C" fn m2ua_abi() -> u32
-    ensures { λ r. ⌜ r ≡ 4 ⌝ }
+    ensures { λ r. ⌜ r ≡ 5 ⌝ }
 {
-    4
+    5
 }
 
 // Where the protocol data of a message lies (Rule 1.7).
@@ -59,51 +57,76 @@ pub extern "C" fn m2ua_data(msg: &[u8]) -> DataAt
 pub extern "C" fn m2ua_parameter(msg: &[u8], tag: u16) -> ParamAt
     ensures { λ r. ⌜ r ≡ paramAt tag (now (msg .entry)) ⌝ }
 {
-    find(msg, HEADER, tag)
-}
-
-fn find(s: &[u8], from: usize, t: u16) -> ParamAt
-    ensures { λ r. ⌜ r ≡ paramIn t from (walk (now (s .entry)) from .pars) ⌝ }
-{
-    let mut at = from;
-    loop {
-        let w = wire::step_at(s, at);
-        let Step::Param { tag, len, next } = w else {
-            return ParamAt {
-                found: 0,
-                start: 0,
-                length: 0,
-            };
-        };
-        if tag == t {
-            let start = at + 4;
-            let stop = at + len as usize;
-            return ParamAt {
-                found: 1,
-                start,
-                length: stop - start,
-            };
-        }
-        at = next;
+    let p = message::find(msg, HEADER, tag, tag);
+    ParamAt {
+        found: p.found,
+        start: p.start,
+        length: p.length,
     }
 }
 
-// The state of AS a (Rule 5.17): 0 down, 2 inactive, 3 active, 4 pending.
+// The state of AS a (Rule 5.17): 0 down, 2 inactive, 3 active, 4 pending. The state's columns are lent.
 #[no_mangle]
-pub extern "C" fn m2ua_as_state(g: Gateway, a: usize) -> Answer
-    ensures { λ r. ⌜ r ≡ asStateAt g a ⌝ }
+pub extern "C" fn m2ua_as_state_at<'a>(
+    asps: u8,
+    ases: u8,
+    links: u8,
+    spare: u8,
+    aspid: &'a [u32; 16],
+    up: &'a [u8; 16],
+    member: &'a [u8; 256],
+    active: &'a [u8; 256],
+    mode: &'a [u8; 16],
+    waiting: &'a [u8; 16],
+    iid: &'a [u32; 128],
+    owner: &'a [u8; 128],
+    state: &'a [u8; 128],
+    highspeed: &'a [u8; 128],
+    wholelists: &'a [u8; 16],
+    count: &'a [u8; 16],
+    tag: &'a [u16; 128],
+    len: &'a [u16; 128],
+    marked: &'a [u16; 128],
+    id: &'a [u32; 128],
+    correlation: &'a [u32; 128],
+    a: usize,
+) -> Answer
+    ensures { λ r. ⌜ r ≡ asStateAt (gatewayOf asps ases links spare (now (aspid .entry)) (now (up .entry)) (now (member .entry)) (now (active .entry)) (now (mode .entry)) (now (waiting .entry)) (now (iid .entry)) (now (owner .entry)) (now (state .entry)) (now (highspeed .entry)) (now (wholelists .entry)) (unitsOf (now (count .entry)) (now (tag .entry)) (now (len .entry)) (now (marked .entry)) (now (id .entry)) (now (correlation .entry)))) a ⌝ }
 {
-    if !held::is_sound(g) {
+    let sound = held::sound_of(
+        asps,
+        ases,
+        links,
+        spare,
+        aspid,
+        up,
+        member,
+        active,
+        mode,
+        waiting,
+        iid,
+        owner,
+        state,
+        highspeed,
+        wholelists,
+        count,
+        tag,
+        len,
+        marked,
+        id,
+        correlation,
+    );
+    if !sound {
         return Answer {
             code: NOT_SOUND,
             value: 0,
         };
     }
-    if a < gateway::wide(g.ases) {
-        let state = lookup::as_state(&g.up, &g.member, &g.active, &g.waiting, a);
+    if a < gateway::wide(ases) {
+        let now = lookup::as_state(up, member, active, waiting, a);
         return Answer {
             code: 0,
-            value: state,
+            value: now,
         };
     }
     Answer {
@@ -114,18 +137,64 @@ pub extern "C" fn m2ua_as_state(g: Gateway, a: usize) -> Answer
 
 // The place of the link with an interface identifier (Rule 5.18).
 #[no_mangle]
-pub extern "C" fn m2ua_link_place(g: Gateway, id: u32) -> Answer
-    ensures { λ r. ⌜ r ≡ linkPlace g id ⌝ }
+pub extern "C" fn m2ua_link_place_at<'a>(
+    asps: u8,
+    ases: u8,
+    links: u8,
+    spare: u8,
+    aspid: &'a [u32; 16],
+    up: &'a [u8; 16],
+    member: &'a [u8; 256],
+    active: &'a [u8; 256],
+    mode: &'a [u8; 16],
+    waiting: &'a [u8; 16],
+    iid: &'a [u32; 128],
+    owner: &'a [u8; 128],
+    state: &'a [u8; 128],
+    highspeed: &'a [u8; 128],
+    wholelists: &'a [u8; 16],
+    count: &'a [u8; 16],
+    tag: &'a [u16; 128],
+    len: &'a [u16; 128],
+    marked: &'a [u16; 128],
+    id: &'a [u32; 128],
+    correlation: &'a [u32; 128],
+    wanted: u32,
+) -> Answer
+    ensures { λ r. ⌜ r ≡ linkPlace (gatewayOf asps ases links spare (now (aspid .entry)) (now (up .entry)) (now (member .entry)) (now (active .entry)) (now (mode .entry)) (now (waiting .entry)) (now (iid .entry)) (now (owner .entry)) (now (state .entry)) (now (highspeed .entry)) (now (wholelists .entry)) (unitsOf (now (count .entry)) (now (tag .entry)) (now (len .entry)) (now (marked .entry)) (now (id .entry)) (now (correlation .entry)))) wanted ⌝ }
 {
-    if !held::is_sound(g) {
+    let sound = held::sound_of(
+        asps,
+        ases,
+        links,
+        spare,
+        aspid,
+        up,
+        member,
+        active,
+        mode,
+        waiting,
+        iid,
+        owner,
+        state,
+        highspeed,
+        wholelists,
+        count,
+        tag,
+        len,
+        marked,
+        id,
+        correlation,
+    );
+    if !sound {
         return Answer {
             code: NOT_SOUND,
             value: 0,
         };
     }
-    let links = gateway::wide(g.links);
-    let l = lookup::index_of(&g.iid, links, id);
-    if l < links {
+    let n = gateway::wide(links);
+    let l = lookup::index_of(iid, n, wanted);
+    if l < n {
         return Answer {
             code: 0,
             value: l as u32,
@@ -154,15 +223,14 @@ fn new_in(x: &[u8; 16], y: &[u8; 16]) -> [u8; 16]
     r
 }
 
-// The ASes whose recovery time starts between two states, and those whose time is to be stopped (Rule 5.19).
+// The ASes whose recovery time starts between two states, and those whose time is to be stopped (Rule
+// 5.19): lent are the columns `waiting` of the two.
 #[no_mangle]
-pub extern "C" fn m2ua_waits(before: Gateway, after: Gateway) -> Waits
-    ensures { λ r. ⌜ r ≡ waits before after ⌝ }
+pub extern "C" fn m2ua_waits_at<'a>(before: &'a [u8; 16], after: &'a [u8; 16]) -> Waits
+    ensures { λ r. ⌜ r ≡ waits (now (before .entry)) (now (after .entry)) ⌝ }
 {
-    let x = before.waiting;
-    let y = after.waiting;
-    let began = new_in(&y, &x);
-    let ended = new_in(&x, &y);
+    let began = new_in(after, before);
+    let ended = new_in(before, after);
     Waits {
         began: began,
         ended: ended,

@@ -14,16 +14,16 @@ use Rattle.ranges.specs.declared.Refused.{Refused}
 
 -- ---- one identifier
 
-unfoldable pub ownerOf : List ℕ → List ℕ → ℕ → ℕ → ℕ
-ownerOf iid owner links x = numberAt owner (indexOf iid links x)
+unfoldable pub ownerById : List ℕ → List ℕ → ℕ → ℕ → ℕ
+ownerById iid owner links x = numberAt owner (indexOf iid links x)
 
 -- it is unknown, or p is no member of its AS
 unfoldable pub isRefused : List ℕ → List ℕ → List ℕ → ℕ → ℕ → ℕ → Bool
-isRefused iid owner member links p x = not (known iid links x && isSet member (pair (ownerOf iid owner links x) p))
+isRefused iid owner member links p x = not (known iid links x && isSet member (pair (ownerById iid owner links x) p))
 
 -- it is known, and AS a owns it
 unfoldable pub isOwnedBy : List ℕ → List ℕ → ℕ → ℕ → ℕ → Bool
-isOwnedBy iid owner links a x = known iid links x && eqb (ownerOf iid owner links x) a
+isOwnedBy iid owner links a x = known iid links x && eqb (ownerById iid owner links x) a
 
 -- ---- a range: from start to stop, both included
 

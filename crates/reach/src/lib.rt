@@ -182,18 +182,10 @@ pub fn of_event(g: Gateway, kind: u32, i: usize, msg: &[u8], room: usize, hold: 
     let ases = g.ases;
     let links = g.links;
     let sound = held::is_sound(g);
-    let found = ask::refused(
-        sound,
-        asps,
-        ases,
-        links,
-        &g.iid,
-        &g.highspeed,
-        ask,
-        hold,
-        room,
-    );
-    if found.code != 0 {
+    let at = ask::placed(sound, links, &g.iid, ask);
+    let k = links::link_at(g, at.index);
+    let code = ask::refused(sound, asps, ases, at.there, k, ask, hold, room);
+    if code != 0 {
         return [false; 16];
     }
     let n = gateway::wide(links);

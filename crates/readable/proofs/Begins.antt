@@ -33,7 +33,7 @@ use Rattle.readable.proofs.Each.{Each, each-more, each-at}
 use Rattle.readable.proofs.Header.{and-none}
 use Rattle.readable.proofs.Modes.{active-mode, inactive-mode}
 use Rattle.readable.proofs.Effects.{Holds, each-change}
-use Rattle.readable.proofs.Events.{Fine, say-none, say-one, says, fine-up, fine-down, six, by-names, by-type, by-message, correlated, row, unnamed}
+use Rattle.readable.proofs.Events.{Fine, say-none, say-one, says, fine-up, fine-down, six, by-names, by-type, by-message, row, unnamed}
 
 -- ---- the actions
 
@@ -60,7 +60,7 @@ plain =
       sides = λ k x v e. e;
       up-acked = λ p. refl;
       down-acked = λ p. refl;
-      data-acked = λ p x n h. refl;
+      data-acked = λ p x n. refl;
       established = λ p x v. refl;
       released = λ p x v. refl;
       stopped = λ p x v. refl;
@@ -123,7 +123,7 @@ module _ (g : Gateway) (p : ℕ) (s : List ℕ) where
       (λ h. others g p ps _ (say-one plain g _ refl)) (others g p ps _ (say-none plain g))
       (λ h. traffic (activeEffect g p (readingOf s .mode)) e (λ told named t. on g p ps (active-mode ps (row s e 4 1 (omega arith) h)) told named t (readingOf s .mode)))
       (λ h. traffic (inactiveEffect p) e (λ told named t. off g p ps (inactive-mode ps (row s e 4 2 (omega arith) h)) told named t))
-      (others g p ps _ (six plain g p (readingOf s) (correlated s e))) (others g p ps _ (says plain g p 0 6 refl))
+      (others g p ps _ (six plain g p (readingOf s))) (others g p ps _ (says plain g p 0 6 refl))
 
   begins : Begins g p ps (actionsOn g (message p s))
   unfolding Starts

@@ -40,7 +40,7 @@ pub record Holds (P : Action → Type 0) : Type 0 where
   pub sides : (k x v : ℕ) → isTrafficAck k ≡ false → P (action linkSide k x v)
   pub up-acked : (p : ℕ) → P (action p aspUpAck 0 0)
   pub down-acked : (p : ℕ) → P (action p aspDownAck 0 0)
-  pub data-acked : (p x n : ℕ) → n ≤ largest → P (action p dataAck x n)
+  pub data-acked : (p x n : ℕ) → P (action p dataAck x n)
   pub established : (p x v : ℕ) → P (action p establishConfirm x v)
   pub released : (p x v : ℕ) → P (action p releaseConfirm x v)
   pub stopped : (p x v : ℕ) → P (action p releaseIndication x v)

@@ -13,7 +13,8 @@ use Rattle.laws.specs.Inner.Every.{clash}
 use Rattle.wire.specs.Walk.{Par, walk}
 use Rattle.parameter.specs.Table.{table, rowIn, key}
 use Rattle.message.specs.Verdict.{most, has, inTurn, verdict}
-use Rattle.message.specs.Meaning.{flag, meaning, readingOf}
+use Rattle.laws.specs.Below.{one}
+use Rattle.message.specs.Meaning.{meaning, readingOf}
 use Rattle.message.specs.declared.Reading.{Reading}
 use Rattle.encode.specs.Encode.{sizeOf}
 use Rattle.encode.proofs.RoundTrip.{accepted, size-accepted}
@@ -27,12 +28,12 @@ use Rattle.outgoing.specs.Message.{replyPars}
 use Rattle.rules.specs.Identifiers.{isIds, firstRefused, ownersGood}
 use Rattle.rules.specs.Effect.{Effect, send, setLink, changeIn, oneAction, error, error2, actionsOf}
 use Rattle.rules.specs.Asp.{asesOf, upEffect, downEffect, lostEffect, activeEffect, inactiveEffect, partEffect, trafficEffect}
-use Rattle.rules.specs.Link.{establish, release, dataEffect, linkEffect, classSixEffect, toRecipients, linkUpEffect, linkDownEffect}
+use Rattle.rules.specs.Link.{establish, release, dataEffect, linkEffect, classSixOn, classSixEffect, toRecipients, linkUpOn, linkUpEffect, linkDownOn, linkDownEffect}
 use Rattle.rules.specs.Rules.{isError, classTypeOf, fromAsp, readEffect, messageEffect}
 use Rattle.readable.proofs.Each.{Each, each-none, each-more, each-append, each-cond}
 use Rattle.readable.proofs.Small.{verdict-small}
-use Rattle.readable.proofs.Numbers.{largest, correlation-within}
-use Rattle.readable.proofs.Header.{in-turn, reading-is, in-row}
+use Rattle.readable.proofs.Numbers.{largest}
+use Rattle.readable.proofs.Header.{reading-is, in-row}
 use Rattle.readable.proofs.Effects.{Holds, each-all, each-change}
 use Rattle.readable.proofs.Good.{Good, all-good, good-beat, good-active, good-inactive}
 
@@ -101,9 +102,9 @@ module _ {P : Action → Type 0} (h : Holds P) (g : Gateway) where
   unfolding inactiveEffect
   fine-inactive p a told named b = search (fines, a, b) depth 8
 
-  pub six : (p : ℕ) (r : Reading) → r .correlation ≤ largest → Fine P g (classSixEffect g p r)
-  unfolding classSixEffect linkEffect establish release dataEffect
-  six p r a = search (by-fine, say-none, say-one, say-two, turn-one, h .errors, small, h .sides, h .data-acked, h .established, h .released, a) depth 16
+  pub six : (p : ℕ) (r : Reading) → Fine P g (classSixEffect g p r)
+  unfolding classSixEffect classSixOn linkEffect establish release dataEffect
+  six p r = search (by-fine, say-none, say-one, say-two, turn-one, h .errors, small, h .sides, h .data-acked, h .established, h .released) depth 16
 
   -- ---- links
 
@@ -115,7 +116,7 @@ module _ {P : Action → Type 0} (h : Holds P) (g : Gateway) where
   fine-change k named = change [] k named each-none
 
   pub fine-linkUp : (l : ℕ) → Fine P g (linkUpEffect g l)
-  unfolding linkUpEffect toRecipients
+  unfolding linkUpEffect linkUpOn toRecipients
   fine-linkUp l = search (by-fine, say-none, turn-all, h .established) depth 8
 
   gone : (u : Bool) (p x v : ℕ) → P (action p (cond u releaseConfirm releaseIndication) x v)
@@ -123,7 +124,7 @@ module _ {P : Action → Type 0} (h : Holds P) (g : Gateway) where
   gone false p x v = h .stopped p x v
 
   pub fine-linkDown : (l : ℕ) → Fine P g (linkDownEffect g l)
-  unfolding linkDownEffect toRecipients
+  unfolding linkDownEffect linkDownOn toRecipients
   fine-linkDown l = search (by-fine, say-none, turn-all, gone) depth 8
 
 -- ---- a message of an ASP, by what it asks
@@ -191,14 +192,10 @@ module _ (s : List ℕ) (e : verdict s ≡ 0) where
   pub size : sizeOf (walk s 8 .pars) ≤ most
   size = let a = accepted s e in omega (arith, size-accepted s a, a .small)
 
-  pub correlated : readingOf s .correlation ≤ largest
-  unfolding meaning
-  correlated = rw (reading-is s e) (correlation-within _ (walk s 8 .pars) [] (in-turn s (accepted s e)))
-
   pub row : (c t : ℕ) → t < 256 → classTypeOf (readingOf s) ≡ c * 256 + t → inTurn (rowIn table c t) [] (walk s 8 .pars) ≡ 0
   row = in-row s e (accepted s e)
 
-  flag-false : (b : Bool) → eqb (flag b) 1 ≡ false → b ≡ false
+  flag-false : (b : Bool) → eqb (one b) 1 ≡ false → b ≡ false
   flag-false true e = e
   flag-false false e = refl
 
@@ -231,7 +228,7 @@ module _ (g : Gateway) (hold : List ℕ) (i : ℕ) (b : g .links ≤ 128) (p : �
       (say-none good g)
       (λ h. traffic (activeEffect g p (readingOf s .mode)) e (fine-active good g p (readingOf s .mode) (good-active g hold qs i b (size s e) (row s e 4 1 (omega arith) h) p)))
       (λ h. traffic (inactiveEffect p) e (fine-inactive good g p (good-inactive g hold qs i b (size s e) (row s e 4 2 (omega arith) h) p)))
-      (six good g p (readingOf s) (correlated s e)) (says good g p 0 6 refl)
+      (six good g p (readingOf s)) (says good g p 0 6 refl)
 
   pub fine-message : Fine Ok g (messageEffect g p s)
   fine-message = by-message (Fine Ok g) g p s (say-none good g) (say-one good g _ (good .errors p 0 (verdict s) (omega (arith, verdict-small s)))) read

@@ -78,9 +78,9 @@ module _ (g : Gateway) (hold : List ℕ) (ps : List Par) (i : ℕ) where
   unfolding Good replyPars
   good-inactive b h e p = inr (inr (inactive-list g p ps b e h))
 
-  good-data : (p x n : ℕ) → n ≤ largest → Good (replyPars g hold ps i) (action p dataAck x n)
+  good-data : (p x n : ℕ) → Good (replyPars g hold ps i) (action p dataAck x n)
   unfolding Good replyPars linkPars
-  good-data p x n h = inr (inr (data-list x n h))
+  good-data p x n = inr (inr (data-list x n))
 
   good-established : (p x v : ℕ) → Good (replyPars g hold ps i) (action p establishConfirm x v)
   unfolding Good replyPars linkPars

@@ -20,7 +20,6 @@ use Rattle.action.specs.declared.Action.{Action}
 use Rattle.keeps.specs.Inner.Units.{held}
 use Rattle.rules.specs.Effect.{holdBytes}
 use Rattle.outgoing.specs.Message.{heldBody, unitPars}
-use Rattle.readable.proofs.Numbers.{largest}
 use Rattle.readable.proofs.Lists.{unit-size, unit-list}
 
 -- what a sound state says of its protocol data
@@ -61,8 +60,8 @@ module _ (g : Gateway) (sound : isSound g ≡ true) (i : ℕ) (b : i < 128) (h :
     unfolding unitPars
     short o = unit-size (o .subject) (numberAt (g .held .tag) i) (heldBody g hold i) (eqb (numberAt (g .held .marked) i) 1) (numberAt (g .held .correlation) i) body-most
 
-    pub accepts : length hold ≡ holdBytes → numberAt (g .held .correlation) i ≤ largest → (o : Action) → listCode 6 1 (unitPars g hold i o) ≡ 0
+    pub accepts : length hold ≡ holdBytes → (o : Action) → listCode 6 1 (unitPars g hold i o) ≡ 0
     unfolding unitPars
-    accepts e c o =
+    accepts e o =
         unit-list (o .subject) (numberAt (g .held .tag) i) (heldBody g hold i) (eqb (numberAt (g .held .marked) i) 1) (numberAt (g .held .correlation) i)
-        (kept .tagged) (body-least e) body-most c
+        (kept .tagged) (body-least e) body-most

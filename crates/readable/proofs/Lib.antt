@@ -14,3 +14,4 @@ pub mod Passed
 pub mod Held
 pub mod Readable
 pub mod Samples
+pub mod Room

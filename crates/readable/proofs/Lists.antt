@@ -25,12 +25,12 @@ use Rattle.readable.proofs.Numbers.{largest, number-code, Fours, ids-co
 
 pub error-list : (x n : ℕ) (b : Bool) → n ≤ largest → listCode 0 0 (numberPar 0xc n ∷ cond b (numberPar 0x1 x ∷ []) []) ≡ 0
 unfolding listCode sizeOf parsBytes parBytes table among hasClass rowIn entriesIn useIn usage limitsOf idCode bodyCode allowedCode parCode has isNone inTurn allThere sequenceCode parsCode
-error-list x n true h = rw (number-code 0xc n refl h)
-error-list x n false h = rw (number-code 0xc n refl h)
+error-list x n true h = rw (number-code 0xc n refl)
+error-list x n false h = rw (number-code 0xc n refl)
 
 pub notify-none : (n : ℕ) → n ≤ largest → listCode 0 1 (numberPar 0xd n ∷ []) ≡ 0
 unfolding listCode sizeOf parsBytes parBytes table among hasClass rowIn entriesIn useIn usage limitsOf idCode bodyCode allowedCode parCode has isNone inTurn allThere sequenceCode parsCode
-notify-none n h = rw (number-code 0xd n refl h)
+notify-none n h = rw (number-code 0xd n refl)
 
 pub notify-ids : (n k : ℕ) (v : List ℕ) → n ≤ largest → Fours k v → k ≤ 128 → (length v ≡ 0 → ⊥) → listCode 0 1 (numberPar 0xd n ∷ par 0x1 v ∷ []) ≡ 0
 unfolding listCode sizeOf parsBytes table among hasClass rowIn entriesIn useIn usage limitsOf bodyCode allowedCode parCode has isNone inTurn allThere sequenceCode parsCode
@@ -40,7 +40,7 @@ notify-ids n k v h f b ne =
     let l₁ = length-par (numberPar 0xd n) in
     let l₂ = length-par (par 0x1 v) in
     let e : 8 + length (parsBytes (numberPar 0xd n ∷ par 0x1 v ∷ [])) ≤ most = omega arith in
-    rw (le-ltb most _ e, number-code 0xd n refl h, ids-code k v f ne)
+    rw (le-ltb most _ e, number-code 0xd n refl, ids-code k v f ne)
 
 -- ---- Acks without parameters, and one identifier
 
@@ -59,9 +59,9 @@ link-list x t (inl e) = rw e
 link-list x t (inr (inl e)) = rw e
 link-list x t (inr (inr e)) = rw e
 
-pub data-list : (x n : ℕ) → n ≤ largest → listCode 6 15 (numberPar 0x1 x ∷ numberPar 0x13 n ∷ []) ≡ 0
+pub data-list : (x n : ℕ) → listCode 6 15 (numberPar 0x1 x ∷ numberPar 0x13 n ∷ []) ≡ 0
 unfolding listCode sizeOf parsBytes parBytes table among hasClass rowIn entriesIn useIn usage limitsOf idCode bodyCode allowedCode parCode has isNone inTurn allThere sequenceCode parsCode
-data-list x n h = rw (number-code 0x13 n refl h)
+data-list x n = rw (number-code 0x13 n refl)
 
 -- ---- a unit that was held: Data
 
@@ -86,12 +86,12 @@ unit-size x t v marked n h =
     last true = let c = length-append (parBytes (numberPar 0x13 n)) [] in let l = length-par (numberPar 0x13 n) in omega arith
     last false = omega arith
 
-pub unit-list : (x t : ℕ) (v : List ℕ) (marked : Bool) (n : ℕ) → (eqb t 0x300 || eqb t 0x301) ≡ true → 1 ≤ length v → length v ≤ 273 → n ≤ largest → listCode 6 1 (unitList x t v marked n) ≡ 0
+pub unit-list : (x t : ℕ) (v : List ℕ) (marked : Bool) (n : ℕ) → (eqb t 0x300 || eqb t 0x301) ≡ true → 1 ≤ length v → length v ≤ 273 → listCode 6 1 (unitList x t v marked n) ≡ 0
 unfolding listCode table among hasClass rowIn entriesIn useIn usage limitsOf idCode bodyCode allowedCode parCode has isNone inTurn allThere sequenceCode parsCode
-unit-list x t v marked n e a b h = rw (le-ltb most (sizeOf (unitList x t v marked n)) (unit-size x t v marked n b)) (go (eqb t 0x300) refl e marked)
+unit-list x t v marked n e a b = rw (le-ltb most (sizeOf (unitList x t v marked n)) (unit-size x t v marked n b)) (go (eqb t 0x300) refl e marked)
   where
     go : (u : Bool) → eqb t 0x300 ≡ u → (u || eqb t 0x301) ≡ true → (m : Bool) → parsCode 6 1 (unitList x t v m n) ≡ 0
-    go true z y true = let q = eqb-true t 0x300 z in rw (q, data-code 0x300 v refl a b, number-code 0x13 n refl h)
+    go true z y true = let q = eqb-true t 0x300 z in rw (q, data-code 0x300 v refl a b, number-code 0x13 n refl)
     go true z y false = let q = eqb-true t 0x300 z in rw (q, data-code 0x300 v refl a b)
-    go false z y true = let q = eqb-true t 0x301 y in rw (q, data-code 0x301 v refl a b, number-code 0x13 n refl h)
+    go false z y true = let q = eqb-true t 0x301 y in rw (q, data-code 0x301 v refl a b, number-code 0x13 n refl)
     go false z y false = let q = eqb-true t 0x301 y in rw (q, data-code 0x301 v refl a b)

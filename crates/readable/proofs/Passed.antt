@@ -22,7 +22,8 @@ use Rattle.action.specs.declared.Action.{Action}
 use Rattle.action.specs.Words.{action}
 use Rattle.rules.specs.Effect.{send, takeIn, actionsOf}
 use Rattle.rules.specs.Identifiers.{linkOf, ownerAt}
-use Rattle.rules.specs.Link.{recipientsOf, toRecipients, isPending, arrival, holdEffect, linkMessageEffect}
+use Rattle.rules.specs.Records.{linkAt}
+use Rattle.rules.specs.Link.{recipientsAt, toRecipients, isPending, arrival, holdEffect, linkMessageOn, linkMessageEffect}
 use Rattle.rules.specs.Rules.{classTypeOf}
 use Rattle.readable.proofs.Each.{Each, each-none}
 use Rattle.readable.proofs.Header.{type-small, reading-is}
@@ -49,7 +50,7 @@ read-again s a k e p x v =
 
 -- what is held, or turned away, gives none
 pub each-passed : (g : Gateway) (s : List ℕ) → verdict s ≡ 0 → Each (Read s) (actionsOf g (linkMessageEffect g s (readingOf s)))
-unfolding linkMessageEffect holdEffect toRecipients meaning
+unfolding linkMessageEffect linkMessageOn holdEffect toRecipients meaning
 each-passed g s e = go (eqb (readingOf s .msgtype) 1 && isPending g a) (ltb (numberAt (g .held .count) a) mostHeld)
   where
     l : ℕ
@@ -58,9 +59,9 @@ each-passed g s e = go (eqb (readingOf s .msgtype) 1 && isPending g a) (ltb (num
     a : ℕ
     a = ownerAt g l
 
-    go : (u v : Bool) → Each (Read s) (actionsOf g (cond u (cond v (takeIn a (arrival s (readingOf s))) (send [])) (send (toRecipients g l (classTypeOf (readingOf s))))))
+    go : (u v : Bool) → Each (Read s) (actionsOf g (cond u (cond v (takeIn a (arrival s (readingOf s))) (send [])) (send (toRecipients (recipientsAt g l) (linkAt g l) (classTypeOf (readingOf s))))))
     go true true = each-none
     go true false = each-none
     go false v =
-        each-all (recipientsOf g l) (classTypeOf (readingOf s)) (numberAt (g .iid) l) 0
+        each-all (recipientsAt g l) (classTypeOf (readingOf s)) (numberAt (g .iid) l) 0
         (λ p. read-again s (accepted s e) (classTypeOf (readingOf s)) (ap (λ (r : Reading). classTypeOf r) (reading-is s e)) p (numberAt (g .iid) l) 0)

@@ -115,9 +115,9 @@ module _ (P : ℕ → ℕ → List Par → Type 0) (list : (c t : ℕ) (ps : Lis
 
 pub every-reads : EveryReads
 unfolding messageAt
-every-reads g h k n c e i s w =
+every-reads g h k n c e i s =
     reads g h k (unitFor g k n) (actionAt (actionsOn g k) n)
-    (every (λ c t ps. listCode c t ps ≡ 0) (λ c t ps z. z) g h n c k i s (λ d u. accepts g c (unitFor g k n) (u .place) (u .held) h e (w d) (actionAt (actionsOn g k) n)))
+    (every (λ c t ps. listCode c t ps ≡ 0) (λ c t ps z. z) g h n c k i s (λ d u. accepts g c (unitFor g k n) (u .place) (u .held) h e (actionAt (actionsOn g k) n)))
 
 -- a message is not too long, and its class is one of the table: for this it does not matter what the hold and the correlation id are
 pub every-short : (g : Gateway) (h : List ℕ) (k : EventKind) (n : ℕ) → isSound g ≡ true → inPlan g k ≡ true → isSent (actionsOn g k) n ≡ true
@@ -158,10 +158,10 @@ sent g h k n room e =
 
 pub sent-reads : SentReads
 unfolding messageAt
-sent-reads g h k n out r out′ w z u =
+sent-reads g h k n out r out′ w z =
     let a = sent g h k n (length out) (sym (w .code-is) ∙ z) in
     let m = messageAt g h k n in
     let l : r .length ≡ length m = w .length-is ∙ rw (eq-eqb (r .code) 0 z) in
     let b : out′ ≡ overlay out 0 m = w .bytes-are ∙ rw (eq-eqb (r .code) 0 z) in
     let t : take (r .length) out′ ≡ m = ap (λ (x : ℕ). take x out′) l ∙ ap (take (length m)) b ∙ take-over out m (a .fits) in
-    subst (Reads g h k (unitFor g k n) (actionAt (actionsOn g k) n)) (sym t) (every-reads g h k n (a .sound) (a .whole) (a .planned) (a .there) u)
+    subst (Reads g h k (unitFor g k n) (actionAt (actionsOn g k) n)) (sym t) (every-reads g h k n (a .sound) (a .whole) (a .planned) (a .there))

@@ -23,7 +23,9 @@ use Rattle.rules.specs.Rules.{inPlan, refusal}
 use Rattle.rules.specs.Sent.{actionsOn, actionAt, isSent, isData, unitFor}
 use Rattle.rules.specs.Inner.Accepted.{accepted}
 use Rattle.rules.specs.Entry.{actions}
-use Rattle.rules.specs.Samples.{event, m, g₁}
+use Rattle.rules.specs.Event.{lending}
+use Rattle.rules.specs.Rules.{leastRoom}
+use Rattle.rules.specs.Samples.{sampleEvent, m, g₁}
 use Rattle.rules.proofs.Samples.{samples}
 use Rattle.outgoing.specs.Message.{trafficAckPars, replyPars, sentBytes}
 use Rattle.outgoing.specs.Send.{messageAt}
@@ -35,14 +37,14 @@ use Rattle.outgoing.specs.Inner.Stands.{isTrafficAck}
 
 -- its actions are an Active Ack and a Notify, so it is not refused
 record Acts : Type 0 where
-  accepted-is : eqb (refusal g₁ (event (message 0 m))) 0 ≡ true
+  accepted-is : eqb (refusal g₁ (sampleEvent (message 0 m))) 0 ≡ true
   actions-are : actionsOn g₁ (message 0 m) ≡ action 0 1027 0 0 ∷ action 0 1 0 65539 ∷ []
 
 acts : Acts
 unfolding actions
-acts = go (eqb (refusal g₁ (event (message 0 m))) 0) refl (samples .takes-over)
+acts = go (eqb (refusal g₁ (sampleEvent (message 0 m))) 0) refl (samples .takes-over)
   where
-    go : (u : Bool) → eqb (refusal g₁ (event (message 0 m))) 0 ≡ u → cond u (actionsOn g₁ (message 0 m)) [] ≡ action 0 1027 0 0 ∷ action 0 1 0 65539 ∷ [] → Acts
+    go : (u : Bool) → eqb (refusal g₁ (sampleEvent (message 0 m))) 0 ≡ u → cond u (actionsOn g₁ (message 0 m)) [] ≡ action 0 1027 0 0 ∷ action 0 1 0 65539 ∷ [] → Acts
     go true h e = record { accepted-is = h; actions-are = e }
     go false h e = let z : _≡_ {A = ℕ} 0 1 = cc in absurd (omega arith)
 
@@ -60,10 +62,9 @@ ack h = ap (λ (os : List Action). sentBytes g₁ h (message 0 m) (unitFor g₁ 
 
 -- and reads: the law's premises are met
 ack-reads : (h : List ℕ) → length h ≡ holdBytes → Reads g₁ h (message 0 m) (unitFor g₁ (message 0 m) 0) (action 0 1027 0 0) (messageAt g₁ h (message 0 m) 0)
-unfolding messageAt actionAt isSent isData
+unfolding messageAt actionAt isSent
 ack-reads h e =
-    let t = accepted (isSound g₁) (inPlan g₁ (message 0 m)) 34944 1544 (eqb-true _ _ (acts .accepted-is)) in
+    let t = accepted (isSound g₁) (inPlan g₁ (message 0 m)) (lending leastRoom holdBytes) (eqb-true _ _ (acts .accepted-is)) in
     let r =
-    every-reads g₁ h (message 0 m) 0 (t .sound-yes) e (t .known-yes) (ap (λ (os : List Action). isSent os 0) (acts .actions-are))
-    (λ d. absurd (false≢true (sym (ap (λ (os : List Action). isData (actionAt os 0)) (acts .actions-are)) ∙ d))) in
+    every-reads g₁ h (message 0 m) 0 (t .sound-yes) e (t .known-yes) (ap (λ (os : List Action). isSent os 0) (acts .actions-are)) in
     subst (λ (o : Action). Reads g₁ h (message 0 m) (unitFor g₁ (message 0 m) 0) o (messageAt g₁ h (message 0 m) 0)) (ap (λ (os : List Action). actionAt os 0) (acts .actions-are)) r

@@ -5,7 +5,6 @@ use Prim.Native.Nat.{ℕ, _/_, _%_, _≤_}
 use mathlib.Core.Bool.{true}
 use mathlib.Core.List.{List}
 use lib.ListN.{length, take}
-use Rattle.laws.specs.Columns.{numberAt}
 use Rattle.message.specs.Verdict.{most}
 use Rattle.encode.specs.RoundTrip.{ReadsBack}
 use Rattle.encode.specs.declared.Written.{Written}
@@ -15,7 +14,7 @@ use Rattle.action.specs.declared.Action.{Action}
 use Rattle.rules.specs.Event.{EventKind}
 use Rattle.rules.specs.Rules.{inPlan}
 use Rattle.rules.specs.Effect.{holdBytes}
-use Rattle.rules.specs.Sent.{actionsOn, actionAt, isSent, isData, unitFor}
+use Rattle.rules.specs.Sent.{actionsOn, actionAt, isSent, unitFor}
 use Rattle.outgoing.specs.Message.{sentPars}
 use Rattle.outgoing.specs.Send.{messageAt, Sends}
 
@@ -24,18 +23,14 @@ pub record Reads (g : Gateway) (h : List ℕ) (k : EventKind) (i : ℕ) (o : Act
   pub back : ReadsBack (o .classtype / 256) (o .classtype % 256) (sentPars g h k i o) s
   pub small : length s ≤ most
 
--- the correlation id of the unit that an action sends, if it sends one, is a number of 32 bits; in the code it is by its type
-abbrev pub Correlates : Gateway → EventKind → ℕ → Type 0
-Correlates g k n = isData (actionAt (actionsOn g k) n) ≡ true → numberAt (g .held .correlation) (unitFor g k n) ≤ 0xffff_ffff
-
 -- of every sound state with its hold, every event that its plan allows and every place of an action to an ASP
 abbrev pub EveryReads : Type 0
 EveryReads =
-    (g : Gateway) (h : List ℕ) (k : EventKind) (n : ℕ) → isSound g ≡ true → length h ≡ holdBytes → inPlan g k ≡ true → isSent (actionsOn g k) n ≡ true → Correlates g k n
+    (g : Gateway) (h : List ℕ) (k : EventKind) (n : ℕ) → isSound g ≡ true → length h ≡ holdBytes → inPlan g k ≡ true → isSent (actionsOn g k) n ≡ true
     → Reads g h k (unitFor g k n) (actionAt (actionsOn g k) n) (messageAt g h k n)
 
 -- so what a call has put into the buffer reads, unless it was refused
 abbrev pub SentReads : Type 0
 SentReads =
-    (g : Gateway) (h : List ℕ) (k : EventKind) (n : ℕ) (out : List ℕ) (r : Written) (out′ : List ℕ) → Sends g h k n out r out′ → r .code ≡ 0 → Correlates g k n
+    (g : Gateway) (h : List ℕ) (k : EventKind) (n : ℕ) (out : List ℕ) (r : Written) (out′ : List ℕ) → Sends g h k n out r out′ → r .code ≡ 0
     → Reads g h k (unitFor g k n) (actionAt (actionsOn g k) n) (take (r .length) out′)

@@ -22,14 +22,14 @@ use Rattle.rules.specs.Effect.{Effect, send, changeIn, oneAction, error,
 abbrev pub asesOf : Gateway → ℕ → List Bool
 asesOf g p = columnOf (g .member) p
 
-abbrev pub activeIn : Gateway → ℕ → List Bool
-activeIn g p = columnOf (g .active) p
+abbrev pub activeAses : Gateway → ℕ → List Bool
+activeAses g p = columnOf (g .active) p
 
 -- Rule 7.4: an identifier of its own that is not the plan's is refused; an ASP that was active somewhere is told so by a second reply
 unfoldable pub upEffect : Gateway → ℕ → Reading → Effect
 upEffect g p r =
     cond (eqb (r .identified) 1 && not (eqb (r .aspid) (numberAt (g .aspid) p))) (send (error p 15))
-    (changeIn (oneAction p aspUpAck 0 0 ++ cond (some (activeIn g p)) (error p 6) []) (AspUp p) (asesOf g p))
+    (changeIn (oneAction p aspUpAck 0 0 ++ cond (some (activeAses g p)) (error p 6) []) (AspUp p) (asesOf g p))
 
 -- Rules 7.5 and 7.6: the loss of the association is a Down without an Ack
 unfoldable pub downEffect : Gateway → ℕ → Effect

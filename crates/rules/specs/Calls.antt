@@ -38,13 +38,13 @@ events cs = map (λ (d : Call). d .event) cs
 
 -- the hold that goes on: what a call hands back that was lent one of the right length; a call that was lent some other leaves it
 abbrev pub boardAfter : Board → Call → Board
-boardAfter b d = record { gateway = d .outcome .gateway; hold = cond (eqb (d .event .hold) holdBytes) (d .held) (b .hold) }
+boardAfter b d = record { gateway = d .outcome .gateway; hold = cond (eqb (d .event .lent .hold) holdBytes) (d .held) (b .hold) }
 
 -- A history of calls (Rule 10.2): each call keeps what the entries promise (`MeetsRules`), and the next one gets the state that it hands back, and the hold.
 pub data Calls : Board → List Call → Board → Type 0 where
   none : {b : Board} → Calls b [] b
   call : {b c : Board} {d : Call} {ds : List Call}
-      → MeetsRules (b .gateway) (d .event) (d .lent) (d .left) (d .hold) (d .held) (d .outcome) → (d .event .hold ≡ holdBytes → d .hold ≡ b .hold)
+      → MeetsRules (b .gateway) (d .event) (d .lent) (d .left) (d .hold) (d .held) (d .outcome) → (d .event .lent .hold ≡ holdBytes → d .hold ≡ b .hold)
       → Calls (boardAfter b d) ds c → Calls b (d ∷ ds) c
 
 -- What a call gives (Rule 10.3): the refusal, or 0, the number of actions, and the actions, four words each.

@@ -1,7 +1,7 @@
--- The six kinds of event (Rule 6.1).
+-- The six kinds of event, and what is lent along with one (Rule 6.1).
 -- Assumes nothing.
 use Prim.Native.Nat.{ℕ}
-use mathlib.Core.List.{List, []}
+use mathlib.Core.List.{List, [], _∷_}
 
 -- an ASP with its message, an ASP, an AS, a link, a link, the message: each by its number
 pub data EventKind : Type 0 where
@@ -21,9 +21,19 @@ messageOf (linkUp l) = []
 messageOf (linkDown l) = []
 messageOf (linkMessage s) = s
 
--- An event takes its message, the length of its list and the length of its hold along when it trades places (Rule 10.4): room and hold are these lengths, in words
--- and in bytes.
-pub record Event : Type 0 where
-  pub kind : EventKind
+-- What is lent along with an event, by its length: the list in words, the hold in bytes.
+pub record Lent : Type 0 where
   pub room : ℕ
   pub hold : ℕ
+
+abbrev pub lending : ℕ → ℕ → Lent
+lending room hold = record { room = room; hold = hold }
+
+-- An event takes its message and the lengths of what it is lent along when it trades places (Rule 10.4).
+pub record Event : Type 0 where
+  pub kind : EventKind
+  pub lent : Lent
+
+-- the message of a class and type that has no parameters: 8 bytes
+abbrev pub bare : ℕ → ℕ → List ℕ
+bare class msgtype = 1 ∷ 0 ∷ class ∷ msgtype ∷ 0 ∷ 0 ∷ 0 ∷ 8 ∷ []

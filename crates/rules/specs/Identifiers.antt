@@ -16,12 +16,9 @@ use Rattle.ranges.specs.declared.Refused.{Refused}
 abbrev pub ownerAt : Gateway → ℕ → ℕ
 ownerAt g l = numberAt (g .owner) l
 
--- p has part in AS a, and is active there
+-- p has part in AS a
 abbrev pub isMember : Gateway → ℕ → ℕ → Bool
 isMember g a p = isSet (g .member) (pair a p)
-
-abbrev pub isActive : Gateway → ℕ → ℕ → Bool
-isActive g a p = isSet (g .active) (pair a p)
 
 -- ---- those of Active and Inactive
 

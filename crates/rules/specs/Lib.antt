@@ -1,5 +1,6 @@
 pub mod Event
 pub mod Identifiers
+pub mod Records
 pub mod Effect
 pub mod Asp
 pub mod Link

@@ -6,7 +6,7 @@ use mathlib.Core.List.{List, [], _∷_, _++_}
 use lib.ListN.{length, getD}
 use lib.Dec.{ltb, leb, eqb}
 use Rattle.laws.specs.Choice.{_orElse_, _if_}
-use Rattle.laws.specs.Columns.{numberAt, tabulate}
+use Rattle.laws.specs.Columns.{tabulate}
 use Rattle.wire.specs.Walk.{walk}
 use Rattle.message.specs.Verdict.{verdict}
 use Rattle.message.specs.Meaning.{readingOf}
@@ -15,8 +15,9 @@ use Rattle.gateway.specs.Sound.{isSound}
 use Rattle.gateway.specs.declared.Gateway.{Gateway}
 use Rattle.action.specs.Types.{aspUp, aspDown, beat, beatAck, aspActive, aspInactive}
 use Rattle.server.specs.declared.Change.the-variants.{AspUp, AspDown, Deactivate, Activate, Recover}
-use Rattle.rules.specs.Event.{EventKind, message, lost, recovery, linkUp, linkDown, linkMessage, Event}
+use Rattle.rules.specs.Event.{EventKind, message, lost, recovery, linkUp, linkDown, linkMessage, Lent, Event}
 use Rattle.rules.specs.Identifiers.{isKnown, linkOf}
+use Rattle.rules.specs.Records.{linkAt}
 use Rattle.rules.specs.Effect.{Effect, send, changeIn, holdBytes, oneAction, error}
 use Rattle.rules.specs.Asp.{upEffect, downEffect, lostEffect, activeEffect, inactiveEffect, trafficEffect}
 use Rattle.rules.specs.Link.{canHave, classSixEffect, linkUpEffect, linkDownEffect, linkMessageEffect}
@@ -82,16 +83,16 @@ inPlan g (linkDown l) = ltb l (g .links)
 inPlan g (linkMessage s) =
     eqb (verdict s) 0
     && (eqb (readingOf s .class) 6 && (fromLink (readingOf s .msgtype)
-    && (isKnown g (readingOf s .id) && canHave (numberAt (g .highspeed) (linkOf g (readingOf s .id))) (readingOf s .sequence))))
+    && (isKnown g (readingOf s .id) && canHave (linkAt g (linkOf g (readingOf s .id))) (readingOf s .sequence))))
 
 -- the words that an event asks for, or it is refused with 101 (Rule 6.6)
 abbrev pub leastRoom : ℕ
 leastRoom = 1544
 
 -- the first that applies (Rule 6.3)
-unfoldable pub refusalOf : Bool → Bool → ℕ → ℕ → ℕ
-refusalOf sound known hold room =
-    105 if not sound orElse 102 if not known orElse 106 if not (eqb hold holdBytes) orElse 101 if ltb room leastRoom
+unfoldable pub refusalOf : Bool → Bool → Lent → ℕ
+refusalOf sound known lent =
+    105 if not sound orElse 102 if not known orElse 106 if not (eqb (lent .hold) holdBytes) orElse 101 if ltb (lent .room) leastRoom
 
 abbrev pub refusal : Gateway → Event → ℕ
-refusal g e = refusalOf (isSound g) (inPlan g (e .kind)) (e .hold) (e .room)
+refusal g e = refusalOf (isSound g) (inPlan g (e .kind)) (e .lent)

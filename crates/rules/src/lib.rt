@@ -11,6 +11,31 @@ pub struct Outcome {
     pub gateway: Gateway,
 }
 
+// ---- records: what the rules of links are said of (Rule 5.27). A new column of links is a field here, and is read
+// from the state in one place (`linkAt`).
+
+// What is kept of a link: a row of the links' columns.
+pub struct Link {
+    pub id: u32,
+    pub owner: u8,
+    pub state: u8,
+    pub highspeed: u8,
+}
+
+// What the events of a link ask of the AS that owns it: its traffic mode, whether it waits, how many units it holds.
+pub struct Owner {
+    pub mode: u8,
+    pub waiting: u8,
+    pub held: usize,
+}
+
+// What class 6 asks of its sender: whether it is up, a member of the link's owner, and active there.
+pub struct Sender {
+    pub up: u8,
+    pub member: u8,
+    pub active: u8,
+}
+
 // What an accepted event does, as the code decides it before it does it (the definitions' Effect, by `effectIn`). The large fields come first: so the
 // compiler moves them whole.
 pub struct Decision {

@@ -6,3 +6,7 @@ pub mod Refusals
 pub mod Ran
 pub mod Many
 pub mod Parts
+pub mod Stays
+pub mod One
+pub mod Behind
+pub mod Handled

@@ -5,9 +5,8 @@ use action::Action;
 use action::MGMT_ERROR;
 use action::USER_DATA;
 use encode::Written;
-use events::m2ua_run;
-use gateway::Gateway;
 use outgoing::Batch;
+use outgoing::Handled;
 use sent::Sent;
 ghost use mathlib.Core.Path.{_≡_};
 ghost use mathlib.Core.Bool.{true, cond};
@@ -20,20 +19,29 @@ ghost use Rattle.ranges.specs.Inner.Laws.{Table};
 ghost use Rattle.servers.specs.Changed.{columnOf};
 ghost use Rattle.goods.specs.Inner.Made.{ModeFits, GoodMessage};
 ghost use Rattle.ask.specs.Happened.{happened};
+ghost use Rattle.gateway.specs.State.{gatewayOf, unitsOf};
 ghost use Rattle.outgoing.specs.Send.{Sends, SendsMany};
+ghost use Rattle.outgoing.specs.Handle.{Handles};
 ghost use Rattle.outgoing.specs.Inner.Kinds.{lentBy};
 ghost use Rattle.sending.specs.Inner.Part.{partOf, partMade, PutIf, Fits, lentOf, partIn, Ready};
 ghost use Rattle.sending.specs.Inner.Alike.{areAlike, repeatsIn};
 ghost use Rattle.sending.specs.Inner.Parts.{isPartIn};
 ghost use Rattle.sending.specs.Inner.Batch.{Ended};
 ghost use Rattle.sending.specs.Inner.Many.{batchOf};
+ghost use Rattle.sending.specs.Inner.Behind.{linesOf, CanWrite, Wrote};
+ghost use Rattle.sending.specs.Inner.Handled.{codeOf};
 
-// A buffer that is short; no action at the place that goes to an ASP.
+// A list of words that is short; a buffer that is; no action at the place that goes to an ASP.
+const SHORT_LIST: u32 = 101;
+
 const SHORT_BUFFER: u32 = 103;
 
 const NO_SUCH_ACTION: u32 = 104;
 
 const LINK_SIDE: u32 = 255;
+
+// Room for the messages of every event: 2,048 bytes for each of 386 actions.
+const ROOM_BYTES: usize = 790528;
 
 // The message whose parameters go out again: none where the event has none.
 fn received(kind: u32, msg: &[u8]) -> &[u8]
@@ -153,95 +161,6 @@ fn put_new<'a, 'b>(
     let form = outgoing::form_of(x.passed, o, u);
     outgoing::put_form(form, size, msg, shown, iid, owner, t.links, out, t.at);
     size
-}
-
-// The message of the action at a place of an event's actions, written at a buffer's start (Rule 8.15). The event is run with a list of words of its own; of the hold,
-// which only a unit that comes in changes, it is lent nothing.
-#[no_mangle]
-pub extern "C" fn m2ua_order<'a>(
-    g: Gateway,
-    kind: u32,
-    i: usize,
-    msg: &'a [u8],
-    hold: &'a [u8],
-    place: usize,
-    out: &mut [u8],
-) -> Written
-    ensures { λ r. ⌜ Sends g (now (hold .entry)) (happened kind i (now (msg .entry))) place (now (out .entry)) r (now (out .exit)) ⌝ }
-{
-    let mut words = [0u32; 1544];
-    let mut none = [0u8; 0];
-    let done = m2ua_run(g, kind, i, msg, &mut none, hold.len(), &mut words);
-    if done.refusal != 0 {
-        return Written {
-            code: done.refusal,
-            length: 0,
-        };
-    }
-    if done.count <= place {
-        return Written {
-            code: NO_SUCH_ACTION,
-            length: 0,
-        };
-    }
-    let o = sent::action_at(&words, place);
-    if o.to == LINK_SIDE {
-        return Written {
-            code: NO_SUCH_ACTION,
-            length: 0,
-        };
-    }
-    let passed = kind == ask::LINK_MESSAGE;
-    let after = done.gateway.held.count;
-    let u = sent::unit_for(
-        sent::is_data(o) & !passed,
-        &words,
-        place,
-        &g.held.count,
-        &after,
-    );
-    let turn = Turn {
-        o,
-        index: u,
-        passed,
-        links: gateway::wide(g.links),
-        at: 0,
-    };
-    let part = (kind == ask::MESSAGE) & in_part(&words, done.count);
-    let mut block = [0u8; 544];
-    let good = good_if(
-        part,
-        &mut block,
-        msg,
-        turn.links,
-        i,
-        &g.member,
-        &g.iid,
-        &g.owner,
-    );
-    let lent = repeated(part, kind, msg, &block[..good]);
-    let size = put_new(
-        turn,
-        lent,
-        hold,
-        &g.iid,
-        &g.owner,
-        &g.held.tag,
-        &g.held.length,
-        &g.held.marked,
-        &g.held.correlation,
-        out,
-    );
-    if out.len() < size {
-        return Written {
-            code: SHORT_BUFFER,
-            length: 0,
-        };
-    }
-    Written {
-        code: 0,
-        length: size,
-    }
 }
 
 // How far a batch came: actions gone through, bytes written.
@@ -394,6 +313,79 @@ fn put_many<'a, 'b>(
     }
 }
 
+// What an event gave: its kind and index, the number of its actions, the place from which on they are
+// written, and how many links there are.
+pub struct Given {
+    pub kind: u32,
+    pub index: usize,
+    pub count: usize,
+    pub place: usize,
+    pub links: u8,
+}
+
+// The same for an event that was run: `was` and `after` are the counts of units held before and behind it;
+// all else that is lent is as it was before.
+fn put_from<'a, 'b>(
+    t: Given,
+    words: &[u32; 1544],
+    msg: &'b [u8],
+    hold: &'b [u8],
+    member: &'a [u8; 256],
+    iid: &'a [u32; 128],
+    owner: &'a [u8; 128],
+    was: &'a [u8; 16],
+    after: &'a [u8; 16],
+    tags: &'a [u16; 128],
+    lengths: &'a [u16; 128],
+    marks: &'a [u16; 128],
+    correlations: &'a [u32; 128],
+    lens: &mut [u32],
+    out: &mut [u8],
+) -> Reached
+    requires { ⌜ CanWrite t (linesOf (now member) (now iid) (now owner) (now was) (now after) (now tags) (now lengths) (now marks) (now correlations)) (now words) (now msg) (now hold) ⌝ }
+    ensures few { λ r. ⌜ t .place + r .count ≤ t .count ⌝ }
+    ensures wrote { λ r. ⌜ Wrote t (linesOf (now (member .entry)) (now (iid .entry)) (now (owner .entry)) (now (was .entry)) (now (after .entry)) (now (tags .entry)) (now (lengths .entry)) (now (marks .entry)) (now (correlations .entry))) (now (words .entry)) (now (msg .entry)) (now (hold .entry)) (now (lens .entry)) (now (out .entry)) (r .count) (r .length) (now (lens .exit)) (now (out .exit)) ⌝ }
+{
+    let kind = t.kind;
+    let run = Run {
+        count: t.count,
+        place: t.place,
+        passed: kind == ask::LINK_MESSAGE,
+        links: gateway::wide(t.links),
+    };
+    let list = sent::gone(was, after);
+    let part = (kind == ask::MESSAGE) & in_part(words, t.count);
+    let mut block = [0u8; 544];
+    let good = good_if(
+        part,
+        &mut block,
+        msg,
+        run.links,
+        t.index,
+        member,
+        iid,
+        owner,
+    );
+    let lent = repeated(part, kind, msg, &block[..good]);
+    put_many(
+        run,
+        words,
+        &list,
+        lent,
+        hold,
+        iid,
+        owner,
+        tags,
+        lengths,
+        marks,
+        correlations,
+        lens,
+        out,
+    )
+}
+
+// ---- the actions of an event that is not kept: the state is only read
+
 // What is handed back of a batch: 103 where not one action went in.
 fn batch_of(r: Reached) -> Batch
     ensures { λ b. ⌜ b ≡ batchOf (r .count) (r .length) ⌝ }
@@ -412,10 +404,32 @@ fn batch_of(r: Reached) -> Batch
     }
 }
 
-// From a place of an event's actions on, the messages of as many as go into a buffer, and the length of each (Rule 8.16): the event is run once.
+// From a place of an event's actions on, the messages of as many as go into a buffer, and the length of
+// each (Rule 8.16). The event is run once, with a list of words of its own, on copies of the columns that
+// events change; of the hold, which only a unit that comes in changes, it is lent nothing.
 #[no_mangle]
-pub extern "C" fn m2ua_orders<'a>(
-    g: Gateway,
+pub extern "C" fn m2ua_orders_at<'a>(
+    asps: u8,
+    ases: u8,
+    links: u8,
+    spare: u8,
+    aspid: &'a [u32; 16],
+    up: &'a [u8; 16],
+    member: &'a [u8; 256],
+    active: &'a [u8; 256],
+    mode: &'a [u8; 16],
+    waiting: &'a [u8; 16],
+    iid: &'a [u32; 128],
+    owner: &'a [u8; 128],
+    state: &'a [u8; 128],
+    highspeed: &'a [u8; 128],
+    wholelists: &'a [u8; 16],
+    count: &'a [u8; 16],
+    tag: &'a [u16; 128],
+    len: &'a [u16; 128],
+    marked: &'a [u16; 128],
+    id: &'a [u32; 128],
+    correlation: &'a [u32; 128],
     kind: u32,
     i: usize,
     msg: &'a [u8],
@@ -424,11 +438,49 @@ pub extern "C" fn m2ua_orders<'a>(
     lens: &mut [u32],
     out: &mut [u8],
 ) -> Batch
-    ensures { λ r. ⌜ SendsMany g (now (hold .entry)) (happened kind i (now (msg .entry))) place (now (lens .entry)) (now (out .entry)) r (now (lens .exit)) (now (out .exit)) ⌝ }
+    ensures { λ r. ⌜ SendsMany (gatewayOf asps ases links spare (now (aspid .entry)) (now (up .entry)) (now (member .entry)) (now (active .entry)) (now (mode .entry)) (now (waiting .entry)) (now (iid .entry)) (now (owner .entry)) (now (state .entry)) (now (highspeed .entry)) (now (wholelists .entry)) (unitsOf (now (count .entry)) (now (tag .entry)) (now (len .entry)) (now (marked .entry)) (now (id .entry)) (now (correlation .entry)))) (now (hold .entry)) (happened kind i (now (msg .entry))) place (now (lens .entry)) (now (out .entry)) r (now (lens .exit)) (now (out .exit)) ⌝ }
 {
+    let mut new_up = *up;
+    let mut new_active = *active;
+    let mut new_waiting = *waiting;
+    let mut new_state = *state;
+    let mut new_count = *count;
+    let mut new_tag = *tag;
+    let mut new_len = *len;
+    let mut new_marked = *marked;
+    let mut new_id = *id;
+    let mut new_correlation = *correlation;
     let mut words = [0u32; 1544];
     let mut none = [0u8; 0];
-    let done = m2ua_run(g, kind, i, msg, &mut none, hold.len(), &mut words);
+    let done = events::run(
+        asps,
+        ases,
+        links,
+        spare,
+        aspid,
+        &mut new_up,
+        member,
+        &mut new_active,
+        mode,
+        &mut new_waiting,
+        iid,
+        owner,
+        &mut new_state,
+        highspeed,
+        wholelists,
+        &mut new_count,
+        &mut new_tag,
+        &mut new_len,
+        &mut new_marked,
+        &mut new_id,
+        &mut new_correlation,
+        kind,
+        i,
+        msg,
+        &mut none,
+        hold.len(),
+        &mut words,
+    );
     if done.refusal != 0 {
         return Batch {
             code: done.refusal,
@@ -443,41 +495,278 @@ pub extern "C" fn m2ua_orders<'a>(
             length: 0,
         };
     }
-    let run = Run {
+    let given = Given {
+        kind,
+        index: i,
         count: done.count,
         place,
-        passed: kind == ask::LINK_MESSAGE,
-        links: gateway::wide(g.links),
+        links,
     };
-    let after = done.gateway.held.count;
-    let list = sent::gone(&g.held.count, &after);
-    let part = (kind == ask::MESSAGE) & in_part(&words, done.count);
-    let mut block = [0u8; 544];
-    let good = good_if(
-        part,
-        &mut block,
-        msg,
-        run.links,
-        i,
-        &g.member,
-        &g.iid,
-        &g.owner,
-    );
-    let lent = repeated(part, kind, msg, &block[..good]);
-    let reached = put_many(
-        run,
+    let reached = put_from(
+        given,
         &words,
-        &list,
-        lent,
+        msg,
         hold,
-        &g.iid,
-        &g.owner,
-        &g.held.tag,
-        &g.held.length,
-        &g.held.marked,
-        &g.held.correlation,
+        member,
+        iid,
+        owner,
+        count,
+        &new_count,
+        tag,
+        len,
+        marked,
+        correlation,
         lens,
         out,
     );
     batch_of(reached)
+}
+
+// The message of the action at a place of an event's actions, written at a buffer's start (Rule 8.15): the
+// first from that place on. One to the link side has no bytes.
+#[no_mangle]
+pub extern "C" fn m2ua_order_at<'a>(
+    asps: u8,
+    ases: u8,
+    links: u8,
+    spare: u8,
+    aspid: &'a [u32; 16],
+    up: &'a [u8; 16],
+    member: &'a [u8; 256],
+    active: &'a [u8; 256],
+    mode: &'a [u8; 16],
+    waiting: &'a [u8; 16],
+    iid: &'a [u32; 128],
+    owner: &'a [u8; 128],
+    state: &'a [u8; 128],
+    highspeed: &'a [u8; 128],
+    wholelists: &'a [u8; 16],
+    count: &'a [u8; 16],
+    tag: &'a [u16; 128],
+    len: &'a [u16; 128],
+    marked: &'a [u16; 128],
+    id: &'a [u32; 128],
+    correlation: &'a [u32; 128],
+    kind: u32,
+    i: usize,
+    msg: &'a [u8],
+    hold: &'a [u8],
+    place: usize,
+    out: &mut [u8],
+) -> Written
+    ensures { λ r. ⌜ Sends (gatewayOf asps ases links spare (now (aspid .entry)) (now (up .entry)) (now (member .entry)) (now (active .entry)) (now (mode .entry)) (now (waiting .entry)) (now (iid .entry)) (now (owner .entry)) (now (state .entry)) (now (highspeed .entry)) (now (wholelists .entry)) (unitsOf (now (count .entry)) (now (tag .entry)) (now (len .entry)) (now (marked .entry)) (now (id .entry)) (now (correlation .entry)))) (now (hold .entry)) (happened kind i (now (msg .entry))) place (now (out .entry)) r (now (out .exit)) ⌝ }
+{
+    let mut one = [0u32; 1];
+    let batch = m2ua_orders_at(
+        asps,
+        ases,
+        links,
+        spare,
+        aspid,
+        up,
+        member,
+        active,
+        mode,
+        waiting,
+        iid,
+        owner,
+        state,
+        highspeed,
+        wholelists,
+        count,
+        tag,
+        len,
+        marked,
+        id,
+        correlation,
+        kind,
+        i,
+        msg,
+        hold,
+        place,
+        &mut one,
+        out,
+    );
+    if batch.code != 0 {
+        return Written {
+            code: batch.code,
+            length: 0,
+        };
+    }
+    if batch.length == 0 {
+        return Written {
+            code: NO_SUCH_ACTION,
+            length: 0,
+        };
+    }
+    Written {
+        code: 0,
+        length: batch.length,
+    }
+}
+
+// ---- the event and its messages in one call
+
+// The refusal of the one call: it lends a list of words that is too short only where the buffer is.
+fn code_of(refusal: u32) -> u32
+    ensures { λ r. ⌜ r ≡ codeOf refusal ⌝ }
+{
+    if refusal == SHORT_LIST {
+        return SHORT_BUFFER;
+    }
+    refusal
+}
+
+// The event, on the state where it lies, and the messages of all its actions (Rule 8.20). What the bytes
+// are made of and events change, the units' columns, is copied out before it; the hold stays where there
+// are actions.
+#[no_mangle]
+pub extern "C" fn m2ua_handle_at<'a>(
+    asps: u8,
+    ases: u8,
+    links: u8,
+    spare: u8,
+    aspid: &'a [u32; 16],
+    up: &mut [u8; 16],
+    member: &'a [u8; 256],
+    active: &mut [u8; 256],
+    mode: &'a [u8; 16],
+    waiting: &mut [u8; 16],
+    iid: &'a [u32; 128],
+    owner: &'a [u8; 128],
+    state: &mut [u8; 128],
+    highspeed: &'a [u8; 128],
+    wholelists: &'a [u8; 16],
+    count: &mut [u8; 16],
+    tag: &mut [u16; 128],
+    len: &mut [u16; 128],
+    marked: &mut [u16; 128],
+    id: &mut [u32; 128],
+    correlation: &mut [u32; 128],
+    kind: u32,
+    i: usize,
+    msg: &[u8],
+    hold: &mut [u8],
+    words: &mut [u32; 1544],
+    lens: &mut [u32; 386],
+    out: &mut [u8],
+) -> Handled
+    ensures { λ r. ⌜ Handles (gatewayOf asps ases links spare (now (aspid .entry)) (now (up .entry)) (now (member .entry)) (now (active .entry)) (now (mode .entry)) (now (waiting .entry)) (now (iid .entry)) (now (owner .entry)) (now (state .entry)) (now (highspeed .entry)) (now (wholelists .entry)) (unitsOf (now (count .entry)) (now (tag .entry)) (now (len .entry)) (now (marked .entry)) (now (id .entry)) (now (correlation .entry)))) (happened kind i (now (msg .entry))) (now (hold .entry)) (now (words .entry)) (now (lens .entry)) (now (out .entry)) r (gatewayOf asps ases links spare (now (aspid .entry)) (now (up .exit)) (now (member .entry)) (now (active .exit)) (now (mode .entry)) (now (waiting .exit)) (now (iid .entry)) (now (owner .entry)) (now (state .exit)) (now (highspeed .entry)) (now (wholelists .entry)) (unitsOf (now (count .exit)) (now (tag .exit)) (now (len .exit)) (now (marked .exit)) (now (id .exit)) (now (correlation .exit)))) (now (hold .exit)) (now (words .exit)) (now (lens .exit)) (now (out .exit)) ⌝ }
+{
+    let size = hold.len();
+    if out.len() < ROOM_BYTES {
+        // With no words it is refused: nothing changes.
+        let mut no_words = [0u32; 0];
+        let done = events::run(
+            asps,
+            ases,
+            links,
+            spare,
+            aspid,
+            up,
+            member,
+            active,
+            mode,
+            waiting,
+            iid,
+            owner,
+            state,
+            highspeed,
+            wholelists,
+            count,
+            tag,
+            len,
+            marked,
+            id,
+            correlation,
+            kind,
+            i,
+            msg,
+            hold,
+            size,
+            &mut no_words,
+        );
+        return Handled {
+            refusal: code_of(done.refusal),
+            count: 0,
+            length: 0,
+        };
+    }
+    let was = *count;
+    let tags = *tag;
+    let lengths = *len;
+    let marks = *marked;
+    let correlations = *correlation;
+    let done = events::run(
+        asps,
+        ases,
+        links,
+        spare,
+        aspid,
+        up,
+        member,
+        active,
+        mode,
+        waiting,
+        iid,
+        owner,
+        state,
+        highspeed,
+        wholelists,
+        count,
+        tag,
+        len,
+        marked,
+        id,
+        correlation,
+        kind,
+        i,
+        msg,
+        hold,
+        size,
+        words,
+    );
+    if done.refusal != 0 {
+        return Handled {
+            refusal: code_of(done.refusal),
+            count: 0,
+            length: 0,
+        };
+    }
+    if done.count == 0 {
+        return Handled {
+            refusal: 0,
+            count: 0,
+            length: 0,
+        };
+    }
+    let given = Given {
+        kind,
+        index: i,
+        count: done.count,
+        place: 0,
+        links,
+    };
+    let reached = put_from(
+        given,
+        words,
+        msg,
+        hold,
+        member,
+        iid,
+        owner,
+        &was,
+        count,
+        &tags,
+        &lengths,
+        &marks,
+        &correlations,
+        lens,
+        out,
+    );
+    Handled {
+        refusal: 0,
+        count: reached.count,
+        length: reached.length,
+    }
 }

@@ -12,7 +12,7 @@ use eventline::lent;
 use eventline::put_outcome;
 use eventline::put_reached;
 use gateway::Gateway;
-use rules::Outcome;
+use node::Next;
 use text::Number;
 use text::Size;
 use text::bytes_of;
@@ -157,13 +157,14 @@ fn write(rest: &[u8], bytes: &mut [u8; 32768], out: &mut [u8; 65536], s: State) 
 
 // ---- `msg`, `lost`, `recovery`, `up`, `down`, `linkmsg`
 
-// The text of an outcome; its gateway becomes the current one.
-fn told(o: Outcome, list: &[u32; 2048], out: &mut [u8; 65536], s: State) -> State
+// The text of what an event hands back; its gateway becomes the current one.
+fn told(o: Next, list: &[u32; 2048], out: &mut [u8; 65536], s: State) -> State
     requires { ⌜ (s .used + 18000 ≤ 65536) × (o .count ≤ 386) ⌝ }
     ensures { λ r. ⌜ r .used ≤ s .used + 18000 ⌝ }
 {
     let next = put_outcome(out, s.used, o.refusal, o.count as u32, list);
-    let gateway = o.gateway;
+    let node = o.node;
+    let gateway = node.gateway;
     State {
         used: next,
         lends: s.lends,
@@ -186,7 +187,7 @@ fn run_with(
     size: usize,
     words: &mut [u32],
     g: Gateway,
-) -> Outcome
+) -> Next
     requires { ⌜ size ≤ 65536 ⌝ }
     ensures { λ r. ⌜ r .count ≤ 386 ⌝ }
 {

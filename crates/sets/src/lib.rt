@@ -23,15 +23,18 @@ pub fn with_as(bits: u32, a: usize) -> u32
     bits | (1u32 << (a as u32))
 }
 
-// The set, with AS a where t holds.
+fn bit(t: bool) -> u32
+    ensures { λ r. ⌜ r ≡ cond t 1 0 ⌝ }
+{
+    if t { 1 } else { 0 }
+}
+
+// The set, with AS a where t holds. (Without a branch: of many identifiers nobody can tell ahead which are known.)
 pub fn with_if(bits: u32, a: usize, t: bool) -> u32
     requires { ⌜ a < 16 ⌝ }
     ensures { λ r. ⌜ flagsOf r ≡ cond t (set (flagsOf bits) a true) (flagsOf bits) ⌝ }
 {
-    if t {
-        return with_as(bits, a);
-    }
-    bits
+    bits | (bit(t) << (a as u32))
 }
 
 // Whether every AS of the set is in the other one.

@@ -134,7 +134,8 @@ fn messages_as_events() {
         let event = links::event_of(message, &g).unwrap();
         assert_eq!(event, Event::LinkMessage { message });
         let refusal = g
-            .event(&event, &mut Hold::new(), &mut Orders::new())
+            .clone()
+            .handle(&event, &mut Hold::new(), &mut Orders::new())
             .unwrap_err();
         assert_eq!(
             (refusal.code(), links::why_refused(message, &g)),

@@ -132,24 +132,26 @@ impl Runner {
         self.event += 1;
         let event = happening.event();
         self.comes_in(&event);
-        let Some(g) = self.gateway else {
+        let Some(g) = self.gateway.clone() else {
             return self.refused(sys::REFUSED_STATE);
         };
-        let mut hold = self.hold.clone();
-        let next = match g.event(&event, &mut hold, &mut self.orders) {
+        let (mut next, mut hold) = (g.clone(), self.hold.clone());
+        match next.handle(&event, &mut hold, &mut self.orders) {
             Ok(_) if self.lent != sys::HOLD_BYTES => return self.refused(sys::REFUSED_HOLD),
             Ok(_) if list < sys::LIST_WORDS => return self.refused(sys::REFUSED_LIST),
-            Ok(next) => next,
+            Ok(()) => {}
             Err(no) => return self.refused(no.code()),
         };
-        let orders: Vec<_> = self.orders.iter().collect();
-        for (order, message) in orders.iter().zip(g.messages(&event, &hold)) {
+        let sent: Vec<_> = (self.orders.messages())
+            .map(|(order, message)| (order, message.to_vec()))
+            .collect();
+        for (order, message) in sent {
             let text = order.to_string();
             let label = text
                 .split_once(": ")
                 .map_or(text.as_str(), |(_, words)| words);
             match (order.to, message) {
-                (Addressee::Asp(p), Ok(Some(bytes))) => {
+                (Addressee::Asp(p), bytes) => {
                     self.step(What::Message(Lane::Gateway, Lane::Asp(p), bytes), label)
                 }
                 _ => self.step(What::Primitive(Lane::Gateway, Lane::LinkSide), label),
@@ -191,7 +193,7 @@ impl Runner {
     }
 
     fn link(&self, place: usize) -> String {
-        match self.gateway.and_then(|g| g.interface_id(place)) {
+        match (self.gateway.as_ref()).and_then(|g| g.interface_id(place)) {
             Some(id) => format!("link {id}"),
             None => format!("link at place {place}"),
         }

@@ -16,31 +16,29 @@ struct Host {
 }
 
 impl Host {
-    /// An event: its orders in words, then as bytes, which come from the state before the event and the hold; then what has changed.
+    /// An event: its orders in words and as bytes; then what has changed.
     fn happens(&mut self, what: &str, event: Event<'_>) -> Result<(), Refusal> {
         println!("{what}");
-        let next = match self.gateway.event(&event, &mut self.hold, &mut self.orders) {
-            Ok(next) => next,
-            Err(no) => {
-                println!("  refused: {no}");
-                return Ok(());
-            }
-        };
-        for (place, message) in self.gateway.messages(&event, &self.hold).enumerate() {
-            let order = self.orders.get(place).expect("as many messages as orders");
+        // only to print what has changed, and to show orders one by one: a host needs no copy
+        let (before, kept) = (self.gateway.clone(), self.hold.clone());
+        if let Err(no) = (self.gateway).handle(&event, &mut self.hold, &mut self.orders) {
+            println!("  refused: {no}");
+            return Ok(());
+        }
+        for (place, (order, bytes)) in self.orders.messages().enumerate() {
             println!("  {order}");
-            match (order.to, message?, event) {
-                (Addressee::Asp(asp), Some(bytes), _) => {
-                    send_to_asp(asp, &bytes);
-                    // one order by itself is the same message
-                    assert_eq!(self.gateway.order(&event, &self.hold, place)?, bytes);
+            match (order.to, event) {
+                (Addressee::Asp(asp), _) => {
+                    send_to_asp(asp, bytes);
+                    // what the event would send, asked of the state before it, is the same message
+                    assert_eq!(before.order(&event, &kept, place)?, bytes);
                 }
-                (Addressee::LinkSide, _, Event::Message { message, .. })
+                (Addressee::LinkSide, Event::Message { message, .. })
                     if order.message == MessageType::Data =>
                 {
                     send_to_link(order.subject, message)
                 }
-                (Addressee::LinkSide, _, Event::Message { message, .. })
+                (Addressee::LinkSide, Event::Message { message, .. })
                     if order.message == MessageType::RetrievalRequest =>
                 {
                     self.retrieve(order.subject, message)?
@@ -48,17 +46,16 @@ impl Host {
                 _ => {}
             }
         }
-        self.changes(&next);
-        self.gateway = next;
+        self.changes(&before);
         Ok(())
     }
 
     /// What has changed: the states of ASes, the timers that start and stop, the units held.
-    fn changes(&self, next: &Gateway) {
-        let timers = self.gateway.timers(next);
-        for a in 0..next.ases() {
-            match next.as_state(a) {
-                Some(state) if self.gateway.as_state(a) != Some(state) => {
+    fn changes(&self, before: &Gateway) {
+        let timers = self.orders.timers();
+        for a in 0..self.gateway.ases() {
+            match self.gateway.as_state(a) {
+                Some(state) if before.as_state(a) != Some(state) => {
                     println!("  AS {a} is {state}")
                 }
                 _ => {}
@@ -71,15 +68,15 @@ impl Host {
                 .stopped()
                 .filter(|&b| a == b)
                 .for_each(|_| println!("  timer: stop T(r) of AS {a}"));
-            self.units(next, a);
+            self.units(before, a);
         }
     }
 
     /// The units that an AS holds since an event, with their bytes in the hold; or how many it holds no longer.
-    fn units(&self, next: &Gateway, a: usize) {
-        let (was, is) = (self.gateway.held(a).count(), next.held(a).count());
-        for (k, unit) in next.held(a).enumerate().skip(was) {
-            let bytes = next.unit_bytes(&self.hold, a, k).expect("a unit held");
+    fn units(&self, before: &Gateway, a: usize) {
+        let (was, is) = (before.held(a).count(), self.gateway.held(a).count());
+        for (k, unit) in self.gateway.held(a).enumerate().skip(was) {
+            let bytes = (self.gateway.unit_bytes(&self.hold, a, k)).expect("a unit held");
             print!(
                 "  AS {a} holds a unit ({:#x}) of link {}: {}",
                 unit.tag,

@@ -53,15 +53,14 @@ fn full() -> Gateway {
         write(MessageType::Active, &[]).expect("an Active"),
     );
     for asp in 0..16 {
-        g = g
-            .event(
-                &Event::Message { asp, message: &up },
-                &mut hold,
-                &mut orders,
-            )
-            .expect("accepted");
+        g.handle(
+            &Event::Message { asp, message: &up },
+            &mut hold,
+            &mut orders,
+        )
+        .expect("accepted");
     }
-    g.event(
+    g.handle(
         &Event::Message {
             asp: 0,
             message: &active,
@@ -69,12 +68,18 @@ fn full() -> Gateway {
         &mut hold,
         &mut orders,
     )
-    .expect("accepted")
+    .expect("accepted");
+    g
 }
 
 fn main() {
-    let g = full();
-    let (mut orders, mut words, mut out) = (Orders::new(), [0u32; sys::LIST_WORDS], [0u8; 16384]);
+    let mut g = full();
+    let mut state = *g.raw();
+    let (mut orders, mut words, mut out) = (
+        Orders::new(),
+        [0u32; sys::LIST_WORDS],
+        vec![0u8; sys::ROOM_BYTES],
+    );
     let (mut hold, mut bytes) = (Hold::new(), vec![0u8; sys::HOLD_BYTES]);
     let mut lens = [0u32; sys::MAX_ORDERS];
     let parameters = [
@@ -82,10 +87,7 @@ fn main() {
         Parameter::new(sys::TAG_DATA_1, &[7; 64]),
     ];
     let data = write(MessageType::Data, &parameters).expect("a Data");
-    let (up, beat) = (
-        write(MessageType::Up, &[]).expect("an Up"),
-        write(MessageType::Beat, &[]).expect("a Beat"),
-    );
+    let beat = write(MessageType::Beat, &[]).expect("a Beat");
     let values: Vec<u8> = parameters.iter().flat_map(|p| p.value).copied().collect();
     println!(
         "{:<44} {:>9} {:>9} {:>7}",
@@ -112,52 +114,29 @@ fn main() {
             )
         },
     );
+    // an Active of one that is active changes nothing, so both meet the same state each time
+    let active = write(MessageType::Active, &[]).expect("an Active");
     for (what, message) in [
-        ("Beat, full plan", &beat),
-        ("Up with 258 orders, full plan", &up),
+        ("Beat and its message, full plan", &beat),
+        ("Active and its message, full plan", &active),
     ] {
         let event = Event::Message { asp: 0, message };
         compare(
             what,
             2000,
-            || g.event(black_box(&event), &mut hold, &mut orders),
-            || sys::event(black_box(g.raw()), 0, 0, message, &mut bytes, &mut words),
+            || g.handle(black_box(&event), &mut hold, &mut orders),
+            || {
+                sys::handle(
+                    black_box(&mut state),
+                    0,
+                    0,
+                    message,
+                    &mut bytes,
+                    &mut words,
+                    &mut lens,
+                    &mut out,
+                )
+            },
         );
     }
-    let event = Event::Message {
-        asp: 0,
-        message: &up,
-    };
-    let mut batch = || {
-        sys::orders(
-            black_box(g.raw()),
-            0,
-            0,
-            &up,
-            &bytes,
-            0,
-            &mut lens,
-            &mut out,
-        )
-    };
-    compare(
-        "its messages: iterator, against one batch",
-        100,
-        || g.messages(black_box(&event), &hold).count(),
-        &mut batch,
-    );
-    compare(
-        "its messages: lent buffers, against one batch",
-        100,
-        || {
-            g.orders_into(
-                black_box(&event),
-                &hold,
-                0,
-                &mut [0; sys::MAX_ORDERS],
-                &mut [0; 16384],
-            )
-        },
-        &mut batch,
-    );
 }

@@ -103,6 +103,18 @@ pub struct Timers {
 }
 
 impl Timers {
+    pub(crate) const NONE: Timers = Timers {
+        waits: sys::Waits {
+            began: [0; sys::MAX_ASES],
+            ended: [0; sys::MAX_ASES],
+        },
+    };
+
+    /// Whether there is nothing to start and nothing to stop.
+    pub fn is_empty(&self) -> bool {
+        *self == Timers::NONE
+    }
+
     /// The ASes whose timer is to be started.
     pub fn started(&self) -> impl Iterator<Item = usize> + '_ {
         (0..sys::MAX_ASES).filter(|&a| self.waits.began[a] == 1)
@@ -114,10 +126,12 @@ impl Timers {
     }
 }
 
-/// The gateway's state (Rule 5.1): the plan, and what events have made of it. A value: copy it, keep it, throw it away.
+/// The gateway's state (Rule 5.1): the plan, and what events have made of it. It lives where the host keeps it, and events
+/// change it there. A clone is another gateway, with a hold of its own: clone the [`Hold`] with it.
 ///
-/// ASPs and ASes are named by number and links by place, all from 0 in the plan's order. What lies beyond the plan is `false`, 0 or `None`.
-#[derive(Clone, Copy, PartialEq, Eq)]
+/// ASPs and ASes are named by number and links by place, all from 0 in the plan's order. What lies beyond the plan is
+/// `false`, 0 or `None`.
+#[derive(Clone, PartialEq, Eq)]
 pub struct Gateway {
     pub(crate) state: sys::Gateway,
 }
@@ -151,35 +165,54 @@ impl Gateway {
         &self.state
     }
 
-    /// An event on this state: its orders go to `orders`, and the next state is handed back. `hold` is the one that goes with this state, and then with the next: Data for an AS
-    /// that is pending is put there. Refused (102), there are no orders and the hold is as it was; this state is as it was in either case.
-    pub fn event(
-        &self,
+    /// An event: the state becomes the next one, and `orders` has all that is to be done: the orders, their messages, the
+    /// timers. `hold` is the one that goes with this state: Data for an AS that is pending is put there. Refused (102),
+    /// state and hold are as they were, and `orders` is empty.
+    ///
+    /// ```
+    /// # use m2ua::{Addressee, Event, Gateway, Hold, Orders, Refusal};
+    /// # fn host(gateway: &mut Gateway, hold: &mut Hold, orders: &mut Orders, bytes: &[u8], send: fn(usize, &[u8])) -> Result<(), Refusal> {
+    /// gateway.handle(&Event::Message { asp: 0, message: bytes }, hold, orders)?;
+    /// for (order, message) in orders.messages() {
+    ///     match order.to {
+    ///         Addressee::Asp(asp) => send(asp, message),
+    ///         Addressee::LinkSide => { /* order.message says what, order.subject which link */ }
+    ///     }
+    /// }
+    /// for r#as in orders.timers().started() { /* start T(r) */ }
+    /// for r#as in orders.timers().stopped() { /* stop it */ }
+    /// # Ok(())
+    /// # }
+    /// ```
+    pub fn handle(
+        &mut self,
         event: &Event<'_>,
         hold: &mut Hold,
         orders: &mut Orders,
-    ) -> Result<Gateway, Refusal> {
+    ) -> Result<(), Refusal> {
         let (kind, index, message) = event.parts();
-        orders.count = 0;
-        let outcome = sys::event(
-            &self.state,
+        let before = self.state.waiting;
+        let handled = sys::handle(
+            &mut self.state,
             kind,
             index,
             message,
             &mut hold.bytes[..],
-            &mut orders.words[..],
+            &mut orders.words,
+            &mut orders.lens,
+            &mut orders.bytes,
         );
-        Refusal::check(outcome.refusal)?;
-        orders.count = outcome.count;
-        Ok(Gateway {
-            state: outcome.gateway,
-        })
+        orders.count = handled.count;
+        orders.timers = Timers {
+            waits: sys::waits(&before, &self.state.waiting),
+        };
+        Refusal::check(handled.refusal)
     }
 
-    /// The recovery timers to start and to stop after an event that led from this state to the next.
+    /// The recovery timers to start and to stop where this state was before an event, or before several, and `next` is after.
     pub fn timers(&self, next: &Gateway) -> Timers {
         Timers {
-            waits: sys::waits(&self.state, &next.state),
+            waits: sys::waits(&self.state.waiting, &next.state.waiting),
         }
     }
 
@@ -238,7 +271,7 @@ impl Gateway {
     /// let active = write(MessageType::Active, &[Parameter::new(sys::TAG_INTERFACE_ID, &[0, 0, 0, 100, 0, 0, 0, 101])])?;
     /// for (asp, answer) in [(0, "to ASP 0: ASP Active Ack"), (1, "to ASP 1: Error 2 (invalid interface identifier 101)")] {
     ///     for message in [&up, &active] {
-    ///         gateway = gateway.event(&Event::Message { asp, message }, &mut hold, &mut orders)?;
+    ///         gateway.handle(&Event::Message { asp, message }, &mut hold, &mut orders)?;
     ///     }
     ///     assert_eq!(orders.get(0).unwrap().to_string(), answer);
     ///     assert_eq!(gateway.is_active(0, asp), asp == 0);
@@ -278,7 +311,7 @@ impl Gateway {
     /// assert_eq!([0, 1, 2].map(|link| gateway.is_high_speed(link)), [false, true, false]);
     /// let (up, active) = (write(MessageType::Up, &[])?, write(MessageType::Active, &[])?);
     /// for message in [&up, &active] {
-    ///     gateway = gateway.event(&Event::Message { asp: 0, message }, &mut hold, &mut orders)?;
+    ///     gateway.handle(&Event::Message { asp: 0, message }, &mut hold, &mut orders)?;
     /// }
     /// // The ASP asks both for what they have sent after number 128.
     /// for (id, answer) in [(200u32, "to the link side: Data Retrieval Request of link 200, action 2"), (100, "to ASP 0: Error 17 (invalid parameter value)")] {
@@ -287,7 +320,7 @@ impl Gateway {
     ///         Parameter::new(sys::TAG_RETRIEVAL_ACTION, &sys::RETRIEVE_MESSAGES.to_be_bytes()),
     ///         Parameter::new(sys::TAG_SEQUENCE, &128u32.to_be_bytes()),
     ///     ])?;
-    ///     gateway = gateway.event(&Event::Message { asp: 0, message: &request }, &mut hold, &mut orders)?;
+    ///     gateway.handle(&Event::Message { asp: 0, message: &request }, &mut hold, &mut orders)?;
     ///     assert_eq!(orders.get(0).unwrap().to_string(), answer);
     /// }
     /// # Ok::<(), m2ua::Refusal>(())

@@ -3,8 +3,8 @@ use crate::gateway::Gateway;
 use crate::sys;
 use std::fmt;
 
-/// The hold (Rule 5.22): the bytes of the units that wait with a pending AS. Make one for each gateway, keep it beside the state, and lend it to every event and to what
-/// writes that event's orders as bytes. The state says which units there are, the hold has their bytes; so whoever copies or stores the one copies or stores the other.
+/// The hold (Rule 5.22): the bytes of the units that wait with a pending AS. Make one for each gateway, keep it beside the state, and lend it to
+/// every event. The state says which units there are, the hold has their bytes; so whoever copies or stores the one copies or stores the other.
 ///
 /// ```
 /// use m2ua::{sys, write, Event, Gateway, Hold, MessageType, Orders, Parameter};
@@ -25,17 +25,18 @@ use std::fmt;
 ///     Event::LinkMessage { message: &data },
 ///     Event::Message { asp: 0, message: &up },
 /// ] {
-///     gateway = gateway.event(&event, &mut hold, &mut orders)?;
+///     gateway.handle(&event, &mut hold, &mut orders)?;
 /// }
 /// let held: Vec<_> = gateway.held(0).collect();
 /// assert_eq!((held.len(), held[0].link, held[0].correlation), (1, 100, None));
 /// assert_eq!(gateway.unit_bytes(&hold, 0, 0), Some(&b"unit"[..]));
 /// // It is the first that the ASP gets when it is back, behind the Ack.
 /// let back = Event::Message { asp: 0, message: &active };
-/// let next = gateway.event(&back, &mut hold, &mut orders)?;
-/// assert_eq!(orders.get(1).unwrap().to_string(), "to ASP 0: Data of link 100");
-/// assert_eq!(gateway.order(&back, &hold, 1)?, data);
-/// assert_eq!(next.held(0).count(), 0);
+/// gateway.handle(&back, &mut hold, &mut orders)?;
+/// let (order, message) = orders.messages().nth(1).unwrap();
+/// assert_eq!(order.to_string(), "to ASP 0: Data of link 100");
+/// assert_eq!(message, data);
+/// assert_eq!(gateway.held(0).count(), 0);
 /// # Ok::<(), m2ua::Refusal>(())
 /// ```
 #[derive(Clone, PartialEq, Eq)]

@@ -1,8 +1,8 @@
 //! The M2UA side (RFC 3331) of a signalling gateway: SS7 links come in, call controllers (ASPs) take them over by M2UA messages. This crate is a safe layer over the
 //! proved library `libm2ua.a`; it adds types, words and no rule of its own. The rules are in docs/RULES.md, the guide for hosts is docs/HOST.md.
 //!
-//! A host has SCTP, timers and MTP2. It loads a [`Gateway`] from a plan file, makes a [`Hold`] to go with it, and for each thing that happens it makes an [`Event`], calls
-//! [`Gateway::event`], carries out the [`Orders`] and keeps the next state:
+//! A host has SCTP, timers and MTP2. It loads a [`Gateway`] from a plan file, makes a [`Hold`] to go with it and [`Orders`] to
+//! lend, and for each thing that happens it makes an [`Event`], calls [`Gateway::handle`] and carries out what the orders say:
 //!
 //! ```
 //! use m2ua::{Addressee, Event, Gateway, Hold, MessageType, Orders};
@@ -14,19 +14,19 @@
 //!     0, 0, 0, 1, // an AS: mode
 //!     0, 0, 0, 100, 0, 0, 0, 0, // a link: identifier, kind, owner
 //! ];
-//! let gateway = Gateway::load(&plan)?;
-//! let (mut hold, mut orders) = (Hold::new(), Orders::new());
+//! let (mut gateway, mut hold, mut orders) = (Gateway::load(&plan)?, Hold::new(), Orders::new());
 //! let up = m2ua::write(MessageType::Up, &[])?;
-//! let next = gateway.event(&Event::Message { asp: 0, message: &up }, &mut hold, &mut orders)?;
-//! assert!(next.is_up(0));
-//! let first = orders.iter().next().unwrap();
+//! gateway.handle(&Event::Message { asp: 0, message: &up }, &mut hold, &mut orders)?;
+//! assert!(gateway.is_up(0));
+//! let (first, message) = orders.messages().next().unwrap();
 //! assert_eq!((first.to, first.message), (Addressee::Asp(0), MessageType::UpAck));
 //! assert_eq!(first.to_string(), "to ASP 0: ASP Up Ack");
+//! assert_eq!(message, m2ua::write(MessageType::UpAck, &[])?);
 //! # Ok::<(), m2ua::Refusal>(())
 //! ```
 //!
-//! A state is a value: [`Gateway`] is `Copy`, an event leaves the one it was called on as it was, and any thread may use any of them. The hold is what an event writes to: it has the bytes of
-//! the units that wait with a pending AS, and belongs to one line of states.
+//! The state lives where the host keeps it, and an event changes it there; so does the hold, which has the bytes of the units
+//! that wait with a pending AS. One call gives everything that an event asks for, so no order can be lost between two calls.
 #![deny(unsafe_code)]
 #![warn(missing_docs)]
 
@@ -41,7 +41,6 @@ mod refusal;
 pub mod sys;
 mod words;
 
-pub use bytes::Messages;
 pub use event::Event;
 pub use gateway::{AsState, Gateway, LinkState, Timers, TrafficMode};
 pub use hold::{Hold, Unit};

@@ -1,4 +1,5 @@
 //! Orders: what the host has to do after an event.
+use crate::gateway::Timers;
 use crate::message::MessageType;
 use crate::sys;
 use crate::words::error_name;
@@ -122,11 +123,16 @@ impl fmt::Display for Order {
     }
 }
 
-/// A list that is lent to an event, and the orders of the last one. Make one and use it for every event.
+/// What a host lends to [`Gateway::handle`](crate::Gateway::handle), and what the last event that was handled with it
+/// asks for: its orders in their sequence, the message of each, and the recovery timers to start and to stop. Make one
+/// and use it for every event; it has room for all that an event can give, so nothing is ever left out.
 #[derive(Clone)]
 pub struct Orders {
     pub(crate) words: Box<[u32; sys::LIST_WORDS]>,
+    pub(crate) lens: Box<[u32; sys::MAX_ORDERS]>,
+    pub(crate) bytes: Box<[u8]>,
     pub(crate) count: usize,
+    pub(crate) timers: Timers,
 }
 
 impl Orders {
@@ -134,7 +140,10 @@ impl Orders {
     pub fn new() -> Orders {
         Orders {
             words: Box::new([0; sys::LIST_WORDS]),
+            lens: Box::new([0; sys::MAX_ORDERS]),
+            bytes: vec![0; sys::ROOM_BYTES].into(),
             count: 0,
+            timers: Timers::NONE,
         }
     }
 
@@ -159,6 +168,24 @@ impl Orders {
     /// The orders in their sequence, in which they are to be carried out.
     pub fn iter(&self) -> impl Iterator<Item = Order> + '_ {
         (0..self.count).filter_map(|place| self.get(place))
+    }
+
+    /// The same, each with the message that goes to its ASP (Rules 8.8 to 8.18); one to the link side has none, which is no
+    /// byte.
+    pub fn messages(&self) -> impl Iterator<Item = (Order, &[u8])> {
+        let mut rest = &self.bytes[..];
+        self.iter()
+            .zip(self.lens.iter())
+            .map(move |(order, length)| {
+                let (message, behind) = rest.split_at(*length as usize);
+                rest = behind;
+                (order, message)
+            })
+    }
+
+    /// The recovery timers T(r) that the event starts and stops (Rule 5.19).
+    pub fn timers(&self) -> &Timers {
+        &self.timers
     }
 }
 

@@ -3,7 +3,7 @@
 #![allow(unsafe_code)]
 use std::mem::{offset_of, size_of};
 
-pub const ABI: u32 = 4;
+pub const ABI: u32 = 5;
 
 // Limits.
 pub const MAX_ASPS: usize = 16;
@@ -20,6 +20,7 @@ pub const HELD_MOST: usize = 8;
 pub const UNITS: usize = 128;
 pub const HOLD_PLACE: usize = 273;
 pub const HOLD_BYTES: usize = 34944;
+pub const ROOM_BYTES: usize = 790528;
 pub const STACK: usize = 32768;
 
 // The largest sequence number (0x307): of a high-speed link, which is the largest that reads, and of a plain one (Rule 5.23).
@@ -264,13 +265,21 @@ pub struct Loaded {
     pub gateway: Gateway,
 }
 
-/// What an event hands back (Rule 6.2).
+/// What an event hands back beside the state (Rule 6.2).
 #[repr(C)]
 #[derive(Clone, Copy, Debug, PartialEq, Eq)]
-pub struct Outcome {
+pub struct Done {
     pub refusal: u32,
     pub count: usize,
-    pub gateway: Gateway,
+}
+
+/// What an event with all its messages hands back beside the state (Rule 8.19).
+#[repr(C)]
+#[derive(Clone, Copy, Debug, PartialEq, Eq)]
+pub struct Handled {
+    pub refusal: u32,
+    pub count: usize,
+    pub length: usize,
 }
 
 /// What writing several orders did (Rule 8.16).
@@ -319,9 +328,7 @@ extern "C" {
     pub fn m2ua_abi() -> u32;
     pub fn m2ua_data(msg: *const u8, len: usize) -> DataAt;
     pub fn m2ua_parameter(msg: *const u8, len: usize, tag: u16) -> ParamAt;
-    pub fn m2ua_as_state(g: Gateway, r#as: usize) -> Answer;
-    pub fn m2ua_link_place(g: Gateway, id: u32) -> Answer;
-    pub fn m2ua_waits(before: Gateway, after: Gateway) -> Waits;
+    pub fn m2ua_waits_at(before: *const u8, after: *const u8) -> Waits;
     pub fn m2ua_read(msg: *const u8, len: usize) -> Reading;
     pub fn m2ua_write(
         class: u8,
@@ -336,54 +343,119 @@ extern "C" {
         out_bytes: usize,
     ) -> Written;
     pub fn m2ua_load(file: *const u8, len: usize) -> Loaded;
-    pub fn m2ua_is_sound(g: Gateway) -> u32;
-    pub fn m2ua_run(
-        g: Gateway,
-        kind: u32,
-        index: usize,
-        msg: *const u8,
-        len: usize,
-        hold: *mut u8,
-        hold_bytes: usize,
-        size: usize,
-        words: *mut u32,
-        count: usize,
-    ) -> Outcome;
-    pub fn m2ua_order(
-        g: Gateway,
-        kind: u32,
-        index: usize,
-        msg: *const u8,
-        len: usize,
-        hold: *const u8,
-        hold_bytes: usize,
-        place: usize,
-        out: *mut u8,
-        out_bytes: usize,
-    ) -> Written;
-    pub fn m2ua_orders(
-        g: Gateway,
-        kind: u32,
-        index: usize,
-        msg: *const u8,
-        len: usize,
-        hold: *const u8,
-        hold_bytes: usize,
-        place: usize,
-        lens: *mut u32,
-        len_count: usize,
-        out: *mut u8,
-        out_bytes: usize,
-    ) -> Batch;
+}
+
+/// An entry that takes the state as its columns, lent for reading or to an event: the one place that lists them.
+macro_rules! entry {
+    (read $name:ident($($p:ident: $t:ty),*) -> $result:ty) => {
+        extern "C" {
+            pub fn $name(
+                asps: u8,
+                ases: u8,
+                links: u8,
+                spare: u8,
+                aspid: *const u32,
+                up: *const u8,
+                member: *const u8,
+                active: *const u8,
+                mode: *const u8,
+                waiting: *const u8,
+                iid: *const u32,
+                owner: *const u8,
+                state: *const u8,
+                highspeed: *const u8,
+                wholelists: *const u8,
+                count: *const u8,
+                tag: *const u16,
+                len: *const u16,
+                marked: *const u16,
+                id: *const u32,
+                correlation: *const u32,
+                $($p: $t),*
+            ) -> $result;
+        }
+    };
+    (written $name:ident($($p:ident: $t:ty),*) -> $result:ty) => {
+        extern "C" {
+            pub fn $name(
+                asps: u8,
+                ases: u8,
+                links: u8,
+                spare: u8,
+                aspid: *const u32,
+                up: *mut u8,
+                member: *const u8,
+                active: *mut u8,
+                mode: *const u8,
+                waiting: *mut u8,
+                iid: *const u32,
+                owner: *const u8,
+                state: *mut u8,
+                highspeed: *const u8,
+                wholelists: *const u8,
+                count: *mut u8,
+                tag: *mut u16,
+                len: *mut u16,
+                marked: *mut u16,
+                id: *mut u32,
+                correlation: *mut u32,
+                $($p: $t),*
+            ) -> $result;
+        }
+    };
+}
+
+entry!(read m2ua_is_sound_at() -> u32);
+entry!(read m2ua_as_state_at(r#as: usize) -> Answer);
+entry!(read m2ua_link_place_at(wanted: u32) -> Answer);
+entry!(read m2ua_order_at(kind: u32, index: usize, msg: *const u8, msg_bytes: usize, hold: *const u8, hold_bytes: usize, place: usize, out: *mut u8, out_bytes: usize) -> Written);
+entry!(read m2ua_orders_at(kind: u32, index: usize, msg: *const u8, msg_bytes: usize, hold: *const u8, hold_bytes: usize, place: usize, lens: *mut u32, len_count: usize, out: *mut u8, out_bytes: usize) -> Batch);
+entry!(written m2ua_event_at(kind: u32, index: usize, msg: *const u8, msg_bytes: usize, hold: *mut u8, hold_bytes: usize, words: *mut u32, word_count: usize) -> Done);
+entry!(written m2ua_handle_at(kind: u32, index: usize, msg: *const u8, msg_bytes: usize, hold: *mut u8, hold_bytes: usize, words: *mut u32, lens: *mut u32, out: *mut u8, out_bytes: usize) -> Handled);
+
+/// A call of such an entry with the columns of a `&Gateway`, or of a `&mut Gateway`.
+macro_rules! call {
+    ($name:ident, $g:ident, $as_ptr:ident, $($argument:expr),*) => {
+        // SAFETY: each column is that of one state, lent whole; each pointer and length are those of one slice; what is `&mut` overlaps
+        // nothing. Any bytes are a state, and every entry answers every value.
+        unsafe {
+            $name(
+                $g.asps,
+                $g.ases,
+                $g.links,
+                $g.spare,
+                $g.aspid.as_ptr(),
+                $g.up.$as_ptr(),
+                $g.member.as_ptr(),
+                $g.active.$as_ptr(),
+                $g.mode.as_ptr(),
+                $g.waiting.$as_ptr(),
+                $g.iid.as_ptr(),
+                $g.owner.as_ptr(),
+                $g.state.$as_ptr(),
+                $g.highspeed.as_ptr(),
+                $g.wholelists.as_ptr(),
+                $g.held.count.$as_ptr(),
+                $g.held.tag.$as_ptr(),
+                $g.held.length.$as_ptr(),
+                $g.held.marked.$as_ptr(),
+                $g.held.id.$as_ptr(),
+                $g.held.correlation.$as_ptr(),
+                $($argument),*
+            )
+        }
+    };
 }
 
 // The calls, over whole slices: a slice's pointer is never null, is aligned, and no two slices that are lent here overlap, since one is `&mut`.
 
+#[inline(always)]
 pub fn read(msg: &[u8]) -> Reading {
     // SAFETY: pointer and length are those of one slice; any bytes are answered.
     unsafe { m2ua_read(msg.as_ptr(), msg.len()) }
 }
 
+#[inline(always)]
 pub fn write(
     class: u8,
     msgtype: u8,
@@ -414,66 +486,103 @@ pub fn abi() -> u32 {
     unsafe { m2ua_abi() }
 }
 
+#[inline(always)]
 pub fn data(msg: &[u8]) -> DataAt {
     // SAFETY: as in `read`.
     unsafe { m2ua_data(msg.as_ptr(), msg.len()) }
 }
 
+#[inline(always)]
 pub fn parameter(msg: &[u8], tag: u16) -> ParamAt {
     // SAFETY: as in `read`.
     unsafe { m2ua_parameter(msg.as_ptr(), msg.len(), tag) }
 }
 
+#[inline(always)]
 pub fn as_state(g: &Gateway, r#as: usize) -> Answer {
-    // SAFETY: as in `is_sound`.
-    unsafe { m2ua_as_state(*g, r#as) }
+    call!(m2ua_as_state_at, g, as_ptr, r#as)
 }
 
+#[inline(always)]
 pub fn link_place(g: &Gateway, id: u32) -> Answer {
-    // SAFETY: as in `is_sound`.
-    unsafe { m2ua_link_place(*g, id) }
+    call!(m2ua_link_place_at, g, as_ptr, id)
 }
 
-pub fn waits(before: &Gateway, after: &Gateway) -> Waits {
-    // SAFETY: as in `is_sound`.
-    unsafe { m2ua_waits(*before, *after) }
+/// Of the columns `waiting` of two states.
+#[inline(always)]
+pub fn waits(before: &[u8; MAX_ASES], after: &[u8; MAX_ASES]) -> Waits {
+    // SAFETY: both columns are lent whole; any bytes are answered.
+    unsafe { m2ua_waits_at(before.as_ptr(), after.as_ptr()) }
 }
 
+#[inline(always)]
 pub fn load(file: &[u8]) -> Loaded {
     // SAFETY: as in `read`.
     unsafe { m2ua_load(file.as_ptr(), file.len()) }
 }
 
+#[inline(always)]
 pub fn is_sound(g: &Gateway) -> bool {
-    // SAFETY: the state is passed by value, and any bytes are a state.
-    unsafe { m2ua_is_sound(*g) == 1 }
+    call!(m2ua_is_sound_at, g, as_ptr,) == 1
 }
 
+/// An event on the state where it lies: a hold and a list of any length are answered.
+#[inline(always)]
 pub fn event(
-    g: &Gateway,
+    g: &mut Gateway,
     kind: u32,
     index: usize,
     msg: &[u8],
     hold: &mut [u8],
     words: &mut [u32],
-) -> Outcome {
-    // SAFETY: as in `write` and `is_sound`; the two `&mut` slices do not overlap. A hold of any length is answered.
-    unsafe {
-        m2ua_run(
-            *g,
-            kind,
-            index,
-            msg.as_ptr(),
-            msg.len(),
-            hold.as_mut_ptr(),
-            hold.len(),
-            hold.len(),
-            words.as_mut_ptr(),
-            words.len(),
-        )
-    }
+) -> Done {
+    call!(
+        m2ua_event_at,
+        g,
+        as_mut_ptr,
+        kind,
+        index,
+        msg.as_ptr(),
+        msg.len(),
+        hold.as_mut_ptr(),
+        hold.len(),
+        words.as_mut_ptr(),
+        words.len()
+    )
 }
 
+/// An event on the state where it lies, with the messages of all its orders.
+#[allow(clippy::too_many_arguments)]
+#[inline(always)]
+pub fn handle(
+    g: &mut Gateway,
+    kind: u32,
+    index: usize,
+    msg: &[u8],
+    hold: &mut [u8],
+    words: &mut [u32; LIST_WORDS],
+    lens: &mut [u32; MAX_ORDERS],
+    out: &mut [u8],
+) -> Handled {
+    call!(
+        m2ua_handle_at,
+        g,
+        as_mut_ptr,
+        kind,
+        index,
+        msg.as_ptr(),
+        msg.len(),
+        hold.as_mut_ptr(),
+        hold.len(),
+        words.as_mut_ptr(),
+        lens.as_mut_ptr(),
+        out.as_mut_ptr(),
+        out.len()
+    )
+}
+
+/// One order of an event that is not kept, as bytes.
+#[inline(always)]
 pub fn order(
     g: &Gateway,
     kind: u32,
@@ -483,24 +592,25 @@ pub fn order(
     place: usize,
     out: &mut [u8],
 ) -> Written {
-    // SAFETY: as in `event`.
-    unsafe {
-        m2ua_order(
-            *g,
-            kind,
-            index,
-            msg.as_ptr(),
-            msg.len(),
-            hold.as_ptr(),
-            hold.len(),
-            place,
-            out.as_mut_ptr(),
-            out.len(),
-        )
-    }
+    call!(
+        m2ua_order_at,
+        g,
+        as_ptr,
+        kind,
+        index,
+        msg.as_ptr(),
+        msg.len(),
+        hold.as_ptr(),
+        hold.len(),
+        place,
+        out.as_mut_ptr(),
+        out.len()
+    )
 }
 
+/// As many of its orders, from a place on, as go in.
 #[allow(clippy::too_many_arguments)]
+#[inline(always)]
 pub fn orders(
     g: &Gateway,
     kind: u32,
@@ -511,23 +621,22 @@ pub fn orders(
     lens: &mut [u32],
     out: &mut [u8],
 ) -> Batch {
-    // SAFETY: as in `event`.
-    unsafe {
-        m2ua_orders(
-            *g,
-            kind,
-            index,
-            msg.as_ptr(),
-            msg.len(),
-            hold.as_ptr(),
-            hold.len(),
-            place,
-            lens.as_mut_ptr(),
-            lens.len(),
-            out.as_mut_ptr(),
-            out.len(),
-        )
-    }
+    call!(
+        m2ua_orders_at,
+        g,
+        as_ptr,
+        kind,
+        index,
+        msg.as_ptr(),
+        msg.len(),
+        hold.as_ptr(),
+        hold.len(),
+        place,
+        lens.as_mut_ptr(),
+        lens.len(),
+        out.as_mut_ptr(),
+        out.len()
+    )
 }
 
 // The structs as the library was compiled for. tools/header-check writes these lines anew (--write).
@@ -541,6 +650,9 @@ const _: () = assert!(offset_of!(Batch, length) == 16);
 const _: () = assert!(size_of::<DataAt>() == 16);
 const _: () = assert!(offset_of!(DataAt, start) == 0);
 const _: () = assert!(offset_of!(DataAt, length) == 8);
+const _: () = assert!(size_of::<Done>() == 16);
+const _: () = assert!(offset_of!(Done, refusal) == 0);
+const _: () = assert!(offset_of!(Done, count) == 8);
 const _: () = assert!(size_of::<Gateway>() == 3348);
 const _: () = assert!(offset_of!(Gateway, asps) == 0);
 const _: () = assert!(offset_of!(Gateway, ases) == 1);
@@ -558,13 +670,13 @@ const _: () = assert!(offset_of!(Gateway, state) == 1268);
 const _: () = assert!(offset_of!(Gateway, highspeed) == 1396);
 const _: () = assert!(offset_of!(Gateway, wholelists) == 1524);
 const _: () = assert!(offset_of!(Gateway, held) == 1540);
+const _: () = assert!(size_of::<Handled>() == 24);
+const _: () = assert!(offset_of!(Handled, refusal) == 0);
+const _: () = assert!(offset_of!(Handled, count) == 8);
+const _: () = assert!(offset_of!(Handled, length) == 16);
 const _: () = assert!(size_of::<Loaded>() == 3352);
 const _: () = assert!(offset_of!(Loaded, code) == 0);
 const _: () = assert!(offset_of!(Loaded, gateway) == 4);
-const _: () = assert!(size_of::<Outcome>() == 3368);
-const _: () = assert!(offset_of!(Outcome, refusal) == 0);
-const _: () = assert!(offset_of!(Outcome, count) == 8);
-const _: () = assert!(offset_of!(Outcome, gateway) == 16);
 const _: () = assert!(size_of::<ParamAt>() == 24);
 const _: () = assert!(offset_of!(ParamAt, found) == 0);
 const _: () = assert!(offset_of!(ParamAt, start) == 8);

@@ -19,23 +19,31 @@ fn all_up(mut g: Gateway, up: &[u8], hold: &mut Hold, orders: &mut Orders) -> Ga
     g
 }
 
-/// The event is done, its orders are as bytes what they are as words, and the next state is handed back.
+/// The event is done, its messages are those of its orders one by one and all at once, and the next state is handed back.
 fn sent(g: &Gateway, event: &Event<'_>, hold: &mut Hold, orders: &mut Orders) -> Gateway {
-    let next = g.event(event, hold, orders).unwrap();
-    let messages: Vec<_> = g.messages(event, hold).map(|m| m.unwrap()).collect();
-    assert_eq!(messages.len(), orders.len(), "{event}");
-    for (place, (order, message)) in orders.iter().zip(&messages).enumerate() {
-        let one = g.order(event, hold, place);
-        match (order.to, message) {
-            (Addressee::LinkSide, None) => assert_eq!(one.unwrap_err().code(), 104),
-            (Addressee::Asp(_), Some(bytes)) => {
-                assert_eq!(one.as_ref(), Ok(bytes));
-                assert_eq!(read(bytes).unwrap().message, order.message);
+    let (mut next, kept) = (g.clone(), hold.clone());
+    next.handle(event, hold, orders).unwrap();
+    assert_eq!(orders.messages().count(), orders.len(), "{event}");
+    for (place, (order, message)) in orders.messages().enumerate() {
+        let one = g.order(event, &kept, place);
+        match order.to {
+            Addressee::LinkSide => {
+                assert_eq!((one.unwrap_err().code(), message.len()), (104, 0))
             }
-            _ => panic!("{order}: {message:?}"),
+            Addressee::Asp(_) => {
+                assert_eq!(one.as_deref(), Ok(message));
+                assert_eq!(read(message).unwrap().message, order.message);
+            }
         }
     }
-    assert_eq!(g.order(event, hold, orders.len()).unwrap_err().code(), 104);
+    assert_eq!(g.order(event, &kept, orders.len()).unwrap_err().code(), 104);
+    if !orders.is_empty() {
+        let all: Vec<u8> = orders.messages().flat_map(|(_, m)| m).copied().collect();
+        let (mut lens, mut out) = ([0; sys::MAX_ORDERS], vec![0; 65536]);
+        let batch = g.orders_into(event, &kept, 0, &mut lens, &mut out);
+        assert_eq!(batch, Ok((orders.len(), all.len())));
+        assert_eq!(out[..all.len()], all);
+    }
     next
 }
 
@@ -133,18 +141,18 @@ fn every_kind_of_event() {
 #[test]
 fn a_notify_names_the_links() {
     let (mut hold, mut orders) = (Hold::new(), Orders::new());
-    let g = full();
+    let mut g = full();
     let up = write(MessageType::Up, &[]).unwrap();
     let event = Event::Message {
         asp: 0,
         message: &up,
     };
-    g.event(&event, &mut hold, &mut orders).unwrap();
-    let notify = g.order(&event, &hold, 2).unwrap();
-    let listed: Vec<String> = m2ua::parameters(&notify).map(|p| p.to_string()).collect();
+    g.handle(&event, &mut hold, &mut orders).unwrap();
+    let (_, notify) = orders.messages().nth(2).unwrap();
+    let listed: Vec<String> = m2ua::parameters(notify).map(|p| p.to_string()).collect();
     assert_eq!(listed[0], "status (0xd) 65538");
     assert_eq!(
-        m2ua::parameters(&notify).nth(1).unwrap().value[..8],
+        m2ua::parameters(notify).nth(1).unwrap().value[..8],
         [0, 0, 0, 8, 0, 0, 0, 9]
     );
 }
@@ -158,31 +166,28 @@ fn batches() {
         write(MessageType::Active, &[]).unwrap(),
     );
     for asp in 0..16 {
-        g = g
-            .event(
-                &Event::Message { asp, message: &up },
-                &mut hold,
-                &mut orders,
-            )
-            .unwrap();
-    }
-    g = g
-        .event(
-            &Event::Message {
-                asp: 0,
-                message: &active,
-            },
+        g.handle(
+            &Event::Message { asp, message: &up },
             &mut hold,
             &mut orders,
         )
         .unwrap();
+    }
+    g.handle(
+        &Event::Message {
+            asp: 0,
+            message: &active,
+        },
+        &mut hold,
+        &mut orders,
+    )
+    .unwrap();
     let event = Event::Message {
         asp: 0,
         message: &up,
     };
-    let one_by_one: Vec<u8> = g
-        .messages(&event, &hold)
-        .flat_map(|m| m.unwrap().unwrap())
+    let one_by_one: Vec<u8> = (0..258)
+        .flat_map(|n| g.order(&event, &hold, n).unwrap())
         .collect();
     assert_eq!(one_by_one.len(), 13336);
     let (mut lens, mut out) = ([0; sys::MAX_ORDERS], [0; 13337]);
@@ -228,15 +233,11 @@ fn batches() {
 
 #[test]
 fn refusals() {
-    let (g, hold) = (full(), Hold::new());
+    let (mut g, mut hold, mut orders) = (full(), Hold::new(), Orders::new());
     let up = write(MessageType::Up, &[]).unwrap();
     let beyond = Event::Lost { asp: 16 };
-    assert_eq!(
-        g.messages(&beyond, &hold)
-            .map(|m| m.unwrap_err().code())
-            .collect::<Vec<_>>(),
-        [102]
-    );
+    let no = g.handle(&beyond, &mut hold, &mut orders).unwrap_err();
+    assert_eq!((no.code(), orders.len()), (102, 0));
     assert_eq!(g.order(&beyond, &hold, 0).unwrap_err().code(), 102);
     let event = Event::Message {
         asp: 0,
@@ -248,7 +249,8 @@ fn refusals() {
         103
     );
     assert_eq!(out, [0xaa; 7]);
-    assert_eq!(g.messages(&Event::Lost { asp: 0 }, &hold).count(), 0);
+    (g.handle(&Event::Lost { asp: 0 }, &mut hold, &mut orders)).unwrap();
+    assert_eq!(orders.messages().count(), 0);
 }
 
 /// A unit of a link with one byte of its own, the longest that there is, with a correlation id.
@@ -296,21 +298,12 @@ fn the_most_orders_and_the_most_bytes() {
         asp: 1,
         message: &message,
     };
-    let next = sent(&g, &event, &mut hold, &mut orders);
+    let (mut kept, next) = (hold.clone(), sent(&g, &event, &mut hold, &mut orders));
     // the Ack, then in each AS its 8 units and 16 Notifies
     assert_eq!(orders.len(), 385);
-    let messages: Vec<_> = g
-        .messages(&event, &hold)
-        .map(|m| m.unwrap().unwrap())
-        .collect();
+    let messages: Vec<_> = orders.messages().map(|(_, m)| m.to_vec()).collect();
     let bytes: usize = messages.iter().map(Vec::len).sum();
     assert_eq!(bytes, 2048 + 128 * 304 + 256 * 52);
-    let mut out = vec![0; 65536];
-    assert_eq!(
-        g.orders_into(&event, &hold, 0, &mut [0; sys::MAX_ORDERS], &mut out),
-        Ok((385, bytes))
-    );
-    assert_eq!(out[..bytes], messages.concat());
     for (place, (order, message)) in orders.iter().zip(&messages).enumerate().skip(1) {
         let (server, within) = ((place - 1) / 24, (place - 1) % 24);
         let is_unit = order.message == MessageType::Data;
@@ -327,7 +320,7 @@ fn the_most_orders_and_the_most_bytes() {
         }
     }
     assert!((0..16).all(|a| g.held(a).count() == 8 && next.held(a).count() == 0));
-    one_more_by_a_bad_one(&g, &mut hold, &messages);
+    one_more_by_a_bad_one(&g, &mut kept, &messages);
 }
 
 /// The same state and an Active of all 128 links and one that there is not: beside the Ack, which lists the good ones, an Error, and that is the most that there is.
@@ -347,10 +340,7 @@ fn one_more_by_a_bad_one(g: &Gateway, hold: &mut Hold, others: &[Vec<u8>]) {
     let ack = write(MessageType::ActiveAck, &[ids(&all)]).unwrap();
     let code = Parameter::new(sys::TAG_ERROR_CODE, &[0, 0, 0, 2]);
     let error = write(MessageType::Error, &[code, ids(&[0, 0, 0, 128])]).unwrap();
-    let messages: Vec<_> = g
-        .messages(&event, hold)
-        .map(|m| m.unwrap().unwrap())
-        .collect();
+    let messages: Vec<_> = orders.messages().map(|(_, m)| m.to_vec()).collect();
     assert_eq!(messages[..2], [ack, error]);
     assert_eq!(messages[2..], others[1..]);
 }

@@ -44,7 +44,7 @@ fn bare(message: MessageType) -> Vec<u8> {
 /// The event is accepted with these orders, as four numbers each.
 fn takes(g: &mut Gateway, hold: &mut Hold, event: Event, expected: &[(u32, u32, u32, u32)]) {
     let mut orders = Orders::new();
-    *g = g.event(&event, hold, &mut orders).unwrap();
+    g.handle(&event, hold, &mut orders).unwrap();
     let to = |o: &Order| match o.to {
         Addressee::Asp(p) => p as u32,
         Addressee::LinkSide => 255,
@@ -186,7 +186,7 @@ fn a_link_in_words() {
         Event::Lost { asp: 0 },
     ] {
         said.push(format!("{event}"));
-        g = g.event(&event, &mut hold, &mut orders).unwrap();
+        g.handle(&event, &mut hold, &mut orders).unwrap();
         said.extend(orders.iter().map(|o| format!("  {o}")));
         if matches!(event, Event::LinkUp { .. }) {
             assert_eq!(g.link_state(0), Some(LinkState::InService));
@@ -216,10 +216,21 @@ ASP 0: association lost";
     assert_eq!(said.join("\n"), expected);
 }
 
+/// The orders of another gateway's event, with a timer to start.
+fn full_of_orders() -> Orders {
+    let (mut g, mut hold, mut orders) = (plan_s(), Hold::new(), Orders::new());
+    let (up, active) = (bare(MessageType::Up), bare(MessageType::Active));
+    for message in [&up, &active, &bare(MessageType::Inactive)] {
+        let event = Event::Message { asp: 0, message };
+        g.handle(&event, &mut hold, &mut orders).unwrap();
+    }
+    assert!(!orders.is_empty() && orders.timers().started().eq([0]));
+    orders
+}
+
 #[test]
 fn refusals_leave_all_as_it_was() {
-    let g = plan_s();
-    let (mut hold, mut orders) = (Hold::new(), Orders::new());
+    let (mut g, mut hold) = (plan_s(), Hold::new());
     for event in [
         Event::Lost { asp: 3 },
         Event::Recovery { r#as: 2 },
@@ -228,8 +239,10 @@ fn refusals_leave_all_as_it_was() {
         Event::LinkMessage { message: &[] },
         Event::LinkMessage { message: &M },
     ] {
-        let no = g.event(&event, &mut hold, &mut orders).unwrap_err();
+        let mut orders = full_of_orders();
+        let no = g.handle(&event, &mut hold, &mut orders).unwrap_err();
         assert_eq!((no.code(), orders.len()), (102, 0), "{event}");
+        assert!(orders.messages().next().is_none() && orders.timers().is_empty());
     }
     assert_eq!(g, plan_s());
     let mut raw = *g.raw();
@@ -284,25 +297,23 @@ fn an_up_with_many_orders() {
     let (mut hold, mut orders) = (Hold::new(), Orders::new());
     let (up, active) = (bare(MessageType::Up), bare(MessageType::Active));
     for asp in 0..16 {
-        g = g
-            .event(
-                &Event::Message { asp, message: &up },
-                &mut hold,
-                &mut orders,
-            )
-            .unwrap();
-    }
-    g = g
-        .event(
-            &Event::Message {
-                asp: 0,
-                message: &active,
-            },
+        g.handle(
+            &Event::Message { asp, message: &up },
             &mut hold,
             &mut orders,
         )
         .unwrap();
-    g.event(
+    }
+    g.handle(
+        &Event::Message {
+            asp: 0,
+            message: &active,
+        },
+        &mut hold,
+        &mut orders,
+    )
+    .unwrap();
+    g.handle(
         &Event::Message {
             asp: 0,
             message: &up,
@@ -383,14 +394,12 @@ fn states_may_go_to_other_threads() {
     let g = plan_s();
     let up = bare(MessageType::Up);
     let counts: Vec<usize> = std::thread::scope(|s| {
-        let run = |asp| {
+        let (g, up) = (&g, &up);
+        let run = move |asp| {
             let (mut hold, mut orders) = (Hold::new(), Orders::new());
-            g.event(
-                &Event::Message { asp, message: &up },
-                &mut hold,
-                &mut orders,
-            )
-            .unwrap();
+            let mut g = g.clone();
+            g.handle(&Event::Message { asp, message: up }, &mut hold, &mut orders)
+                .unwrap();
             orders.len()
         };
         let threads: Vec<_> = (0..3).map(|asp| s.spawn(move || run(asp))).collect();
@@ -432,16 +441,18 @@ fn what_a_host_asks_beside_the_events() {
         (Event::Lost { asp: 0 }, AsState::Pending, 1, 0),
         (Event::Recovery { r#as: 0 }, AsState::Down, 0, 1),
     ] {
-        let next = g.event(&event, &mut hold, &mut orders).unwrap();
-        let timers = g.timers(&next);
+        let before = g.clone();
+        g.handle(&event, &mut hold, &mut orders).unwrap();
+        let timers = orders.timers();
+        assert_eq!(*timers, before.timers(&g));
         assert_eq!(
             (timers.started().count(), timers.stopped().count()),
             (started, stopped),
             "{event}"
         );
         assert!(timers.started().chain(timers.stopped()).all(|a| a == 0));
-        assert_eq!(next.as_state(0), Some(state), "{event}");
-        g = next;
+        assert_eq!(timers.is_empty(), started + stopped == 0);
+        assert_eq!(g.as_state(0), Some(state), "{event}");
     }
     let data = write(
         MessageType::Data,
@@ -542,7 +553,7 @@ fn pending() -> Gateway {
         },
         Event::Lost { asp: 1 },
     ] {
-        g = g.event(&event, &mut hold, &mut Orders::new()).unwrap();
+        g.handle(&event, &mut hold, &mut Orders::new()).unwrap();
     }
     assert_eq!(g.as_state(0), Some(AsState::Pending));
     g
@@ -607,10 +618,7 @@ fn units_wait_with_a_pending_as_and_go_out_first() {
         asp: 0,
         message: &active,
     };
-    let sent: Vec<_> = g
-        .messages(&back, &hold)
-        .map(|m| m.unwrap().unwrap())
-        .collect();
+    let sent: Vec<_> = (0..4).map(|n| g.order(&back, &hold, n).unwrap()).collect();
     takes(
         &mut g,
         &mut hold,
@@ -682,25 +690,26 @@ fn a_hold_of_another_length_is_refused() {
     for bytes in [0, 1, sys::HOLD_BYTES - 1, sys::HOLD_BYTES + 1] {
         let mut hold = vec![0x5c; bytes];
         assert_eq!(Hold::from_bytes(&hold), None);
+        let mut state = *g.raw();
         let r = sys::event(
-            g.raw(),
+            &mut state,
             sys::LINK_MESSAGE,
             0,
             &message,
             &mut hold,
             &mut words,
         );
-        assert_eq!((r.refusal, r.count, r.gateway == *g.raw()), (106, 0, true));
+        assert_eq!((r.refusal, r.count, state == *g.raw()), (106, 0, true));
         // before a list that is short, and after an ASP that there is not
-        let r = sys::event(g.raw(), sys::LOST, 0, &[], &mut hold, &mut words[..0]);
+        let r = sys::event(&mut state, sys::LOST, 0, &[], &mut hold, &mut words[..0]);
         assert_eq!(r.refusal, 106);
-        let r = sys::event(g.raw(), sys::LOST, 3, &[], &mut hold, &mut words);
+        let r = sys::event(&mut state, sys::LOST, 3, &[], &mut hold, &mut words);
         assert_eq!(r.refusal, 102);
         let w = sys::order(g.raw(), sys::LOST, 0, &[], &hold, 9, &mut out);
         assert_eq!((w.code, w.length), (106, 0));
         let b = sys::orders(g.raw(), sys::LOST, 0, &[], &hold, 9, &mut [], &mut out);
         assert_eq!((b.code, b.count, b.length), (106, 0, 0));
-        assert!(hold.iter().all(|byte| *byte == 0x5c));
+        assert!(state == *g.raw() && hold.iter().all(|byte| *byte == 0x5c));
     }
     assert_eq!((words, out), ([7; sys::LIST_WORDS], [7; 64]));
 }
@@ -789,10 +798,10 @@ fn sequence_numbers_of_plain_and_high_speed_links() {
     for asp in [0, 2] {
         for message in [&up, &active] {
             let event = Event::Message { asp, message };
-            g = g.event(&event, &mut hold, &mut Orders::new()).unwrap();
+            g.handle(&event, &mut hold, &mut Orders::new()).unwrap();
         }
     }
-    let before = g;
+    let before = g.clone();
     // of an ASP: the link, the number, the order
     for (asp, id, number, order) in [
         (2, 200, 0, (255, 1546, 200, 2)),
@@ -815,9 +824,10 @@ fn sequence_numbers_of_plain_and_high_speed_links() {
         asp: 1,
         message: &up,
     };
-    let one_up = g.event(&up_only, &mut hold, &mut Orders::new()).unwrap();
+    let mut one_up = g.clone();
+    (one_up.handle(&up_only, &mut hold, &mut Orders::new())).unwrap();
     takes(
-        &mut { one_up },
+        &mut one_up,
         &mut hold,
         Event::Message {
             asp: 1,
@@ -845,7 +855,7 @@ fn sequence_numbers_of_plain_and_high_speed_links() {
     for (id, number) in [(100, 128), (115, 4095)] {
         let message = &confirm(id, number).unwrap();
         let event = Event::LinkMessage { message };
-        let no = g.event(&event, &mut hold, &mut Orders::new()).unwrap_err();
+        let no = (g.handle(&event, &mut hold, &mut Orders::new())).unwrap_err();
         assert_eq!(no.code(), 102);
         assert_eq!(g.order(&event, &hold, 0).unwrap_err().code(), 102);
     }
@@ -903,7 +913,7 @@ fn plan_with_whole_lists() -> (Gateway, Hold) {
     for asp in 0..3 {
         let message = &up;
         let event = Event::Message { asp, message };
-        g = g.event(&event, &mut hold, &mut Orders::new()).unwrap();
+        g.handle(&event, &mut hold, &mut Orders::new()).unwrap();
     }
     (g, hold)
 }
@@ -961,7 +971,7 @@ fn in_part(g: &Gateway, hold: &mut Hold, kind: MessageType, part: &Part) -> Gate
     for a in 0..if good == ALL { 2 } else { 1 } {
         orders.extend([(0, 1, a, told), (1, 1, a, told)]);
     }
-    let mut next = *g;
+    let mut next = g.clone();
     takes(&mut next, hold, event, &orders);
     next
 }
@@ -987,7 +997,7 @@ fn lists_taken_whole() {
     for (ids, ranges, mode, _, bad) in PARTS {
         for (kind, mode) in [(MessageType::Active, mode), (MessageType::Inactive, 0)] {
             let message = &naming(kind, mode, ids, ranges);
-            let mut g = before;
+            let mut g = before.clone();
             let event = Event::Message { asp: 1, message };
             takes(&mut g, &mut hold, event, &[(1, 0, bad, 2)]);
             assert_eq!(g, before);
@@ -1012,7 +1022,7 @@ fn modes_of_lists_that_succeed_in_part() {
         (1, 2, &[100], (1, 0, 0, 5)),
     ] {
         let message = &naming(Active, mode, ids, &[]);
-        let mut g = before;
+        let mut g = before.clone();
         takes(&mut g, &mut hold, Event::Message { asp, message }, &[order]);
         assert_eq!(g, before);
     }
@@ -1041,5 +1051,31 @@ fn whole_lists_in_plans_and_states() {
         let mut raw = *plan_s().raw();
         raw.wholelists[asp] = mark;
         assert_eq!(Gateway::from_raw(raw).unwrap_err().code(), 105);
+    }
+}
+
+#[test]
+fn a_room_that_is_short_is_refused_and_nothing_changes() {
+    let g = pending();
+    let message = unit(100, sys::TAG_DATA_1, b"unit", None);
+    let up = bare(MessageType::Up);
+    for (kind, index, message, last) in [
+        (sys::LINK_MESSAGE, 0, &message[..], 103),
+        (sys::MESSAGE, 0, &up, 103),
+        // what else is wrong comes first
+        (sys::MESSAGE, 3, &up, 102),
+    ] {
+        for bytes in [0, sys::MAX_MESSAGE, sys::ROOM_BYTES - 1] {
+            let (mut state, mut hold) = (*g.raw(), vec![0x5c; sys::HOLD_BYTES]);
+            let (mut words, mut lens) = ([7; sys::LIST_WORDS], [7; sys::MAX_ORDERS]);
+            let mut out = vec![7; bytes];
+            let h = sys::handle(
+                &mut state, kind, index, message, &mut hold, &mut words, &mut lens, &mut out,
+            );
+            assert_eq!((h.refusal, h.count, h.length), (last, 0, 0));
+            assert!(state == *g.raw() && hold.iter().all(|byte| *byte == 0x5c));
+            assert_eq!((words, lens), ([7; sys::LIST_WORDS], [7; sys::MAX_ORDERS]));
+            assert!(out.iter().all(|byte| *byte == 7));
+        }
     }
 }

@@ -70,7 +70,9 @@ pub fn places(rng: &mut Rng, orders: &[[u32; 4]]) -> Vec<u32> {
 /// refused.
 pub fn all(gateway: &Gateway, event: Event, hold: usize) -> Vec<[u32; 4]> {
     let mut list = [0; LIST_WORDS];
-    let (_, count) = gateway.orders(event, hold, &mut list, &mut Marks::new());
+    let count = gateway
+        .dry_run(event, hold, &mut list, &mut Marks::new())
+        .count;
     list.as_chunks::<4>().0[..count as usize].to_vec()
 }
 

@@ -24,7 +24,6 @@ use Rattle.rules.specs.Identifiers.{ownerAt, isMember}
 use Rattle.rules.specs.Reach.{ownsId, kindReach}
 use Rattle.work.specs.Inner.Decides.{act}
 use Rattle.decide.specs.Inner.Other.{otherEffect, typeIn, message-up, message-down, message-active, message-inactive, message-other}
-use Rattle.lookup.specs.Links.{indexOf}
 use Rattle.links.specs.Inner.Side.{passes, Side, side, Fits, fits, in-plan}
 use Rattle.ask.specs.Happened.{happened}
 use Rattle.ask.specs.Inner.Reach.{namedReach, otherReach, reach-up, reach-down, reach-active, reach-inactive, reach-other}
@@ -56,16 +55,16 @@ askReach g s (LinkDown l) a = eqb (ownerAt g l) a
 askReach g s (LinkMessage r) a = ownsId g (r .id) a
 
 -- what it names is in the plan
-abbrev pub askKnown : ℕ → ℕ → ℕ → List ℕ → List ℕ → Ask → Bool
-askKnown asps ases links iid highspeed (Up p r) = ltb p asps
-askKnown asps ases links iid highspeed (Down p) = ltb p asps
-askKnown asps ases links iid highspeed (Traffic p r on) = ltb p asps
-askKnown asps ases links iid highspeed (Other p r wrong) = ltb p asps
-askKnown asps ases links iid highspeed (Lost p) = ltb p asps
-askKnown asps ases links iid highspeed (Recovery a) = ltb a ases
-askKnown asps ases links iid highspeed (LinkUp l) = ltb l links
-askKnown asps ases links iid highspeed (LinkDown l) = ltb l links
-askKnown asps ases links iid highspeed (LinkMessage r) = passes iid highspeed links r
+abbrev pub askKnown : Gateway → Ask → Bool
+askKnown g (Up p r) = ltb p (g .asps)
+askKnown g (Down p) = ltb p (g .asps)
+askKnown g (Traffic p r on) = ltb p (g .asps)
+askKnown g (Other p r wrong) = ltb p (g .asps)
+askKnown g (Lost p) = ltb p (g .asps)
+askKnown g (Recovery a) = ltb a (g .ases)
+askKnown g (LinkUp l) = ltb l (g .links)
+askKnown g (LinkDown l) = ltb l (g .links)
+askKnown g (LinkMessage r) = passes g r
 
 -- class and type are bytes, and what the link side sends is as it was read
 abbrev pub AskSmall : List ℕ → Ask → Type 0
@@ -99,23 +98,11 @@ AskFits links iid s (LinkUp l) = l < links
 AskFits links iid s (LinkDown l) = l < links
 AskFits links iid s (LinkMessage r) = Side iid links r × (r .msgtype ≡ 1 → Fits s r)
 
--- l is the index of the link that a message of the link side names
-abbrev pub AskAt : ℕ → List ℕ → Ask → ℕ → Type 0
-AskAt links iid (Up p r) l = _≡_ {A = ℕ} 0 0
-AskAt links iid (Down p) l = _≡_ {A = ℕ} 0 0
-AskAt links iid (Traffic p r on) l = _≡_ {A = ℕ} 0 0
-AskAt links iid (Other p r wrong) l = _≡_ {A = ℕ} 0 0
-AskAt links iid (Lost p) l = _≡_ {A = ℕ} 0 0
-AskAt links iid (Recovery a) l = _≡_ {A = ℕ} 0 0
-AskAt links iid (LinkUp k) l = _≡_ {A = ℕ} 0 0
-AskAt links iid (LinkDown k) l = _≡_ {A = ℕ} 0 0
-AskAt links iid (LinkMessage r) l = l ≡ indexOf iid links (r .id)
-
 -- what is asked is that event
 pub record AsksKind (e : EventKind) (s : List ℕ) (ask : Ask) : Type 0 where
   pub effect : (g : Gateway) → askEffect g s ask ≡ effectOf g e
   pub reach : (g : Gateway) (a : ℕ) → askReach g s ask a ≡ kindReach g e a
-  pub known : (g : Gateway) → askKnown (g .asps) (g .ases) (g .links) (g .iid) (g .highspeed) ask ≡ inPlan g e
+  pub known : (g : Gateway) → askKnown g ask ≡ inPlan g e
   pub small : AskSmall s ask
 
 abbrev pub Asks : ℕ → ℕ → List ℕ → Ask → Type 0
@@ -124,20 +111,20 @@ Asks k i s ask = AsksKind (happened k i s) s ask
 -- ---- laws
 
 -- what is in the plan is within the tables
-pub ask-fits : (asps ases links : ℕ) (iid highspeed s : List ℕ) (ask : Ask) → Limits asps ases links → askKnown asps ases links iid highspeed ask ≡ true
-    → AskSmall s ask → AskFits links iid s ask
-ask-fits n m k iid highspeed s (Up p r) c h q = omega (arith, ltb-true p n h, c .asps)
-ask-fits n m k iid highspeed s (Down p) c h q = omega (arith, ltb-true p n h, c .asps)
-ask-fits n m k iid highspeed s (Traffic p r on) c h q = omega (arith, ltb-true p n h, c .asps)
-ask-fits n m k iid highspeed s (Other p r wrong) c h q = (omega (arith, ltb-true p n h, c .asps), q .0, q .1)
-ask-fits n m k iid highspeed s (Lost p) c h q = omega (arith, ltb-true p n h, c .asps)
-ask-fits n m k iid highspeed s (Recovery a) c h q = refl
-ask-fits n m k iid highspeed s (LinkUp l) c h q = ltb-true l k h
-ask-fits n m k iid highspeed s (LinkDown l) c h q = ltb-true l k h
-ask-fits n m k iid highspeed s (LinkMessage r) c h q = (side iid highspeed k r h, fits iid highspeed k s r q h)
+ask-fits : (g : Gateway) (s : List ℕ) (ask : Ask) → Limits (g .asps) (g .ases) (g .links) → askKnown g ask ≡ true
+    → AskSmall s ask → AskFits (g .links) (g .iid) s ask
+ask-fits g s (Up p r) c h q = omega (arith, ltb-true p (g .asps) h, c .asps)
+ask-fits g s (Down p) c h q = omega (arith, ltb-true p (g .asps) h, c .asps)
+ask-fits g s (Traffic p r on) c h q = omega (arith, ltb-true p (g .asps) h, c .asps)
+ask-fits g s (Other p r wrong) c h q = (omega (arith, ltb-true p (g .asps) h, c .asps), q .0, q .1)
+ask-fits g s (Lost p) c h q = omega (arith, ltb-true p (g .asps) h, c .asps)
+ask-fits g s (Recovery a) c h q = refl
+ask-fits g s (LinkUp l) c h q = ltb-true l (g .links) h
+ask-fits g s (LinkDown l) c h q = ltb-true l (g .links) h
+ask-fits g s (LinkMessage r) c h q = (side g r h, fits g s r q h)
 
-pub ask-fits-at : (g : Gateway) (s : List ℕ) (ask : Ask) {n : ℕ} → n ≡ g .links → Limits (g .asps) (g .ases) (g .links) → askKnown (g .asps) (g .ases) (g .links) (g .iid) (g .highspeed) ask ≡ true → AskSmall s ask → AskFits n (g .iid) s ask
-ask-fits-at g s ask e c h q = rw e (ask-fits (g .asps) (g .ases) (g .links) (g .iid) (g .highspeed) s ask c h q)
+pub ask-fits-at : (g : Gateway) (s : List ℕ) (ask : Ask) {n : ℕ} → n ≡ g .links → Limits (g .asps) (g .ases) (g .links) → askKnown g ask ≡ true → AskSmall s ask → AskFits n (g .iid) s ask
+ask-fits-at g s ask e c h q = rw e (ask-fits g s ask c h q)
 
 -- ---- what is asked is the event
 

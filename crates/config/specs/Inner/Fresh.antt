@@ -19,7 +19,7 @@ use Rattle.gateway.specs.Sound.{pair, countsIn, blankFrom, flagIf, flagWithin, 
 use Rattle.gateway.specs.Inner.Laws.{whole}
 use Rattle.gateway.specs.Inner.Sound.{no-units-sound}
 use Rattle.gateway.specs.declared.Gateway.{Gateway}
-use Rattle.config.specs.Plan.{count, layoutOk, bit, bitsFrom, modesOk, masksOk, rowsOk, members, fresh, refused, accepted, built, loadOf, aspIds, masks, lists, modes, linkIds, owners, kinds}
+use Rattle.config.specs.Plan.{count, layoutOk, bit, bitsFrom, modesOk, masksOk, Tables, tablesOf, rowsOk, members, fresh, refused, accepted, built, loadOf, aspIds, masks, lists, modes, linkIds, owners, kinds}
 use Rattle.config.specs.Inner.Laws.{Layout, layout, Rows, rows, column-blank, under-small}
 
 -- a place beyond the count holds zero
@@ -66,7 +66,32 @@ fresh-flags c n end u h = all-of _ end (λ i b. go i b (decLt i n))
 
 -- ---- table by table, for counts within limits, rows in order and zeros beyond them
 
-module _ (n m k : ℕ) (aspid mask list mode iid owner kind : List ℕ) (r : Rows n m k aspid mask list mode iid owner kind) where
+module _ (t : Tables) (r : Rows t) where
+  -- its parts, each by a short name
+  abbrev n : ℕ
+  n = t .asps
+
+  abbrev m : ℕ
+  m = t .ases
+
+  abbrev k : ℕ
+  k = t .links
+
+  abbrev aspid : List ℕ
+  aspid = t .aspid
+
+  abbrev mask : List ℕ
+  mask = t .mask
+
+  abbrev mode : List ℕ
+  mode = t .mode
+
+  abbrev iid : List ℕ
+  iid = t .iid
+
+  abbrev owner : List ℕ
+  owner = t .owner
+
   fresh-asps : blankFrom aspid n 16 ≡ true → soundAsps aspid (replicate 16 0) n ≡ true
   unfolding soundAsps flagWithin
   fresh-asps h = rw (r .differ, h) (all-of _ 16 (λ q b. rw (zero-at 16 q b)))
@@ -141,10 +166,10 @@ counts-in s l =
     )
 
 abbrev pub rowsOf : List ℕ → Bool
-rowsOf s = rowsOk (count s 0) (count s 1) (count s 2) (aspIds s) (masks s) (lists s) (modes s) (linkIds s) (owners s) (kinds s)
+rowsOf s = rowsOk (tablesOf s)
 
 abbrev pub freshOf : List ℕ → Gateway
-freshOf s = fresh (count s 0) (count s 1) (count s 2) (aspIds s) (masks s) (lists s) (modes s) (linkIds s) (owners s) (kinds s)
+freshOf s = fresh (tablesOf s)
 
 pub fresh-sound : (s : List ℕ) → layoutOk s ≡ true → rowsOf s ≡ true → isSound (freshOf s) ≡ true
 unfolding fresh soundAses soundKinds soundLists aspIds masks lists modes linkIds owners kinds
@@ -153,11 +178,12 @@ fresh-sound s h g =
     let n = count s 0 in
     let m = count s 1 in
     let k = count s 2 in
-    let r = rows n m k (aspIds s) (masks s) (lists s) (modes s) (linkIds s) (owners s) (kinds s) g in
+    let t = tablesOf s in
+    let r = rows t g in
     whole (freshOf s) (counts-in s l)
-    (fresh-asps n m k (aspIds s) (masks s) (lists s) (modes s) (linkIds s) (owners s) (kinds s) r (column-blank 16 n _))
-    (all-of _ 16 (fresh-as n m k (aspIds s) (masks s) (lists s) (modes s) (linkIds s) (owners s) (kinds s) r (column-blank 16 n _) (column-blank 16 m _)))
-    (fresh-links n m k (aspIds s) (masks s) (lists s) (modes s) (linkIds s) (owners s) (kinds s) r (l .links) (column-blank 128 k _) (column-blank 128 k _))
+    (fresh-asps t r (column-blank 16 n _))
+    (all-of _ 16 (fresh-as t r (column-blank 16 n _) (column-blank 16 m _)))
+    (fresh-links t r (l .links) (column-blank 128 k _) (column-blank 128 k _))
     (fresh-flags (kinds s) k 128 (r .sorted) (column-blank 128 k _))
     (fresh-flags (lists s) n 16 (r .ruled) (column-blank 16 n _))
     (no-units-sound (freshOf s .waiting) (freshOf s .iid) (freshOf s .owner) (freshOf s .links))

@@ -14,7 +14,7 @@ use Rattle.laws.specs.Columns.{numberAt}
 use Rattle.laws.specs.Inner.Columns.{getD-tabulate}
 use Rattle.laws.specs.Inner.Every.{and-left, and-right}
 use Rattle.gateway.specs.Sound.{blankFrom, allUnder, differs, ascends}
-use Rattle.config.specs.Plan.{offset, count, follow, layoutOk, column, modesOk, masksOk, linkKinds, listRules, rowsOk}
+use Rattle.config.specs.Plan.{offset, count, follow, layoutOk, column, modesOk, masksOk, linkKinds, listRules, Tables, rowsOk}
 
 -- the counts are within their limits, and each body starts where the one before it ends
 pub record Layout (s : List ℕ) : Type 0 where
@@ -87,36 +87,36 @@ column-blank places n f = all-of _ places (λ i b. rw (getD-tabulate places (λ 
     go i false = refl
 
 -- the rows, condition by condition
-pub record Rows (asps ases links : ℕ) (aspid mask list mode iid owner kind : List ℕ) : Type 0 where
-  pub traffic : modesOk mode ases ≡ true
-  pub inside : masksOk mask asps ases ≡ true
-  pub ruled : allUnder list listRules asps ≡ true
-  pub differ : allBelow (differs aspid) asps ≡ true
-  pub order : ascends iid links ≡ true
-  pub owned : allUnder owner ases links ≡ true
-  pub sorted : allUnder kind linkKinds links ≡ true
+pub record Rows (t : Tables) : Type 0 where
+  pub traffic : modesOk (t .mode) (t .ases) ≡ true
+  pub inside : masksOk (t .mask) (t .asps) (t .ases) ≡ true
+  pub ruled : allUnder (t .list) listRules (t .asps) ≡ true
+  pub differ : allBelow (differs (t .aspid)) (t .asps) ≡ true
+  pub order : ascends (t .iid) (t .links) ≡ true
+  pub owned : allUnder (t .owner) (t .ases) (t .links) ≡ true
+  pub sorted : allUnder (t .kind) linkKinds (t .links) ≡ true
 
-pub rows : (asps ases links : ℕ) (aspid mask list mode iid owner kind : List ℕ) → rowsOk asps ases links aspid mask list mode iid owner kind ≡ true → Rows asps ases links aspid mask list mode iid owner kind
+pub rows : (t : Tables) → rowsOk t ≡ true → Rows t
 unfolding rowsOk
-rows asps ases links aspid mask list mode iid owner kind h =
-    let a = modesOk mode ases in
-    let b = masksOk mask asps ases in
-    let c = allUnder list listRules asps in
-    let d = allBelow (differs aspid) asps in
-    let e = ascends iid links in
-    let f = allUnder owner ases links in
-    let g = allUnder kind linkKinds links in
+rows t h =
+    let a = modesOk (t .mode) (t .ases) in
+    let b = masksOk (t .mask) (t .asps) (t .ases) in
+    let c = allUnder (t .list) listRules (t .asps) in
+    let d = allBelow (differs (t .aspid)) (t .asps) in
+    let e = ascends (t .iid) (t .links) in
+    let f = allUnder (t .owner) (t .ases) (t .links) in
+    let g = allUnder (t .kind) linkKinds (t .links) in
     let l = and-left (a && (b && c)) (d && (e && (f && g))) h in
     let r = and-right (a && (b && c)) (d && (e && (f && g))) h in
-    let t = and-right d (e && (f && g)) r in
+    let x = and-right d (e && (f && g)) r in
     record {
       traffic = and-left a (b && c) l;
       inside = and-left b c (and-right a (b && c) l);
       ruled = and-right b c (and-right a (b && c) l);
       differ = and-left d (e && (f && g)) r;
-      order = and-left e (f && g) t;
-      owned = and-left f g (and-right e (f && g) t);
-      sorted = and-right f g (and-right e (f && g) t);
+      order = and-left e (f && g) x;
+      owned = and-left f g (and-right e (f && g) x);
+      sorted = and-right f g (and-right e (f && g) x);
     }
 
 -- a row of a table is what was read

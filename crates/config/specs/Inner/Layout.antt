@@ -16,7 +16,7 @@ use Rattle.gateway.specs.Sound.{zeros}
 use Rattle.gateway.specs.declared.Gateway.{Gateway}
 use Rattle.config.specs.declared.Loaded.{Loaded}
 use Rattle.config.specs.declared.Places.{Places}
-use Rattle.config.specs.Plan.{offset, count, layoutOk, column, aspWords, asWords, linkWords, high, low, bit, members, linkKinds, listRules, rowsOk, fresh, refused, accepted, built, loadOf, aspIds, masks, lists, modes, linkIds, owners, kinds}
+use Rattle.config.specs.Plan.{offset, count, layoutOk, column, aspWords, asWords, linkWords, high, low, bit, members, linkKinds, listRules, Tables, rowsOk, fresh, refused, accepted, built, loadOf, aspIds, masks, lists, modes, linkIds, owners, kinds}
 use Rattle.config.specs.Inner.Laws.{layout, rows}
 use Rattle.config.specs.Inner.Tables.{wordOf, byteOf, Same, Bytes, column-zero, word-byte, low-byte, high-byte, same-bytes, mode-bytes, under-bytes}
 
@@ -52,16 +52,28 @@ ownersAt s t = column 128 (t .links) (λ l. low (wordOf s (t .z + 4) 8 l))
 abbrev kindsAt : List ℕ → Places → List ℕ
 kindsAt s t = column 128 (t .links) (λ l. high (wordOf s (t .z + 4) 8 l))
 
--- whether the rows there are in order, and the state that they give
+-- what the rows there say
+abbrev tablesAt : List ℕ → Places → Tables
+tablesAt s t =
+    record {
+      asps = t .asps;
+      ases = t .ases;
+      links = t .links;
+      aspid = aspWords s (t .x) (t .asps);
+      mask = masksAt s t;
+      list = listsAt s t;
+      mode = asWords s (t .y) (t .ases);
+      iid = linkWords s (t .z) (t .links);
+      owner = ownersAt s t;
+      kind = kindsAt s t;
+    }
+
+-- whether they are in order, and the state that they give
 unfoldable pub rowsAt : List ℕ → Places → Bool
-rowsAt s t =
-    rowsOk (t .asps) (t .ases) (t .links) (aspWords s (t .x) (t .asps)) (masksAt s t) (listsAt s t)
-    (asWords s (t .y) (t .ases)) (linkWords s (t .z) (t .links)) (ownersAt s t) (kindsAt s t)
+rowsAt s t = rowsOk (tablesAt s t)
 
 unfoldable pub stateAt : List ℕ → Places → Gateway
-stateAt s t =
-    fresh (t .asps) (t .ases) (t .links) (aspWords s (t .x) (t .asps)) (masksAt s t) (listsAt s t) (asWords s (t .y) (t .ases))
-    (linkWords s (t .z) (t .links)) (ownersAt s t) (kindsAt s t)
+stateAt s t = fresh (tablesAt s t)
 
 -- modes, rules for lists, owners and kinds there are bytes: the last of a word, and those of its halves
 pub record AllBytes (s : List ℕ) (t : Places) : Type 0 where
@@ -123,7 +135,7 @@ bytes-nowhere s = record { modes = λ i b. absurd (omega arith); lists = λ i b.
 bytes-of : (s : List ℕ) (t : Places) → Bytes s → Inside t (length s) → rowsAt s t ≡ true → AllBytes s t
 unfolding rowsAt
 bytes-of s t z i h =
-    let r = rows _ _ _ _ _ _ _ _ _ _ h in
+    let r = rows (tablesAt s t) h in
     record {
       modes = same-bytes s (t .ases) (t .y) 3 4 (t .y + 3) (λ x. x) refl (word-byte s) (mode-bytes (t .ases) (wordOf s (t .y) 4) (i .ases) (r .traffic));
       lists = same-bytes s (t .asps) (t .x + 4) 3 8 (t .x + 7) low (omega arith) (low-byte s z) (under-bytes 16 (t .asps) listRules (λ p. low (wordOf s (t .x + 4) 8 p)) (i .asps) (omega arith) (r .ruled));
@@ -170,7 +182,8 @@ state-nowhere s =
 -- the state of columns is that of the rows where they are the rows'
 pub of-rows : (code asps ases links : ℕ) {aspid mask list mode iid owner kind aspid′ mask′ list′ mode′ iid′ owner′ kind′ : List ℕ}
     → aspid ≡ aspid′ → mask ≡ mask′ → list ≡ list′ → mode ≡ mode′ → iid ≡ iid′ → owner ≡ owner′ → kind ≡ kind′
-    → made code (fresh asps ases links aspid mask list mode iid owner kind) ≡ made code (fresh asps ases links aspid′ mask′ list′ mode′ iid′ owner′ kind′)
+    → made code (fresh (record { asps = asps; ases = ases; links = links; aspid = aspid; mask = mask; list = list; mode = mode; iid = iid; owner = owner; kind = kind }))
+    ≡ made code (fresh (record { asps = asps; ases = ases; links = links; aspid = aspid′; mask = mask′; list = list′; mode = mode′; iid = iid′; owner = owner′; kind = kind′ }))
 of-rows code asps ases links p q r s t u v = rw (p, q, r, s, t, u, v)
 
 -- the answer is that of the rules

@@ -7,23 +7,23 @@ use Rattle.decide.proofs.other_tree.Tie as tie
 
 returns : tie.Need-returns
 unfolding otherTree
-returns c = record { on = λ g h. search decisions depth 12 }
+returns c = search decisions depth 12
 
 returns-2 : tie.Need-returns-2
 unfolding otherTree
-returns-2 c = record { on = λ g h. search decisions depth 12 }
+returns-2 c = search decisions depth 12
 
 returns-3 : tie.Need-returns-3
 unfolding otherTree
-returns-3 c = record { on = λ g h. let d = c .class-six .ensures .on g h in search decisions depth 12 }
+returns-3 c = let d = c .class-six .ensures in search decisions depth 12
 
 returns-4 : tie.Need-returns-4
 unfolding otherTree
-returns-4 c = record { on = λ g h. search decisions depth 12 }
+returns-4 c = search decisions depth 12
 
 returns-5 : tie.Need-returns-5
 unfolding otherTree
-returns-5 c = record { on = λ g h. search decisions depth 12 }
+returns-5 c = search decisions depth 12
 
 pub other-tree-spec : {M : Type 1} → statement M
 other-tree-spec =

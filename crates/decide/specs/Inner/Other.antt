@@ -10,14 +10,21 @@ use lib.ListN.{getD}
 use borrow.Author.Tests.{eq-eqb, ne-eqb, eqb-true}
 use Rattle.wire.specs.Walk.{walk}
 use Rattle.message.specs.Verdict.{verdict}
-use Rattle.message.specs.Meaning.{meaning, outcome, refusal, readingOf}
+use Rattle.message.specs.Meaning.{meaning, outcome, unreadable, readingOf}
 use Rattle.message.specs.declared.Reading.{Reading}
 use Rattle.gateway.specs.declared.Gateway.{Gateway}
 use Rattle.action.specs.Types.{beat, beatAck, aspUp, aspDown, aspActive, aspInactive}
 use Rattle.rules.specs.Effect.{Effect, send, error, oneAction}
 use Rattle.rules.specs.Asp.{upEffect, downEffect, trafficEffect, activeEffect, inactiveEffect}
-use Rattle.rules.specs.Link.{classSixEffect}
+use Rattle.rules.specs.Link.{classSixOn, classSixEffect}
 use Rattle.rules.specs.Rules.{isError, classTypeOf, fromAsp, readEffect, messageEffect}
+use Rattle.lookup.specs.Links.{indexOf}
+use Rattle.rules.specs.Identifiers.{linkOf, ownerAt}
+use Rattle.rules.specs.declared.Link.{Link}
+use Rattle.rules.specs.declared.Sender.{Sender}
+use Rattle.rules.specs.Records.{linkAt, senderOf}
+use Rattle.links.specs.Inner.Records.{Placed, linkIn}
+use Rattle.links.specs.Inner.Six.{six-in}
 use Rattle.links.specs.Inner.Side.{code-is}
 
 -- the class and type as one number; 0 of an Error (wrong) and of what cannot be read
@@ -36,6 +43,26 @@ otherTree d p r six =
 unfoldable pub otherEffect : Gateway → ℕ → Bool → Reading → Effect
 otherEffect g p wrong r =
     cond wrong (send []) (cond (eqb (r .code) 0) (otherTree (classSixEffect g p r) p r (fromAsp (r .msgtype))) (send (error p (r .code))))
+
+-- the same of the records: there says that there is the link that the message names, which is k at l; s is its sender
+unfoldable pub otherIn : Bool → ℕ → ℕ → Link → Sender → Bool → Reading → Effect
+otherIn there p l k s wrong r =
+    cond wrong (send []) (cond (eqb (r .code) 0) (otherTree (classSixOn there p l k s r) p r (fromAsp (r .msgtype))) (send (error p (r .code))))
+
+pub other-in : (g : Gateway) (p : ℕ) (wrong : Bool) (r : Reading) (there : Bool) (i : ℕ) → Placed (g .links) (linkIn (g .links) (g .iid) r) there i
+    → otherIn there p i (linkAt g i) (senderOf g (ownerAt g i) p) wrong r ≡ otherEffect g p wrong r
+unfolding otherIn otherEffect otherTree linkOf
+other-in g p wrong r there i h =
+    ap (λ (d : Effect). cond wrong (send []) (cond (eqb (r .code) 0) (cond (eqb (classTypeOf r) beat) (send (oneAction p beatAck 0 0)) (cond (eqb (classTypeOf r) beatAck) (send []) d)) (send (error p (r .code)))))
+    (go (eqb (r .class) 6) h)
+  where
+    tree : Bool → Effect → Effect
+    tree u d = cond u (cond (fromAsp (r .msgtype)) d (send (error p 6))) (send (error p 6))
+
+    go : (u : Bool) → Placed (g .links) (cond u (indexOf (g .iid) (g .links) (r .id)) (g .links)) there i
+        → tree u (classSixOn there p i (linkAt g i) (senderOf g (ownerAt g i) p) r) ≡ tree u (classSixEffect g p r)
+    go true q = ap (tree true) (six-in g p r there i q)
+    go false q = refl
 
 -- ---- a readable message, by its type
 
@@ -116,7 +143,7 @@ pub class-small : (s : List ℕ) → getD s 2 0 < 256 → readingOf s .class < 2
 unfolding readingOf outcome meaning
 class-small s h = go (eqb (verdict s) 0)
   where
-    go : (u : Bool) → cond u (meaning (getD s 2 0) (getD s 3 0) (walk s 8 .pars)) (refusal (verdict s)) .class < 256
+    go : (u : Bool) → cond u (meaning (getD s 2 0) (getD s 3 0) (walk s 8 .pars)) (unreadable (verdict s)) .class < 256
     go true = h
     go false = omega arith
 
@@ -124,6 +151,6 @@ pub type-small : (s : List ℕ) → getD s 3 0 < 256 → readingOf s .msgtype < 
 unfolding readingOf outcome meaning
 type-small s h = go (eqb (verdict s) 0)
   where
-    go : (u : Bool) → cond u (meaning (getD s 2 0) (getD s 3 0) (walk s 8 .pars)) (refusal (verdict s)) .msgtype < 256
+    go : (u : Bool) → cond u (meaning (getD s 2 0) (getD s 3 0) (walk s 8 .pars)) (unreadable (verdict s)) .msgtype < 256
     go true = h
     go false = omega arith

@@ -14,7 +14,7 @@ use Rattle.action.specs.Inner.Words.{Written, place-first}
 use Rattle.gateway.specs.Sound.{isSound}
 use Rattle.gateway.specs.declared.Gateway.{Gateway}
 use Rattle.rules.specs.declared.Outcome.{Outcome}
-use Rattle.rules.specs.Event.{EventKind, Event, messageOf}
+use Rattle.rules.specs.Event.{EventKind, Event, messageOf, lending}
 use Rattle.rules.specs.Effect.{Effect, actionsOf, stateAfter, holdAfter}
 use Rattle.rules.specs.Rules.{effectOf, inPlan, refusalOf, refusal}
 use Rattle.rules.specs.Entry.{actions, next, nextHold, MeetsRules, Runs}
@@ -34,7 +34,7 @@ pub record Performed (g : Gateway) (d : Effect) (ws ws′ : List ℕ) (r : Outco
 
 -- the refusal of an event on the state g, where known says that what it names is in the plan; size is the hold's length
 abbrev refusalIn : Gateway → Bool → ℕ → List ℕ → ℕ
-refusalIn g known size ws = refusalOf (isSound g) known size (length ws)
+refusalIn g known size ws = refusalOf (isSound g) known (lending (length ws) size)
 
 -- what is promised of the effect d: the equations of `MeetsRules`, but for the hold
 pub record MeetsEffect (g : Gateway) (known : Bool) (size : ℕ) (d : Effect) (lent left : List ℕ) (r : Outcome) : Type 0 where
@@ -58,7 +58,7 @@ does-yes : (g : Gateway) (known : Bool) (size : ℕ) (d : Effect) {ws ws′ : Li
     → no ≡ refusalIn g known size ws → no ≡ 0 → Performed g d ws ws′ r
     → MeetsEffect g known size d ws ws′ r
 does-yes g known size d {ws} {ws′} {no} {r} e h p =
-    let t = accepted (isSound g) known size (length ws) (sym e ∙ h) in
+    let t = accepted (isSound g) known (lending (length ws) size) (sym e ∙ h) in
     record {
       refused = p .accepted ∙ sym h ∙ e;
       count = rw (← e, eq-eqb no 0 h) (omega (arith, p .wrote .next));
@@ -109,7 +109,7 @@ runs-yes g k size {ws} {ws′} {part} {part′} {d} {no} {r} e h q p b =
     }
 
 -- so the entry that is lent the hold whole meets the rules
-pub runs-meets : {g : Gateway} {e : Event} {lent left part part′ : List ℕ} {r : Outcome} → Runs g e lent left part part′ r → length part ≡ e .hold → MeetsRules g e lent left part part′ r
+pub runs-meets : {g : Gateway} {e : Event} {lent left part part′ : List ℕ} {r : Outcome} → Runs g e lent left part part′ r → length part ≡ e .lent .hold → MeetsRules g e lent left part part′ r
 runs-meets {g} {e} {lent} {left} {part} {part′} {r} h z =
-    let b : part′ ≡ nextHold g e part = h .bytes ∙ rw (eq-eqb (length part) (e .hold) z) in
+    let b : part′ ≡ nextHold g e part = h .bytes ∙ rw (eq-eqb (length part) (e .lent .hold) z) in
     rw b (h .meets part z)

@@ -14,7 +14,8 @@ use Rattle.put.specs.Bytes.{overlay}
 use Rattle.message.specs.Meaning.{dataAt}
 use Rattle.gateway.specs.Sound.{unitIndex, sized, allUnits, soundUnits, isSound}
 use Rattle.gateway.specs.Inner.Laws.{parts}
-use Rattle.gateway.specs.Inner.Sound.{unitsOf, sized-is}
+use Rattle.gateway.specs.State.{unitsOf}
+use Rattle.gateway.specs.Inner.Sound.{sized-is}
 use Rattle.gateway.specs.declared.Gateway.{Gateway}
 use Rattle.gateway.specs.declared.Units.{Units}
 use Rattle.server.specs.declared.Arrival.{Arrival}

@@ -11,39 +11,13 @@ use Rattle.laws.specs.Inner.Every.{and-left, and-right}
 use Rattle.laws.specs.Below.{allBelow}
 use Rattle.gateway.specs.declared.Gateway.{Gateway}
 use Rattle.gateway.specs.declared.Units.{Units}
+use Rattle.gateway.specs.State.{gatewayOf}
 use Rattle.gateway.specs.Sound.{soundTables, noUnits, sized, unitsOk, blankAt, allUnits, soundUnits}
 
--- the state of the columns that it lends
-abbrev pub gatewayOf : ℕ → ℕ → ℕ → ℕ → List ℕ → List ℕ → List ℕ → List ℕ → List ℕ → List ℕ → List ℕ → List ℕ → List ℕ → List ℕ → List ℕ → Units → Gateway
-gatewayOf asps ases links spare aspid up member active mode waiting iid owner state highspeed wholelists held =
-    record {
-      asps = asps;
-      ases = ases;
-      links = links;
-      spare = spare;
-      aspid = aspid;
-      up = up;
-      member = member;
-      active = active;
-      mode = mode;
-      waiting = waiting;
-      iid = iid;
-      owner = owner;
-      state = state;
-      highspeed = highspeed;
-      wholelists = wholelists;
-      held = held;
-    }
-
--- its tables
+-- the tables of the state of lent columns
 abbrev pub soundTablesOf : ℕ → ℕ → ℕ → ℕ → List ℕ → List ℕ → List ℕ → List ℕ → List ℕ → List ℕ → List ℕ → List ℕ → List ℕ → List ℕ → List ℕ → Bool
 soundTablesOf asps ases links spare aspid up member active mode waiting iid owner state highspeed wholelists =
     soundTables (gatewayOf asps ases links spare aspid up member active mode waiting iid owner state highspeed wholelists noUnits)
-
--- the units of the columns that a state lends
-abbrev pub unitsOf : List ℕ → List ℕ → List ℕ → List ℕ → List ℕ → List ℕ → Units
-unitsOf count tag length marked id correlation =
-    record { count = count; tag = tag; length = length; marked = marked; id = id; correlation = correlation }
 
 -- a state that holds none is sound in that
 pub no-units-sound : (waiting iid owner : List ℕ) (links : ℕ) → soundUnits noUnits waiting iid owner links ≡ true

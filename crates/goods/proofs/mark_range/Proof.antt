@@ -28,7 +28,8 @@ mark-requires : tie.Need-mark-requires
 mark-requires c κs =
     let p = c .before .before .before .before .before .before .pre in
     let e = c .before .past-near .ensures in
-    (p .0, range-some _ _ _ (p .2) _ _ (e .0) (sym (c .before .before .before .is-up-to .ensures) ∙ not-false _ (c .before .before .if2 .left)), omega (arith, p .1, e .1))
+    let l = range-some _ _ _ (p .2) _ _ (e .0) (sym (c .before .before .before .is-up-to .ensures) ∙ not-false _ (c .before .before .if2 .left)) in
+    (p .0, omega (arith, l, p .1, e .1), omega (arith, p .1, e .1))
 
 returns-3 : tie.Need-returns-3
 returns-3 c =

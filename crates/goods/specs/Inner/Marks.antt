@@ -12,15 +12,18 @@ use lib.Seq.{getD-set-same, getD-set-other}
 use borrow.Author.Tests.{eq-eqb, ne-eqb, eqb-true, le-leb, lt-leb, leb-true, leb-false, lt-ltb, le-ltb, ltb-true}
 use Rattle.laws.specs.Below.{one, anyBelow}
 use Rattle.laws.specs.Inner.Below.{any-none, any-more, any-at, any-in}
-use Rattle.laws.specs.Inner.Every.{and-left, and-right, and-both, same-truth, or-case, false-of}
+use Rattle.laws.specs.Inner.Every.{and-left, and-right, and-both, same-truth, or-case, false-of, clash}
 use Rattle.laws.specs.Columns.{flagAt, numberAt}
 use Rattle.laws.specs.Inner.Columns.{HalfCol, half-none, half-more}
 use Rattle.wire.specs.Number.{be}
 use Rattle.wire.specs.Walk.{Par}
 use Rattle.gateway.specs.Sound.{ascends}
 use Rattle.gateway.specs.Inner.Laws.{ascends-any}
-use Rattle.lookup.specs.Inner.Links.{rank, rank-below, rank-from}
-use Rattle.ranges.specs.Inner.Ranks.{rank-next}
+use Rattle.lookup.specs.Links.{indexOf, known}
+use Rattle.lookup.specs.Inner.Links.{rank, rank-below, rank-from, index-own, index-is}
+use Rattle.index.specs.declared.Found.{Found}
+use Rattle.index.specs.Inner.Spots.{Finds}
+use Rattle.ranges.specs.Inner.Ranks.{rank-here, rank-next}
 use Rattle.ranges.specs.Named.{someIn, someEntry, someOf, startAt, stopAt, entries}
 use Rattle.ranges.specs.Places.{isFrom}
 use Rattle.ranges.specs.Inner.Owners.{or-right}
@@ -183,6 +186,47 @@ one-past iid links x h l p e =
     let u = leb-true (numberAt iid l) x (and-right (ltb l links) (leb (numberAt iid l) x) e) in
     let v = rank-from iid links h x l b (omega arith) in
     (rank-next iid links h x l b (omega arith), b)
+
+-- the place behind one of the column's
+pub past-most : (past l : ℕ) (v : Bool) → past ≡ cond v (l + 1) 0 → l < 128 → past ≤ 128
+past-most past l true e b = omega arith
+past-most past l false e b = omega arith
+
+-- ---- an identifier of which a table says where it stands: what is unknown marks nothing
+
+module _ (iid : List ℕ) (links x : ℕ) (h : ascends iid links ≡ true) {f : Found} (s : Finds iid links x f) where
+  -- the number x alone
+  alone : (y : ℕ) → isFrom x x y ≡ true → y ≡ x
+  alone y e = omega (arith, from-low x x y e, from-high x x y e)
+
+  unknown : known iid links x ≡ false → (l : ℕ) → l < links → isFrom x x (numberAt iid l) ≡ false
+  unfolding known
+  unknown n l b =
+      false-of (isFrom x x (numberAt iid l))
+      (λ e. let i : indexOf iid links x ≡ l = rw (alone (numberAt iid l) e) at (index-own iid links h l b) in
+      clash (ltb (indexOf iid links x) links) n (rw i (lt-ltb l links b)))
+
+  none-marked : (u v : Bool) (l : ℕ) → v ≡ false → (u || (leb (f .at) l && ltb l 0)) ≡ (u || v)
+  none-marked u v l e = rw (le-ltb l 0 (omega arith), e, never (leb (f .at) l))
+    where
+      never : (w : Bool) → (w && false) ≡ false
+      never true = refl
+      never false = refl
+
+  pub found-adds : {until next : List ℕ} {past : ℕ} → past ≡ cond (f .known) (f .at + 1) 0 → Marked until (f .at) past next → Adds until iid links (isFrom x x) next
+  unfolding known
+  found-adds {until} {next} {past} p m = go (f .known) refl
+    where
+      go : (v : Bool) → f .known ≡ v → Adds until iid links (isFrom x x) next
+      go true e =
+          let k : ltb (indexOf iid links x) links ≡ true = sym (s .known-is) ∙ e in
+          let i : f .at ≡ indexOf iid links x = s .at-is k in
+          let b : f .at < links = omega (arith, i, ltb-true (indexOf iid links x) links k) in
+          let z : numberAt iid (f .at) ≡ x = rw i (index-is iid links x (ltb-true (indexOf iid links x) links k)) in
+          range-adds iid links x x h (rank-here iid links h x (f .at) b z) (p ∙ rw e (rank-next iid links h x (f .at) b z)) m
+      go false e =
+          let q : past ≡ 0 = p ∙ rw e in
+          record { long = m .long; at = λ l b. m .at l ∙ rw q (none-marked (covered until l) (isFrom x x (numberAt iid l)) l (unknown (sym (s .known-is) ∙ e) l b)) }
 
 -- a range names the numbers from start to stop
 range-names : (start stop x : ℕ) → isFrom start stop x ≡ someIn (eqb x) start stop

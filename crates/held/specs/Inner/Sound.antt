@@ -7,7 +7,7 @@ use lib.Dec.{eqb, leb}
 use Rattle.laws.specs.Below.{allBelow}
 use Rattle.laws.specs.Columns.{numberAt, isSet}
 use Rattle.gateway.specs.Sound.{isLinkOf, isSound}
-use Rattle.gateway.specs.Inner.Sound.{gatewayOf, unitsOf}
+use Rattle.gateway.specs.State.{gatewayOf, unitsOf}
 
 -- the state of the columns that it lends
 abbrev pub isSoundOf : ℕ → ℕ → ℕ → ℕ → List ℕ → List ℕ → List ℕ → List ℕ → List ℕ → List ℕ → List ℕ → List ℕ → List ℕ → List ℕ

@@ -17,13 +17,11 @@ returns : tie.Need-returns
 unfolding holdEffect arrival
 returns c =
     let d = c .before .data-unit .ensures in
-    record { on = λ g h. rw (h, lt-ltb _ _ (c .before .before .if1 .taken)) (rw (d .0, d .1, d .2) at (c .take-in .ensures)) }
+    rw (lt-ltb _ _ (c .before .before .if1 .taken)) (rw (d .0, d .1, d .2) at (c .take-in .ensures))
 
 returns-2 : tie.Need-returns-2
 unfolding holdEffect
-returns-2 c = record { on = λ g h. rw (h, le-ltb _ _ (c .before .if1 .left)) (c .nothing .ensures) }
+returns-2 c = rw (le-ltb _ _ (c .before .if1 .left)) (c .nothing .ensures)
 
 pub hold-work-spec : {M : Type 1} → statement M
-hold-work-spec =
-    tie.close
-    (tie.spec (λ c. search needs) (λ c κs. search needs) take-in-requires returns (λ c κs. search needs) returns-2)
+hold-work-spec = tie.close (tie.spec (λ c κs. search needs) take-in-requires returns (λ c κs. search needs) returns-2)

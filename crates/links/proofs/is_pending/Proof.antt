@@ -5,7 +5,7 @@ use borrow.Author.Needs.{needs}
 use denote.Ref.{now}
 use Rattle.server.specs.Record.{row, some}
 use borrow.Author.Tests.{eq-eqb, ne-eqb}
-use Rattle.links.specs.Inner.Recipients.{pendingAt}
+use Rattle.links.specs.Inner.Records.{pendingIn}
 use Rattle.links.proofs.is_pending.Statement.{statement}
 use Rattle.links.proofs.is_pending.Tie as tie
 
@@ -18,12 +18,12 @@ not-waits true v e = sym e
 not-waits false v e = refl
 
 returns : tie.Need-returns
-unfolding pendingAt
+unfolding pendingIn
 returns c = rw (c .has-some .ensures, c .before .row-of .ensures, eq-eqb _ _ (c .before .before .if1 .taken)) (and-true _)
 
 returns-2 : tie.Need-returns-2
-unfolding pendingAt
+unfolding pendingIn
 returns-2 c = not-waits (not (some (row (now (c .before .before .args .active)) (c .before .before .args .a)))) _ (ne-eqb _ _ (c .if1 .left))
 
 pub is-pending-spec : {M : Type 1} → statement M
-is-pending-spec = tie.close (tie.spec (λ c. search needs) (λ c κs. search needs) (λ c κs. search needs) returns returns-2)
+is-pending-spec = tie.close (tie.spec (λ c κs. search needs) (λ c κs. search needs) returns returns-2)

@@ -1,14 +1,13 @@
 -- What the reading of a link-side message says of its place in the plan.
 -- Assumes nothing.
-use mathlib.Core.Path.{_≡_, refl, sym, _∙_}
+use mathlib.Core.Path.{_≡_, refl, sym, ap, _∙_}
 use mathlib.Core.Bool.{Bool, true, false, cond, not, _&&_, _||_, false≢true}
 use mathlib.Core.List.{List}
 use Prim.Native.Nat.{ℕ, zero, suc, _<_, _≤_}
 use native.Mathlib.Omega.{arith}
 use native.Mathlib.Decide.{decLt}
 use lib.Dec.{eqb, leb, ltb}
-use borrow.Author.Tests.{ne-eqb, le-leb, lt-leb, le-ltb, eqb-true}
-use Rattle.laws.specs.Columns.{numberAt}
+use borrow.Author.Tests.{ne-eqb, le-leb, lt-leb, eqb-true}
 use Rattle.laws.specs.Inner.Every.{and-left, and-right}
 use Rattle.message.specs.Verdict.{verdict}
 use Rattle.message.specs.Meaning.{meaning, outcome, readingOf, dataAt}
@@ -21,67 +20,41 @@ use Rattle.rules.specs.Event.{linkMessage}
 use Rattle.rules.specs.Identifiers.{isKnown, linkOf}
 use Rattle.rules.specs.Link.{canHave}
 use Rattle.rules.specs.Rules.{fromLink, inPlan}
+use Rattle.rules.specs.declared.Link.{Link}
+use Rattle.rules.specs.Records.{linkAt}
+use Rattle.links.specs.Inner.Records.{Placed, linkIn}
 
 -- a message of the link side that is not refused with 102 (Rule 6.5)
-unfoldable pub passes : List ℕ → List ℕ → ℕ → Reading → Bool
-passes iid highspeed links r =
+unfoldable pub passes : Gateway → Reading → Bool
+passes g r =
     eqb (r .code) 0
     && (eqb (r .class) 6 && (fromLink (r .msgtype)
-    && (known iid links (r .id) && canHave (numberAt highspeed (indexOf iid links (r .id))) (r .sequence))))
+    && (isKnown g (r .id) && canHave (linkAt g (linkOf g (r .id))) (r .sequence))))
 
--- the index l, if there is such a link and it can have the sequence number n; else the number of links
-unfoldable pub placeWith : List ℕ → ℕ → ℕ → ℕ → ℕ
-placeWith highspeed links l n = cond (ltb l links) (cond (canHave (numberAt highspeed l) n) l links) links
+-- the same of the record of its link
+unfoldable pub passesIn : Bool → Link → Reading → Bool
+passesIn there k r =
+    eqb (r .code) 0 && (eqb (r .class) 6 && (fromLink (r .msgtype) && (there && canHave k (r .sequence))))
 
--- the index of its link, and the number of links where it is refused
-unfoldable pub placeOf : List ℕ → List ℕ → ℕ → Reading → ℕ
-placeOf iid highspeed links r =
-    cond (eqb (r .code) 0 && (eqb (r .class) 6 && fromLink (r .msgtype))) (placeWith highspeed links (indexOf iid links (r .id)) (r .sequence)) links
-
-none-there : (links : ℕ) → ltb links links ≡ false
-none-there links = le-ltb links links (omega arith)
-
-with-there : (highspeed : List ℕ) (links l n : ℕ) → ltb (placeWith highspeed links l n) links ≡ (ltb l links && canHave (numberAt highspeed l) n)
-unfolding placeWith
-with-there highspeed links l n = go (ltb l links) (canHave (numberAt highspeed l) n) refl
+pub passes-in : (g : Gateway) (r : Reading) (there : Bool) (i : ℕ) → Placed (g .links) (linkIn (g .links) (g .iid) r) there i
+    → passesIn there (linkAt g i) r ≡ passes g r
+unfolding passesIn passes isKnown linkOf known
+passes-in g r there i = go (eqb (r .class) 6)
   where
-    go : (u v : Bool) → ltb l links ≡ u → ltb (cond u (cond v l links) links) links ≡ (u && v)
-    go true true e = e
-    go true false e = none-there links
-    go false v e = none-there links
+    x : ℕ
+    x = indexOf (g .iid) (g .links) (r .id)
 
-with-is : (highspeed : List ℕ) (links l n : ℕ) → (ltb l links && canHave (numberAt highspeed l) n) ≡ true → placeWith highspeed links l n ≡ l
-unfolding placeWith
-with-is highspeed links l n = go (ltb l links) (canHave (numberAt highspeed l) n)
-  where
-    go : (u v : Bool) → (u && v) ≡ true → cond u (cond v l links) links ≡ l
-    go true true h = refl
-    go true false h = absurd (false≢true h)
-    go false v h = absurd (false≢true h)
+    can : ℕ → Bool
+    can l = canHave (linkAt g l) (r .sequence)
 
-module _ (iid highspeed : List ℕ) (links : ℕ) (r : Reading) where
-  abbrev at : ℕ
-  at = indexOf iid links (r .id)
+    fit : (u : Bool) → (u ≡ true → i ≡ x) → (u && can i) ≡ (u && can x)
+    fit true e = ap can (e refl)
+    fit false e = refl
 
-  pub place-there : ltb (placeOf iid highspeed links r) links ≡ passes iid highspeed links r
-  unfolding placeOf passes known
-  place-there = go (eqb (r .code) 0) (eqb (r .class) 6) (fromLink (r .msgtype))
-    where
-      go : (u v w : Bool) → ltb (cond (u && (v && w)) (placeWith highspeed links at (r .sequence)) links) links ≡ (u && (v && (w && (ltb at links && canHave (numberAt highspeed at) (r .sequence)))))
-      go true true true = with-there highspeed links at (r .sequence)
-      go true true false = none-there links
-      go true false w = none-there links
-      go false v w = none-there links
-
-  pub place-is : passes iid highspeed links r ≡ true → placeOf iid highspeed links r ≡ at
-  unfolding placeOf passes known
-  place-is = go (eqb (r .code) 0) (eqb (r .class) 6) (fromLink (r .msgtype))
-    where
-      go : (u v w : Bool) → (u && (v && (w && (ltb at links && canHave (numberAt highspeed at) (r .sequence))))) ≡ true → cond (u && (v && w)) (placeWith highspeed links at (r .sequence)) links ≡ at
-      go true true true h = with-is highspeed links at (r .sequence) h
-      go true true false h = absurd (false≢true h)
-      go true false w h = absurd (false≢true h)
-      go false v w h = absurd (false≢true h)
+    go : (u : Bool) → Placed (g .links) (cond u x (g .links)) there i
+        → (eqb (r .code) 0 && (u && (fromLink (r .msgtype) && (there && can i)))) ≡ (eqb (r .code) 0 && (u && (fromLink (r .msgtype) && (ltb x (g .links) && can x))))
+    go true h = ap (λ (b : Bool). eqb (r .code) 0 && (fromLink (r .msgtype) && b)) (fit there (h .index-is) ∙ ap (λ (b : Bool). b && can x) (h .there-is))
+    go false h = refl
 
 -- the number of a reading is the verdict
 pub code-is : (s : List ℕ) → readingOf s .code ≡ verdict s
@@ -92,8 +65,8 @@ code-is s = go (verdict s)
     go zero = refl
     go (suc n) = rw (ne-eqb (suc n) 0 (λ e. omega arith))
 
-pub in-plan : (g : Gateway) (s : List ℕ) → passes (g .iid) (g .highspeed) (g .links) (readingOf s) ≡ inPlan g (linkMessage s)
-unfolding passes isKnown linkOf
+pub in-plan : (g : Gateway) (s : List ℕ) → passes g (readingOf s) ≡ inPlan g (linkMessage s)
+unfolding passes
 in-plan g s = rw (code-is s)
 
 from-small : (k : ℕ) → fromLink k ≡ true → k < 256
@@ -114,11 +87,11 @@ pub record Fits (s : List ℕ) (r : Reading) : Type 0 where
   pub early : dataAt s .start ≤ 2048
   pub mark : r .correlated ≤ 1
 
-pub fits : (iid highspeed : List ℕ) (links : ℕ) (s : List ℕ) (r : Reading) → r ≡ readingOf s → passes iid highspeed links r ≡ true → r .msgtype ≡ 1 → Fits s r
+pub fits : (g : Gateway) (s : List ℕ) (r : Reading) → r ≡ readingOf s → passes g r ≡ true → r .msgtype ≡ 1 → Fits s r
 unfolding passes
-fits iid highspeed links s r e h m =
+fits g s r e h m =
     let a = eqb (r .class) 6 in
-    let b = fromLink (r .msgtype) && (known iid links (r .id) && canHave (numberAt highspeed (indexOf iid links (r .id))) (r .sequence)) in
+    let b = fromLink (r .msgtype) && (isKnown g (r .id) && canHave (linkAt g (linkOf g (r .id))) (r .sequence)) in
     let x = and-right (eqb (r .code) 0) (a && b) h in
     let v : verdict s ≡ 0 = sym (code-is s) ∙ (λ j. sym e j .code) ∙ eqb-true (r .code) 0 (and-left (eqb (r .code) 0) (a && b) h) in
     let u = good-unit s v ((λ j. sym e j .class) ∙ eqb-true (r .class) 6 (and-left a b x)) ((λ j. sym e j .msgtype) ∙ m) in
@@ -134,13 +107,13 @@ pub record Side (iid : List ℕ) (links : ℕ) (r : Reading) : Type 0 where
   pub msgtype : r .msgtype < 256
   pub there : known iid links (r .id) ≡ true
 
-pub side : (iid highspeed : List ℕ) (links : ℕ) (r : Reading) → passes iid highspeed links r ≡ true → Side iid links r
-unfolding passes
-side iid highspeed links r h =
+pub side : (g : Gateway) (r : Reading) → passes g r ≡ true → Side (g .iid) (g .links) r
+unfolding passes isKnown
+side g r h =
     let a = eqb (r .class) 6 in
     let b = fromLink (r .msgtype) in
-    let d = known iid links (r .id) in
-    let n = canHave (numberAt highspeed (indexOf iid links (r .id))) (r .sequence) in
+    let d = known (g .iid) (g .links) (r .id) in
+    let n = canHave (linkAt g (linkOf g (r .id))) (r .sequence) in
     let x = and-right (eqb (r .code) 0) (a && (b && (d && n))) h in
     let y = and-right a (b && (d && n)) x in
     record {

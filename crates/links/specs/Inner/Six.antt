@@ -1,33 +1,35 @@
--- The rules of class 6 (Rule 7.14) in the order in which the code asks, of the index l of the message's link.
+-- The rules of class 6 (Rules 7.14, 7.17) in the order in which the code asks, and the place of the message's link.
 -- Assumes nothing.
-use mathlib.Core.Path.{_≡_, refl}
+use mathlib.Core.Path.{_≡_, refl, sym, ap, _∙_}
 use mathlib.Core.Bool.{Bool, true, false, cond, not, _&&_}
 use mathlib.Core.List.{List, [], _∷_}
 use Prim.Native.Nat.{ℕ}
-use lib.Dec.{eqb, ltb}
-use Rattle.laws.specs.Columns.{numberAt, isSet}
+use lib.Dec.{eqb}
 use Rattle.message.specs.declared.Reading.{Reading}
 use Rattle.action.specs.Words.{action, linkSide}
-use Rattle.gateway.specs.Sound.{pair}
 use Rattle.gateway.specs.declared.Gateway.{Gateway}
 use Rattle.action.specs.Types.{userData, dataAck}
-use Rattle.lookup.specs.Links.{indexOf, known}
-use Rattle.rules.specs.Effect.{Effect, send, error, error2}
-use Rattle.rules.specs.Identifiers.{isKnown, linkOf}
-use Rattle.rules.specs.Link.{dataEffect, canHave, linkEffect, classSixEffect}
+use Rattle.lookup.specs.Links.{known}
 use Rattle.rules.specs.declared.Decision.{Decision}
-use Rattle.work.specs.Inner.Decides.{Decides, DecidesOn, decided}
+use Rattle.rules.specs.declared.Link.{Link}
+use Rattle.rules.specs.declared.Sender.{Sender}
+use Rattle.rules.specs.Effect.{Effect, send, error, error2}
+use Rattle.rules.specs.Identifiers.{isKnown, linkOf, ownerAt}
+use Rattle.rules.specs.Records.{linkAt, senderOf}
+use Rattle.rules.specs.Link.{dataEffect, canHave, linkEffect, classSixOn, classSixEffect}
+use Rattle.work.specs.Inner.Decides.{Decides, decided}
+use Rattle.links.specs.Inner.Records.{Placed}
 
 -- Data, as a tree
-unfoldable pub dataTree : ℕ → ℕ → ℕ → Reading → Effect
-dataTree p x st r =
-    cond (eqb st 2)
+unfoldable pub dataTree : ℕ → ℕ → Link → Reading → Effect
+dataTree p x k r =
+    cond (eqb (k .state) 2)
     (cond (eqb (r .correlated) 1) (send (action linkSide userData x 0 ∷ action p dataAck x (r .correlation) ∷ [])) (send (action linkSide userData x 0 ∷ [])))
     (send (action p 0 0 6 ∷ []))
 
-pub data-tree : (p x st : ℕ) (r : Reading) → dataTree p x st r ≡ dataEffect p x st r
+pub data-tree : (p x : ℕ) (k : Link) (r : Reading) → dataTree p x k r ≡ dataEffect p x k r
 unfolding dataTree dataEffect
-data-tree p x st r = go (eqb st 2) (eqb (r .correlated) 1)
+data-tree p x k r = go (eqb (k .state) 2) (eqb (r .correlated) 1)
   where
     go : (u v : Bool)
         → cond u (cond v (send (action linkSide userData x 0 ∷ action p dataAck x (r .correlation) ∷ [])) (send (action linkSide userData x 0 ∷ []))) (send (action p 0 0 6 ∷ []))
@@ -36,25 +38,23 @@ data-tree p x st r = go (eqb st 2) (eqb (r .correlated) 1)
     go true false = refl
     go false v = refl
 
--- p is up; the link at l is there, and owned by an AS of p; p is active in it; the link can have the sequence number
-unfoldable pub sixAt : ℕ → List ℕ → List ℕ → List ℕ → List ℕ → List ℕ → List ℕ → ℕ → ℕ → Reading → Effect
-sixAt links up member active owner state highspeed p l r =
-    cond (eqb (numberAt up p) 1)
-    (cond (ltb l links)
-    (cond (eqb (numberAt member (pair (numberAt owner l) p)) 1)
-    (cond (eqb (numberAt active (pair (numberAt owner l) p)) 1)
-    (cond (canHave (numberAt highspeed l) (r .sequence)) (linkEffect p (r .id) l (numberAt state l) r) (send (error p 17)))
+-- the questions of Rule 7.14, as a tree
+unfoldable pub sixTree : Bool → ℕ → ℕ → Link → Sender → Reading → Effect
+sixTree there p l k s r =
+    cond (eqb (s .up) 1)
+    (cond there
+    (cond (eqb (s .member) 1)
+    (cond (eqb (s .active) 1)
+    (cond (canHave k (r .sequence)) (linkEffect p (r .id) l k r) (send (error p 17)))
     (send (error p 6)))
     (send (error2 p (r .id))))
     (send (error2 p (r .id))))
     (send (error p 6))
 
-six-at : (g : Gateway) (p : ℕ) (r : Reading) → sixAt (g .links) (g .up) (g .member) (g .active) (g .owner) (g .state) (g .highspeed) p (linkOf g (r .id)) r ≡ classSixEffect g p r
-unfolding sixAt classSixEffect isKnown linkOf known
-six-at g p r =
-    let l = linkOf g (r .id) in
-    let a = numberAt (g .owner) l in
-    go (linkEffect p (r .id) l (numberAt (g .state) l) r) (send (error p 6)) (send (error2 p (r .id))) (send (error p 17)) (isSet (g .up) p) (isKnown g (r .id)) (isSet (g .member) (pair a p)) (isSet (g .active) (pair a p)) (canHave (numberAt (g .highspeed) l) (r .sequence))
+six-tree : (there : Bool) (p l : ℕ) (k : Link) (s : Sender) (r : Reading) → sixTree there p l k s r ≡ classSixOn there p l k s r
+unfolding sixTree classSixOn
+six-tree there p l k s r =
+    go (linkEffect p (r .id) l k r) (send (error p 6)) (send (error2 p (r .id))) (send (error p 17)) (eqb (s .up) 1) there (eqb (s .member) 1) (eqb (s .active) 1) (canHave k (r .sequence))
   where
     go : (x y z v : Effect) (u k m a n : Bool) → cond u (cond k (cond m (cond a (cond n x v) y) z) z) y ≡ cond (not u) y (cond (not (k && m)) z (cond (not a) y (cond (not n) v x)))
     go x y z v true true true true true = refl
@@ -64,21 +64,26 @@ six-at g p r =
     go x y z v true false m a n = refl
     go x y z v false k m a n = refl
 
--- the state g has these columns
-pub record SixColumns (links : ℕ) (up member active iid owner state highspeed : List ℕ) (g : Gateway) : Type 0 where
-  pub links-is : g .links ≡ links
-  pub up-is : g .up ≡ up
-  pub member-is : g .member ≡ member
-  pub active-is : g .active ≡ active
-  pub iid-is : g .iid ≡ iid
-  pub owner-is : g .owner ≡ owner
-  pub state-is : g .state ≡ state
-  pub highspeed-is : g .highspeed ≡ highspeed
+pub by-tree : {w : Decision} (there : Bool) (p l : ℕ) (k : Link) (s : Sender) (r : Reading) → Decides w (sixTree there p l k s r) → Decides w (classSixOn there p l k s r)
+by-tree there p l k s r h = decided h (six-tree there p l k s r)
 
--- what is decided at the index of the message's link is the rules' on each of them
-pub six-on : {links : ℕ} {up member active iid owner state highspeed : List ℕ} (p : ℕ) (r : Reading) {l : ℕ} {w : Decision}
-    → l ≡ indexOf iid links (r .id) → Decides w (sixAt links up member active owner state highspeed p l r)
-    → DecidesOn (SixColumns links up member active iid owner state highspeed) (λ g. classSixEffect g p r) w
-unfolding linkOf
-six-on p r e d =
-    record { on = λ g h. decided (rw (← h .links-is, ← h .up-is, ← h .member-is, ← h .active-is, ← h .owner-is, ← h .state-is, ← h .highspeed-is, ← h .iid-is) at (rw e at d)) (six-at g p r) }
+-- ---- the link of the message: at the place i, or there is none, and then its record is not asked
+
+abbrev sixAt : Gateway → Bool → ℕ → ℕ → Reading → Effect
+sixAt g there p l r = classSixOn there p l (linkAt g l) (senderOf g (ownerAt g l) p) r
+
+none-there : (g : Gateway) (p i l : ℕ) (r : Reading) → sixAt g false p i r ≡ sixAt g false p l r
+unfolding classSixOn
+none-there g p i l r = refl
+
+known-is : (g : Gateway) (x : ℕ) {there : Bool} {i : ℕ} → Placed (g .links) (linkOf g x) there i → there ≡ isKnown g x
+unfolding isKnown known linkOf
+known-is g x h = h .there-is
+
+pub six-in : (g : Gateway) (p : ℕ) (r : Reading) (there : Bool) (i : ℕ) → Placed (g .links) (linkOf g (r .id)) there i → sixAt g there p i r ≡ classSixEffect g p r
+unfolding classSixEffect
+six-in g p r there i h = go there refl ∙ ap (λ (u : Bool). sixAt g u p (linkOf g (r .id)) r) (known-is g (r .id) h)
+  where
+    go : (u : Bool) → there ≡ u → sixAt g there p i r ≡ sixAt g there p (linkOf g (r .id)) r
+    go true e = ap (λ (l : ℕ). sixAt g there p l r) (h .index-is e)
+    go false e = rw e (none-there g p i (linkOf g (r .id)) r)

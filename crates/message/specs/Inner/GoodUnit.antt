@@ -2,11 +2,18 @@
 -- Assumes nothing.
 use mathlib.Core.Path.{_≡_}
 use Prim.Native.Nat.{ℕ, _+_, _≤_}
-use mathlib.Core.Bool.{true, _||_}
-use mathlib.Core.List.{List}
+use mathlib.Core.Bool.{true, cond, _||_}
+use mathlib.Core.List.{List, [], _∷_}
 use lib.ListN.{length, take, drop}
 use lib.Dec.{eqb}
+use Rattle.wire.specs.Walk.{Par}
+use Rattle.parameter.specs.Table.{key}
 use Rattle.message.specs.Meaning.{dataOf, dataTag, dataAt}
+
+-- the tag of the first parameter that counts as t; 0 where there is none
+unfoldable pub tagIn : ℕ → List Par → ℕ
+tagIn t [] = 0
+tagIn t (p ∷ ps) = cond (eqb (key (p .tag)) (key t)) (p .tag) (tagIn t ps)
 
 -- its tag, its length within the limits of Rule 2.15, and that it lies in the message, behind a tag and a length field
 pub record GoodUnit (s : List ℕ) : Type 0 where

@@ -13,9 +13,9 @@ use Rattle.wire.specs.Walk.{Par, padded}
 use Rattle.parameter.specs.Table.{table, hasClass, rowIn}
 use Rattle.parameter.specs.Inner.Slot.{slot, allAsked}
 use Rattle.message.specs.Verdict.{head, exactly, getBsn, getMessages, most, lastChecks}
-use Rattle.message.specs.Meaning.{flag, refusal, outcome}
+use Rattle.laws.specs.Below.{one}
+use Rattle.message.specs.Meaning.{unreadable, outcome}
 use Rattle.message.specs.declared.Reading.{Reading}
-use Rattle.message.specs.declared.DataUnit.{DataUnit}
 
 -- a tag of the slot is there
 unfoldable pub there : ℕ → List Par → Bool
@@ -53,32 +53,22 @@ meaningAt c t met words =
       code = 0;
       class = c;
       msgtype = t;
-      ids = flag (getD met (slot 0x1) false || getD met (slot 0x8) false);
+      ids = one (getD met (slot 0x1) false || getD met (slot 0x8) false);
       id = getD words (slot 0x1) 0;
       mode = getD words (slot 0xb) 0;
-      identified = flag (getD met (slot 0x11) false);
+      identified = one (getD met (slot 0x11) false);
       aspid = getD words (slot 0x11) 0;
-      correlated = flag (getD met (slot 0x13) false);
+      correlated = one (getD met (slot 0x13) false);
       correlation = getD words (slot 0x13) 0;
       state = getD words (slot 0x302) 0;
       retrieval = getD words (slot 0x306) 0;
-      sequenced = flag (getD met (slot 0x307) false);
+      sequenced = one (getD met (slot 0x307) false);
       sequence = getD words (slot 0x307) 0;
     }
 
 -- what a number hands back: the meaning, or the refusal
 unfoldable pub outcomeAt : ℕ → ℕ → ℕ → List Bool → List ℕ → Reading
-outcomeAt n c t met words = cond (eqb n 0) (meaningAt c t met words) (refusal n)
-
--- no parameter of the slot
-abbrev pub noUnit : DataUnit
-noUnit = record { tag = 0; start = 0; length = 0 }
-
--- the tag of the first parameter of a slot, and where its value lies, if the first of the parameters stands at a position
-unfoldable pub unitAt : ℕ → ℕ → List Par → DataUnit
-unitAt k at [] = noUnit
-unitAt k at (p ∷ ps) =
-    cond (eqb (slot (p .tag)) k) (record { tag = p .tag; start = at + 4; length = length (p .body) }) (unitAt k (at + padded (4 + length (p .body))) ps)
+outcomeAt n c t met words = cond (eqb n 0) (meaningAt c t met words) (unreadable n)
 
 -- The checks in the order in which the code asks: 3 to 5, of whether the class is listed, the row, the length field and the number of bytes
 unfoldable pub rowCode : Bool → ℕ → ℕ → ℕ → ℕ
@@ -86,7 +76,7 @@ rowCode listed i n len = cond (not listed) 3 (cond (eqb i 17) 4 (cond (eqb n len
 
 -- 3 to 8, of what they gave
 unfoldable pub rowOutcome : ℕ → List ℕ → Reading
-rowOutcome n s = cond (eqb n 0) (outcome (lastChecks s) s) (refusal n)
+rowOutcome n s = cond (eqb n 0) (outcome (lastChecks s) s) (unreadable n)
 
 abbrev pub kindOutcome : List ℕ → Reading
 kindOutcome s = rowOutcome (rowCode (hasClass table (getD s 2 0)) (rowIn table (getD s 2 0) (getD s 3 0)) (be 4 s 4) (length s)) s
@@ -94,9 +84,9 @@ kindOutcome s = rowOutcome (rowCode (hasClass table (getD s 2 0)) (rowIn table (
 -- and all of them
 unfoldable pub checksOutcome : List ℕ → Reading
 checksOutcome s =
-    cond (ltb (length s) 8) (refusal 7)
-    (cond (ltb most (length s)) (refusal 7)
-    (cond (eqb (getD s 0 0) 1) (kindOutcome s) (refusal 1)))
+    cond (ltb (length s) 8) (unreadable 7)
+    (cond (ltb most (length s)) (unreadable 7)
+    (cond (eqb (getD s 0 0) 1) (kindOutcome s) (unreadable 1)))
 
 -- a message of the class and type may have no parameter
 unfoldable pub needsNone : ℕ → ℕ → Bool

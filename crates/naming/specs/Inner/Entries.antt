@@ -19,7 +19,7 @@ use Rattle.laws.specs.Inner.Columns.{is-tabulate, tabulate-ext, getD-tabulate}
 use Rattle.lookup.specs.Links.{indexOf, known}
 use Rattle.lookup.specs.Inner.Links.{index-own}
 use Rattle.ranges.specs.declared.Refused.{Refused}
-use Rattle.ranges.specs.Named.{ownerOf, isOwnedBy, nothing, refusing, firstIn, someIn, firstOf, width, startAt, stopAt, entries, refusedEntry, someEntry, refusedIn, someOf}
+use Rattle.ranges.specs.Named.{ownerById, isOwnedBy, nothing, refusing, firstIn, someIn, firstOf, width, startAt, stopAt, entries, refusedEntry, someEntry, refusedIn, someOf}
 use Rattle.ranges.specs.Inner.Laws.{Table}
 use Rattle.ranges.specs.Inner.Refused.{not-found}
 use Rattle.ranges.specs.Inner.Names.{earlier, earlier-again, earlier-nothing, Plain, plain-earlier}

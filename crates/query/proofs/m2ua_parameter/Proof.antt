@@ -1,15 +1,19 @@
--- `query::m2ua_parameter`: found from the first parameter on. Assumes nothing.
+-- `query::m2ua_parameter`: what is found of the one tag. Assumes nothing.
+use mathlib.Core.Path.{ap}
+use Rattle.message.specs.declared.Found.{Found}
+use Rattle.query.specs.declared.ParamAt.{ParamAt}
 use Rattle.query.specs.Query.{paramAt}
 use borrow.Author.Needs.{needs}
 use Rattle.query.proofs.m2ua_parameter.Statement.{statement}
 use Rattle.query.proofs.m2ua_parameter.Tie as tie
 
-find-requires : tie.Need-find-requires
-find-requires c κs = search needs
+-- without the tag, which is the one asked for
+abbrev placed : Found → ParamAt
+placed p = record { found = p .found; start = p .start; length = p .length }
 
 returns : tie.Need-returns
 unfolding paramAt
-returns c = c .find .ensures
+returns c = ap placed (c .find .ensures)
 
 pub m2ua-parameter-spec : {M : Type 1} → statement M
-m2ua-parameter-spec = tie.close (tie.spec find-requires returns)
+m2ua-parameter-spec = tie.close (tie.spec (λ c κs. search needs) returns)

@@ -16,7 +16,7 @@ use Rattle.laws.specs.Inner.Columns.{is-tabulate}
 use Rattle.laws.specs.Inner.Every.{and-left, and-right, clash}
 use Rattle.lookup.specs.Links.{indexOf, known}
 use Rattle.lookup.specs.Inner.Links.{rank, index-own, index-not}
-use Rattle.ranges.specs.Named.{ownerOf, isOwnedBy, nothing, refusing, firstIn, someIn}
+use Rattle.ranges.specs.Named.{ownerById, isOwnedBy, nothing, refusing, firstIn, someIn}
 use Rattle.ranges.specs.Inner.Laws.{Table}
 use Rattle.ranges.specs.Inner.Refused.{refusedBy, refused-here, refused-past, good-none, good-more, refuses-at, none-refused}
 
@@ -43,7 +43,7 @@ alone-some good x =
 
 -- where it stands at l, it adds the flag of the owner o
 pub alone-marked : (iid owner : List ℕ) (links : ℕ) → Table iid owner links → (l x o : ℕ) → l < links → numberAt iid l ≡ x → o ≡ numberAt owner l → (r : List Bool) → length r ≡ 16 → set r o true ≡ tabulate 16 (λ a. flagAt r a || someIn (isOwnedBy iid owner links a) x x)
-unfolding isOwnedBy ownerOf known
+unfolding isOwnedBy ownerById known
 alone-marked iid owner links t l x o b z k r n =
     is-tabulate false (set r o true) 16 (λ a. flagAt r a || someIn (isOwnedBy iid owner links a) x x) (length-set r o true ∙ n)
     (λ a c. rw (alone-some (isOwnedBy iid owner links a) x, owned a) (go a c (ℕ-discrete a o)))

@@ -18,7 +18,7 @@ use Rattle.gateway.specs.Sound.{ascends}
 use Rattle.gateway.specs.Inner.Laws.{parts, links-parts}
 use Rattle.lookup.specs.Links.{indexOf, known}
 use Rattle.lookup.specs.Inner.Links.{rank, rank-most, rank-below, rank-from, index-own, index-is}
-use Rattle.ranges.specs.Named.{ownerOf, isOwnedBy, span, someIn}
+use Rattle.ranges.specs.Named.{ownerById, isOwnedBy, span, someIn}
 use Rattle.ranges.specs.Places.{isFrom, isInside, firstPlace, lastPlace, placesIn, standsIn, allKnown, RangeWalk, RangeWalks}
 use Rattle.ranges.specs.Inner.Owners.{ownsFrom}
 use Rattle.ranges.specs.Inner.Ranks.{rank-here, rank-next, rank-same}
@@ -234,7 +234,7 @@ module _ (iid : List ℕ) (links : ℕ) (h : ascends iid links ≡ true) (start 
 
   -- so the owners of the known ones are those of the places between
   pub owned-between : (owner : List ℕ) (a : ℕ) → someIn (isOwnedBy iid owner links a) start stop ≡ anyBelow (ownsFrom owner (rank iid links start) a) (rank iid links (stop + 1))
-  unfolding someIn isOwnedBy ownerOf ownsFrom
+  unfolding someIn isOwnedBy ownerById ownsFrom
   owned-between owner a =
       same-truth (anyBelow (λ i. isOwnedBy iid owner links a (start + i)) (span start stop)) (anyBelow (ownsFrom owner first a) past)
       (λ e. let y = any-at (λ i. isOwnedBy iid owner links a (start + i)) (span start stop) e in to (y .0) (y .1) (y .2))

@@ -15,7 +15,7 @@ use Rattle.laws.specs.Inner.Columns.{is-tabulate, tabulate-ext, getD-tabulate}
 use Rattle.laws.specs.Inner.Every.{and-both}
 use Rattle.lookup.specs.Links.{indexOf, known}
 use Rattle.lookup.specs.Inner.Links.{rank, rank-most}
-use Rattle.ranges.specs.Named.{ownerOf, isOwnedBy, span, nothing, firstIn, someIn}
+use Rattle.ranges.specs.Named.{ownerById, isOwnedBy, span, nothing, firstIn, someIn}
 use Rattle.ranges.specs.Inner.Laws.{Table, owner-small}
 use Rattle.ranges.specs.Inner.Refused.{refusedBy, good-known, all-good}
 use Rattle.ranges.specs.Inner.Owners.{ownsFrom, or-right}
@@ -56,7 +56,7 @@ module _ (iid owner : List ℕ) (links : ℕ) (t : Table iid owner links) (start
 
   -- as many places as identifiers, and all owners in mine: none is refused
   pub range-good : (mine : List Bool) → start ≤ stop → past - first ≡ stop - start + 1 → allBelow (λ a. not (flagAt r a) || flagAt mine a) 16 ≡ true → nothing ≡ firstIn (refusedBy iid owner links mine) start stop
-  unfolding ownerOf
+  unfolding ownerById
   range-good mine b n w = all-good (refusedBy iid owner links mine) start stop one
     where
       implied : (u v : Bool) → (not u || v) ≡ true → u ≡ true → v ≡ true

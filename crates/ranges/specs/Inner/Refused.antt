@@ -16,16 +16,16 @@ use Rattle.gateway.specs.Sound.{pair}
 use Rattle.lookup.specs.Links.{indexOf, known}
 use Rattle.lookup.specs.Inner.Links.{rank, index-here, index-not}
 use Rattle.ranges.specs.declared.Refused.{Refused}
-use Rattle.ranges.specs.Named.{ownerOf, isRefused, span, nothing, refusing, firstIn}
+use Rattle.ranges.specs.Named.{ownerById, isRefused, span, nothing, refusing, firstIn}
 use Rattle.ranges.specs.Inner.Laws.{Table, owner-small}
 
 -- x is unknown, or the flag of its AS is not set in mine
 unfoldable pub refusedBy : List ℕ → List ℕ → ℕ → List Bool → ℕ → Bool
-refusedBy iid owner links mine x = not (known iid links x && flagAt mine (ownerOf iid owner links x))
+refusedBy iid owner links mine x = not (known iid links x && flagAt mine (ownerById iid owner links x))
 
 -- where the flags are those of p's ASes, this is the rule's
 pub refused-by : (iid owner member : List ℕ) (links p : ℕ) (mine : List Bool) → Table iid owner links → ((a : ℕ) → a < 16 → flagAt mine a ≡ isSet member (pair a p)) → refusedBy iid owner links mine ≡ isRefused iid owner member links p
-unfolding refusedBy isRefused known ownerOf
+unfolding refusedBy isRefused known ownerById
 refused-by iid owner member links p mine t h = fun-ext at
   where
     go : (x : ℕ) → Dec (indexOf iid links x < links) → refusedBy iid owner links mine x ≡ isRefused iid owner member links p x
@@ -40,7 +40,7 @@ refused-by iid owner member links p mine t h = fun-ext at
 module _ (iid owner : List ℕ) (links : ℕ) (t : Table iid owner links) (mine : List Bool) (l x : ℕ) (e : l ≡ rank iid links x) where
   -- the link at l decides whether x is refused
   pub refused-here : l < links → (not (eqb (numberAt iid l) x) || not (flagAt mine (numberAt owner l))) ≡ refusedBy iid owner links mine x
-  unfolding refusedBy ownerOf known
+  unfolding refusedBy ownerById known
   refused-here b = go (ℕ-discrete (numberAt iid l) x)
     where
       go : Dec (numberAt iid l ≡ x) → (not (eqb (numberAt iid l) x) || not (flagAt mine (numberAt owner l))) ≡ not (ltb (indexOf iid links x) links && flagAt mine (numberAt owner (indexOf iid links x)))
@@ -77,7 +77,7 @@ module _ (iid owner : List ℕ) (links : ℕ) (t : Table iid owner links) (mine 
             absurd (false≢true (sym f ∙ sym w))
 
 -- a known one whose AS is in mine is not refused
-pub good-known : (iid owner : List ℕ) (links : ℕ) (mine : List Bool) (x : ℕ) → known iid links x ≡ true → flagAt mine (ownerOf iid owner links x) ≡ true → refusedBy iid owner links mine x ≡ false
+pub good-known : (iid owner : List ℕ) (links : ℕ) (mine : List Bool) (x : ℕ) → known iid links x ≡ true → flagAt mine (ownerById iid owner links x) ≡ true → refusedBy iid owner links mine x ≡ false
 unfolding refusedBy
 good-known iid owner links mine x k f = rw (k, f)
 

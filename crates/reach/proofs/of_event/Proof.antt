@@ -4,18 +4,25 @@ use borrow.Author.Needs.{needs}
 use Rattle.gateway.specs.Sound.{isSound}
 use Rattle.gateway.specs.Inner.Laws.{counts-within}
 use Rattle.ranges.specs.Inner.Laws.{table}
-use Rattle.rules.specs.Event.{Event}
+use Rattle.rules.specs.Event.{lending, Event}
 use Rattle.rules.specs.Rules.{refusal, refusalOf, inPlan}
 use Rattle.ask.specs.Happened.{happened, eventOf}
 use Rattle.ask.specs.Inner.Ask.{ask-fits-at}
+use Rattle.ask.specs.Inner.Place.{knownIn, refusal-in}
 use Rattle.rules.specs.Inner.Accepted.{Accepted, accepted}
 use Rattle.reach.specs.Inner.Rows.{row-is, reached-no, reached-yes}
 use Rattle.reach.proofs.of_event.Statement.{statement}
 use Rattle.reach.proofs.of_event.Tie as tie
 
 -- the way back
+abbrev to-placed : tie.After-refused → tie.After-placed
+to-placed c = c .before .before
+
+abbrev to-sound : tie.After-refused → tie.After-is-sound
+to-sound c = to-placed c .before .before .before
+
 abbrev to-asked : tie.After-refused → tie.After-asked
-to-asked c = c .before .before .before .before .before
+to-asked c = to-sound c .before
 
 abbrev start : tie.After-asked → tie.Start
 start c = c .before .before
@@ -24,22 +31,26 @@ start c = c .before .before
 abbrev happens : tie.After-asked → Event
 happens c = eventOf (happened (start c .args .kind) (start c .args .i) (start c .args .msg .now)) (start c .args .room) (start c .args .hold)
 
-refusal-is : (c : tie.After-refused) → c .refused .result .code ≡ refusal (start (to-asked c) .args .t1) (happens (to-asked c))
+refusal-is : (c : tie.After-refused) → c .refused .result ≡ refusal (start (to-asked c) .args .t1) (happens (to-asked c))
 refusal-is c =
-    c .refused .ensures .0
-    ∙ (λ j. refusalOf (c .before .before .before .before .is-sound .ensures j) (to-asked c .asked .ensures .known (start (to-asked c) .args .t1) j) (start (to-asked c) .args .hold) (start (to-asked c) .args .room))
+    let s = start (to-asked c) in
+    let g = s .args .t1 in
+    c .refused .ensures
+    ∙ (λ j. refusalOf (to-sound c .is-sound .result) (knownIn (g .asps) (g .ases) (to-placed c .placed .result .there) (c .before .link-at .ensures j) (to-asked c .asked .result)) (lending (s .args .room) (s .args .hold)))
+    ∙ refusal-in g (to-asked c .asked .result) _ _ _ (lending (s .args .room) (s .args .hold)) (to-sound c .is-sound .ensures) (to-placed c .placed .ensures .1)
+    ∙ (λ j. refusalOf (isSound g) (to-asked c .asked .ensures .known g j) (lending (s .args .room) (s .args .hold)))
 
-taken : (c : tie.After-refused) → c .refused .result .code ≡ 0 → Accepted (isSound (start (to-asked c) .args .t1)) (inPlan (start (to-asked c) .args .t1) (happens (to-asked c) .kind)) (start (to-asked c) .args .hold) (start (to-asked c) .args .room)
-taken c h = accepted _ _ _ _ (sym (refusal-is c) ∙ h)
+taken : (c : tie.After-refused) → c .refused .result ≡ 0 → Accepted (isSound (start (to-asked c) .args .t1)) (inPlan (start (to-asked c) .args .t1) (happens (to-asked c) .kind)) (lending (start (to-asked c) .args .room) (start (to-asked c) .args .hold))
+taken c h = accepted _ _ _ (sym (refusal-is c) ∙ h)
 
-refused-requires : tie.Need-refused-requires
-refused-requires c κs h =
-    let t = table (start (c .before .before .before .before) .args .t1) (sym (c .before .before .before .is-sound .ensures) ∙ h) in
+placed-requires : tie.Need-placed-requires
+placed-requires c κs h =
+    let t = table (start (c .before .before .before) .args .t1) (sym (c .before .before .is-sound .ensures) ∙ h) in
     (t .few, t .order)
 
 row-of-requires : tie.Need-row-of-requires
 row-of-requires c κs =
-    let r = c .before .before .before .before .before .before .before in
+    let r = c .before .before .before .before .before .before in
     let g = start (to-asked r) .args .t1 in
     let a = to-asked r .asked .ensures in
     let t = taken r (c .before .before .before .before .before .if1 .left) in
@@ -48,7 +59,7 @@ row-of-requires c κs =
 
 returns-2 : tie.Need-returns-2
 returns-2 c =
-    let r = c .before .before .before .before .before .before .before .before .before .before in
+    let r = c .before .before .before .before .before .before .before .before .before in
     let a = to-asked r in
     let g = start a .args .t1 in
     reached-yes g (happens a) (refusal-is r) (c .before .before .before .before .before .before .before .before .if1 .left) (row-is g (start a .args .msg .now) (a .asked .result) (happens a) (c .before .before .before .before .before .before .before .wide .ensures) (c .before .before .row-of .ensures) (a .asked .ensures .reach g)) (rw (c .before .wide2 .ensures) at (c .within .ensures))
@@ -59,8 +70,10 @@ of-event-spec =
     (tie.spec
     (λ c κs. search needs)
     (λ c κs. search needs)
-    refused-requires
-    (λ c. reached-no _ (happens (to-asked (c .before .before))) (refusal-is (c .before .before)) (c .if1 .taken))
+    placed-requires
+    (λ c κs. search needs)
+    (λ c κs. search needs)
+    (λ c. reached-no _ (happens (to-asked (c .before))) (refusal-is (c .before)) (c .if1 .taken))
     (λ c κs. search needs)
     row-of-requires
     (λ c κs. search needs)

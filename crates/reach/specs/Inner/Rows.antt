@@ -15,7 +15,7 @@ use Rattle.message.specs.declared.Reading.{Reading}
 use Rattle.gateway.specs.declared.Gateway.{Gateway}
 use Rattle.lookup.specs.Links.{indexOf, known}
 use Rattle.servers.specs.Changed.{columnOf}
-use Rattle.ranges.specs.Named.{isOwnedBy, ownerOf}
+use Rattle.ranges.specs.Named.{isOwnedBy, ownerById}
 use Rattle.traffic.specs.Inner.Named.{goodPars, good-is}
 use Rattle.rules.specs.Event.{Event}
 use Rattle.rules.specs.Identifiers.{isKnown, linkOf, isMember, ownsGood, ownersGood}
@@ -75,17 +75,17 @@ only-row a = tabulate-ext false 16 (λ c. eqb c a) (eqb a) (λ c b. eqb-turned c
 -- the owner of an identifier, which stands at l or nowhere
 module _ (links : ℕ) (iid owner : List ℕ) (x l : ℕ) (e : l ≡ indexOf iid links x) where
   pub id-known : l < links → tabulate 16 (eqb (numberAt owner l)) ≡ ownerRow links iid owner x
-  unfolding ownerRow isOwnedBy ownerOf known
+  unfolding ownerRow isOwnedBy ownerById known
   id-known h = tabulate-ext false 16 (eqb (numberAt owner l)) (λ a. isOwnedBy iid owner links a x) (λ a b. rw (← e, lt-ltb l links h))
 
   pub id-unknown : links ≤ l → replicate 16 false ≡ ownerRow links iid owner x
-  unfolding ownerRow isOwnedBy ownerOf known
+  unfolding ownerRow isOwnedBy ownerById known
   id-unknown h = none-row (λ a. isOwnedBy iid owner links a x) (λ a. rw (← e, le-ltb l links h))
 
 -- the rows are the rule's
 module _ (g : Gateway) where
   owner-row : (x : ℕ) → ownerRow (g .links) (g .iid) (g .owner) x ≡ tabulate 16 (ownsId g x)
-  unfolding ownerRow isOwnedBy ownerOf ownsId isKnown linkOf
+  unfolding ownerRow isOwnedBy ownerById ownsId isKnown linkOf
   owner-row x = refl
 
   all-of : (p : ℕ) → columnOf (g .member) p ≡ tabulate 16 (λ a. isMember g a p)

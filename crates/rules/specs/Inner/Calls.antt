@@ -31,7 +31,7 @@ hold-next g e h = by-cond (eqb (refusal g e) 0) (λ (x : List ℕ). length x ≡
 
 -- the hold to lend: the board's, or zeros where the event has another length
 abbrev pub lend : Board → Event → List ℕ
-lend b e = cond (eqb (e .hold) holdBytes) (b .hold) (replicate (e .hold) 0)
+lend b e = cond (eqb (e .lent .hold) holdBytes) (b .hold) (replicate (e .lent .hold) 0)
 
 -- the call of an event that is lent the list l, as the rules give it
 abbrev pub made : Board → Event → List ℕ → Call
@@ -46,15 +46,15 @@ made b e l =
     }
 
 module _ (b : Board) (e : Event) where
-  pub lend-same : e .hold ≡ holdBytes → lend b e ≡ b .hold
-  lend-same t = sym (at-yes (b .hold) (replicate (e .hold) 0) (eqb (e .hold) holdBytes) (eq-eqb (e .hold) holdBytes t) refl)
+  pub lend-same : e .lent .hold ≡ holdBytes → lend b e ≡ b .hold
+  lend-same t = sym (at-yes (b .hold) (replicate (e .lent .hold) 0) (eqb (e .lent .hold) holdBytes) (eq-eqb (e .lent .hold) holdBytes t) refl)
 
   module _ (n : length (b .hold) ≡ holdBytes) (l : List ℕ) where
-    lend-length : length (lend b e) ≡ e .hold
+    lend-length : length (lend b e) ≡ e .lent .hold
     lend-length =
-        by-cond (eqb (e .hold) holdBytes) (λ (x : List ℕ). length x ≡ e .hold) (λ t. n ∙ sym (eqb-true (e .hold) holdBytes t)) (λ _. length-replicate (e .hold) 0)
+        by-cond (eqb (e .lent .hold) holdBytes) (λ (x : List ℕ). length x ≡ e .lent .hold) (λ t. n ∙ sym (eqb-true (e .lent .hold) holdBytes t)) (λ _. length-replicate (e .lent .hold) 0)
 
-    pub made-meets : length l ≡ e .room → MeetsRules (b .gateway) e l (made b e l .left) (made b e l .hold) (made b e l .held) (made b e l .outcome)
+    pub made-meets : length l ≡ e .lent .room → MeetsRules (b .gateway) e l (made b e l .left) (made b e l .hold) (made b e l .held) (made b e l .outcome)
     made-meets r =
         record {
           room = r;
@@ -70,5 +70,5 @@ module _ (b : Board) (e : Event) where
     -- the hold that goes on has its length too
     pub made-hold : length (boardAfter b (made b e l) .hold) ≡ holdBytes
     made-hold =
-        by-cond (eqb (e .hold) holdBytes) (λ (x : List ℕ). length x ≡ holdBytes)
-        (λ t. hold-next (b .gateway) e (lend b e) ∙ lend-length ∙ eqb-true (e .hold) holdBytes t) (λ _. n)
+        by-cond (eqb (e .lent .hold) holdBytes) (λ (x : List ℕ). length x ≡ holdBytes)
+        (λ t. hold-next (b .gateway) e (lend b e) ∙ lend-length ∙ eqb-true (e .lent .hold) holdBytes t) (λ _. n)

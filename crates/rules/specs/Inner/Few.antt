@@ -18,8 +18,9 @@ use Rattle.server.specs.Inner.Change.{fits}
 use Rattle.servers.specs.Inner.Changed.{allActions-short}
 use Rattle.rules.specs.Event.{EventKind, linkMessage, Event}
 use Rattle.rules.specs.Effect.{Effect, send, setLink, changeIn, takeIn, actionsOf}
-use Rattle.rules.specs.Link.{toRecipients, recipientsOf, isPending, arrival, holdEffect, linkMessageEffect}
+use Rattle.rules.specs.Link.{toRecipients, recipientsAt, isPending, arrival, holdEffect, linkMessageOn, linkMessageEffect}
 use Rattle.rules.specs.Identifiers.{linkOf, ownerAt}
+use Rattle.rules.specs.Records.{linkAt}
 use Rattle.rules.specs.Rules.{effectOf, inPlan, refusal}
 use Rattle.rules.specs.Entry.{actions}
 use Rattle.rules.specs.Inner.Accepted.{accepted}
@@ -61,16 +62,16 @@ shapes =
 
 -- what the link side sends is held, turned away, or passed on
 link-short : (g : Gateway) (s : List ℕ) → Short (effectOf g (linkMessage s))
-unfolding Short linkMessageEffect holdEffect toRecipients
+unfolding Short linkMessageEffect linkMessageOn holdEffect toRecipients
 link-short g s = go (eqb (readingOf s .msgtype) 1 && isPending g (ownerAt g l)) (ltb (numberAt (g .held .count) (ownerAt g l)) mostHeld)
   where
     l : ℕ
     l = linkOf g (readingOf s .id)
 
-    go : (u v : Bool) → Short (cond u (cond v (takeIn (ownerAt g l) (arrival s (readingOf s))) (send [])) (send (toRecipients g l (readingOf s .class * 256 + readingOf s .msgtype))))
+    go : (u v : Bool) → Short (cond u (cond v (takeIn (ownerAt g l) (arrival s (readingOf s))) (send [])) (send (toRecipients (recipientsAt g l) (linkAt g l) (readingOf s .class * 256 + readingOf s .msgtype))))
     go true true = tt
     go true false = omega arith
-    go false v = toAll-short (recipientsOf g l) (readingOf s .class * 256 + readingOf s .msgtype) (numberAt (g .iid) l) 0
+    go false v = toAll-short (recipientsAt g l) (readingOf s .class * 256 + readingOf s .msgtype) (numberAt (g .iid) l) 0
 
 effect-short : (g : Gateway) (k : EventKind) → isSound g ≡ true → inPlan g k ≡ true → Short (effectOf g k)
 unfolding Short
@@ -84,7 +85,7 @@ few-actions g e = go (eqb (refusal g e) 0) refl
   where
     go : (u : Bool) → eqb (refusal g e) 0 ≡ u → length (cond u (actionsOf g (effectOf g (e .kind))) []) ≤ 386
     go true h =
-        let t = accepted (isSound g) (inPlan g (e .kind)) (e .hold) (e .room) (eqb-true (refusal g e) 0 h) in
+        let t = accepted (isSound g) (inPlan g (e .kind)) (e .lent) (eqb-true (refusal g e) 0 h) in
         short-few g (effectOf g (e .kind)) (effect-short g (e .kind) (t .sound-yes) (t .known-yes))
     go false h = omega arith
 

@@ -22,7 +22,7 @@ use Rattle.server.specs.Inner.Change.{fits}
 use Rattle.rules.specs.Event.{EventKind, message, lost, recovery, linkUp, linkDown, linkMessage}
 use Rattle.rules.specs.Effect.{Effect, send, setLink, changeIn}
 use Rattle.rules.specs.Asp.{upEffect, downEffect, lostEffect, activeEffect, inactiveEffect, partEffect, trafficEffect}
-use Rattle.rules.specs.Link.{establish, release, dataEffect, linkEffect, classSixEffect, toRecipients, linkUpEffect, linkDownEffect}
+use Rattle.rules.specs.Link.{establish, release, dataEffect, linkEffect, classSixOn, classSixEffect, toRecipients, linkUpOn, linkUpEffect, linkDownOn, linkDownEffect}
 use Rattle.rules.specs.Rules.{readEffect, messageEffect, effectOf, inPlan}
 use Rattle.rules.specs.Sent.{isData}
 
@@ -116,7 +116,7 @@ module _ {Q : Effect → Type 0} (f : Shapes Q) where
     down = search (shapes, f .change-one) depth 8
 
     six : (r : Reading) → Q (classSixEffect g p r)
-    unfolding classSixEffect linkEffect establish release dataEffect
+    unfolding classSixEffect classSixOn linkEffect establish release dataEffect
     six r = search (shapes, f .turn-one) depth 16
 
     read : (s : List ℕ) (r : Reading) → Q (readEffect g p s r)
@@ -128,11 +128,11 @@ module _ {Q : Effect → Type 0} (f : Shapes Q) where
     of-message s = search (shapes, read) depth 8
 
   pub of-up : (g : Gateway) (l : ℕ) → Q (linkUpEffect g l)
-  unfolding linkUpEffect toRecipients
+  unfolding linkUpEffect linkUpOn toRecipients
   of-up g l = search (shapes, f .turn-all) depth 8
 
   pub of-down : (g : Gateway) (l : ℕ) → Q (linkDownEffect g l)
-  unfolding linkDownEffect toRecipients
+  unfolding linkDownEffect linkDownOn toRecipients
   of-down g l = search (shapes, f .turn-all, by-type) depth 8
 
   -- with the changes that have no replies, and what the link side sends

@@ -26,7 +26,7 @@ use Rattle.server.specs.Record.{some, recordFrom, recordOf, stateIn}
 use Rattle.rules.specs.Event.{EventKind, linkMessage, Event}
 use Rattle.rules.specs.Identifiers.{isKnown, linkOf, ownerAt}
 use Rattle.rules.specs.Effect.{Effect, send, setLink, changeIn, takeIn}
-use Rattle.rules.specs.Link.{isPending, arrival, holdEffect, linkMessageEffect}
+use Rattle.rules.specs.Link.{isPending, arrival, holdEffect, linkMessageOn, linkMessageEffect}
 use Rattle.rules.specs.Rules.{effectOf, fromLink, inPlan, refusal}
 use Rattle.rules.specs.Inner.Accepted.{accepted}
 use Rattle.rules.specs.Inner.Shapes.{Shapes, effect-by}
@@ -59,7 +59,7 @@ pub record Takes (g : Gateway) (s : List ℕ) (a : ℕ) (x : Arrival) : Type 0 w
 
 -- A message of the link side is taken in so, or its effect is actions alone: what holds of both holds of its effect.
 pub link-cases : (g : Gateway) (s : List ℕ) (F : Effect → Type 0) → ((os : List Action) → F (send os)) → ((a : ℕ) (x : Arrival) → Takes g s a x → F (takeIn a x)) → F (linkMessageEffect g s (readingOf s))
-unfolding linkMessageEffect holdEffect
+unfolding linkMessageEffect linkMessageOn holdEffect
 link-cases g s F say take =
     let a = ownerAt g (linkOf g (readingOf s .id)) in
     let m = eqb (readingOf s .msgtype) 1 in
@@ -183,6 +183,6 @@ pub record TakeIn (g : Gateway) (k : EventKind) (a : ℕ) (x : Arrival) : Type 0
 
 pub take-in : (g : Gateway) (e : Event) (a : ℕ) (x : Arrival) → refusal g e ≡ 0 → effectOf g (e .kind) ≡ takeIn a x → TakeIn g (e .kind) a x
 take-in g e a x h d =
-    let z = accepted (isSound g) (inPlan g (e .kind)) (e .hold) (e .room) h in
+    let z = accepted (isSound g) (inPlan g (e .kind)) (e .lent) h in
     let t = taken-from g (e .kind) a x (z .sound-yes) (z .known-yes) d in
     record { from = t .from; kind = t .kind; taken = taken-in g (t .from) a x (z .sound-yes) (subst (λ (k : EventKind). inPlan g k ≡ true) (t .kind) (z .known-yes)) (t .takes) }

@@ -15,17 +15,18 @@ use Rattle.laws.specs.Columns.{numberAt, tabulate}
 use Rattle.put.specs.Bytes.{overlay}
 use Rattle.gateway.specs.Sound.{isSound}
 use Rattle.gateway.specs.declared.Gateway.{Gateway}
-use Rattle.rules.specs.Event.{EventKind}
+use Rattle.rules.specs.Event.{EventKind, lending}
 use Rattle.rules.specs.Rules.{inPlan, refusalOf, leastRoom}
 use Rattle.ask.specs.Happened.{happened}
 use Rattle.rules.specs.Sent.{actionsOn, actionAt, isSent}
 use Rattle.outgoing.specs.Send.{partAt, parts, partLengths, endsAt, fitting, batchCode, SendsMany}
 use Rattle.outgoing.specs.declared.Batch.{Batch}
 use Rattle.outgoing.specs.Inner.Stands.{Lends}
+use Rattle.readable.proofs.Room.{part-small}
 use Rattle.sent.specs.Inner.Words.{dataIn}
 use Rattle.sent.specs.Inner.Units.{goneList, index-small}
 use Rattle.sending.specs.Inner.Part.{Lent, lentOf, partIn, Ready}
-use Rattle.sending.specs.Inner.There.{not-sent, part-small}
+use Rattle.sending.specs.Inner.There.{not-sent}
 use Rattle.sending.specs.Inner.Refusals.{refused-first, accepted-rest}
 use Rattle.sending.specs.Inner.Batch.{Ended, endsIn, ends}
 use Rattle.sending.specs.Inner.Ran.{Ran, part-called, long-called}
@@ -40,7 +41,7 @@ module _ (g : Gateway) (h : List ℕ) (k : EventKind) (n : ℕ) (lens out : List
   many-none code e z = record { code-is = e; count-is = rw (ne-eqb code 0 z); length-is = refl; lens-are = refl; bytes-are = refl }
 
   -- the event is refused
-  pub many-refused : (r : ℕ) → r ≡ refusalOf (isSound g) (inPlan g k) (length h) leastRoom → (r ≡ 0 → ⊥) → SendsMany g h k n lens out (record { code = r; count = 0; length = 0 }) lens out
+  pub many-refused : (r : ℕ) → r ≡ refusalOf (isSound g) (inPlan g k) (lending leastRoom (length h)) → (r ≡ 0 → ⊥) → SendsMany g h k n lens out (record { code = r; count = 0; length = 0 }) lens out
   unfolding batchCode
   many-refused r e z = many-none r (refused-first (isSound g) (inPlan g k) (length h) _ r e z) z
 
@@ -103,7 +104,7 @@ module _ (g : Gateway) (h : List ℕ) (kind i : ℕ) (s : List ℕ) {count : ℕ
       go (yes l) = rw (lt-ltb j count l) (part-called g h kind i s t j l x em (lends j l) refl (λ z. index-is j))
       go (no l) = rw (le-ltb j count (omega arith)) (sym (not-sent g h (happened kind i s) j (rw (le-ltb j (length (actionsOn g (happened kind i s))) (omega (arith, t .count-is))))))
 
-  pub ready : n < count → g .links ≤ 128 → Ready lentTo
+  pub ready : n ≤ count → g .links ≤ 128 → Ready lentTo
   ready there few =
       record {
         few = t .few;
@@ -112,17 +113,13 @@ module _ (g : Gateway) (h : List ℕ) (kind i : ℕ) (s : List ℕ) {count : ℕ
         whole = t .whole;
         indices = λ d. rw el (index-small (g .held .count) (after .held .count) d);
         long = λ j l e. long-called g h kind i s t j l refl (λ z. index-is j) e;
-        small = λ j. rw (parts-called j) (part-small g h (happened kind i s) j (t .sound) (t .planned));
+        small = λ j. rw (parts-called j) (part-small g h (happened kind i s) (t .sound) (t .planned) j);
       }
 
   -- what the loop wrote
-  pub many-called : (lens out : List ℕ) → n < count → {c at : ℕ} {lens′ out′ : List ℕ} → n + c ≤ count → Ended (λ j. partIn lentTo (n + j)) (λ j. leb count (n + j)) lens out c at lens′ out′
-      → SendsMany g h (happened kind i s) n lens out (batchOf c at) lens′ out′
-  many-called lens out there {c} {at} {lens′} {out′} few e =
-      let k = happened kind i s in
-      let e₁ = subst (λ (y : ℕ). Ended (λ j. partIn lentTo (n + j)) (λ j. leb y (n + j)) lens out c at lens′ out′) (t .count-is) e in
-      let e₂ =
-      subst (λ (p : ℕ → List ℕ). Ended p (λ j. leb (length (actionsOn g k)) (n + j)) lens out c at lens′ out′)
+  pub ended-called : (lens out : List ℕ) → {c at : ℕ} {lens′ out′ : List ℕ} → Ended (λ j. partIn lentTo (n + j)) (λ j. leb count (n + j)) lens out c at lens′ out′
+      → Ended (λ j. partAt g h (happened kind i s) (n + j)) (λ j. leb (length (actionsOn g (happened kind i s))) (n + j)) lens out c at lens′ out′
+  ended-called lens out {c} {at} {lens′} {out′} e =
+      subst (λ (p : ℕ → List ℕ). Ended p (λ j. leb (length (actionsOn g (happened kind i s))) (n + j)) lens out c at lens′ out′)
       (λ y j. parts-called (n + j) y)
-      e₁ in
-      many-done g h k n lens out t there few e₂
+      (subst (λ (y : ℕ). Ended (λ j. partIn lentTo (n + j)) (λ j. leb y (n + j)) lens out c at lens′ out′) (t .count-is) e)

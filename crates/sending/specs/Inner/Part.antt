@@ -141,7 +141,7 @@ part-of v j i o h e q = rw (lt-ltb j (v .run .count) h) (λ y. madeIn v (e y) (q
 -- all that the loop asks for
 pub record Ready (v : Lent) : Type 0 where
   pub few : v .run .count ≤ 386
-  pub there : v .run .place < v .run .count
+  pub there : v .run .place ≤ v .run .count
   pub links : v .run .links ≤ 128
   pub whole : length (v .hold) ≡ 34944
   pub indices : (d : ℕ) → numberAt (v .list) d < 128

@@ -14,7 +14,7 @@ use Rattle.put.specs.Bytes.{overlay}
 use Rattle.gateway.specs.Sound.{isSound}
 use Rattle.gateway.specs.declared.Gateway.{Gateway}
 use Rattle.action.specs.Words.{wordsOf}
-use Rattle.rules.specs.Event.{EventKind}
+use Rattle.rules.specs.Event.{EventKind, lending}
 use Rattle.rules.specs.Rules.{inPlan, effectOf, refusal, refusalOf, leastRoom}
 use Rattle.rules.specs.Effect.{stateAfter}
 use Rattle.rules.specs.Entry.{Runs, actions, next}
@@ -45,14 +45,14 @@ pub record Ran (g : Gateway) (h : List ℕ) (k : EventKind) (count : ℕ) (ws : 
   pub state : after ≡ stateAfter g (effectOf g k)
 
 module _ (g : Gateway) (h : List ℕ) (k : EventKind) {room : ℕ} {lent left part part′ : List ℕ} {r : Outcome} (long : room ≡ leastRoom) (m : Runs g (eventOf k room (length h)) lent left part part′ r) where
-  pub no-101 : r .refusal ≡ refusalOf (isSound g) (inPlan g k) (length h) leastRoom
-  no-101 = m .meets h refl .refused ∙ ap (refusalOf (isSound g) (inPlan g k) (length h)) long
+  pub no-101 : r .refusal ≡ refusalOf (isSound g) (inPlan g k) (lending leastRoom (length h))
+  no-101 = m .meets h refl .refused ∙ ap (λ (n : ℕ). refusalOf (isSound g) (inPlan g k) (lending n (length h))) long
 
   pub ran : r .refusal ≡ 0 → Ran g h k (r .count) left (r .gateway)
   unfolding actions next
   ran z =
       let q = m .meets h refl in
-      let a = accepted (isSound g) (inPlan g k) (length h) room (sym (q .refused) ∙ z) in
+      let a = accepted (isSound g) (inPlan g k) (lending room (length h)) (sym (q .refused) ∙ z) in
       let y = eq-eqb (refusal g (eventOf k room (length h))) 0 (sym (q .refused) ∙ z) in
       let e : actions g (eventOf k room (length h)) ≡ actionsOn g k = rw y in
       record {
@@ -98,69 +98,3 @@ pub long-called : (g : Gateway) (h : List ℕ) (kind i : ℕ) (s : List ℕ) {co
 long-called g h kind i s t j there eo eu e =
     rw (eu e ∙ unit-is t j there)
     (unit-long g h (happened kind i s) j (t .sound) (t .planned) (below t j there) ((λ y. heldOf (kinds kind i s .1 y) (sym (eo ∙ action-is t j there) y)) ∙ e))
-
--- ---- one action
-
--- the action at a place among them
-pub record Found (g : Gateway) (h : List ℕ) (k : EventKind) (n : ℕ) (o : Action) : Type 0 where
-  pub sound : isSound g ≡ true
-  pub planned : inPlan g k ≡ true
-  pub whole : length h ≡ 34944
-  pub there : n < length (actionsOn g k)
-  pub action-is : o ≡ actionAt (actionsOn g k) n
-
-pub found : {g : Gateway} {h : List ℕ} {k : EventKind} {count : ℕ} {ws : List ℕ} {after : Gateway} {n : ℕ} {o : Action} → Ran g h k count ws after → n < count → o ≡ actionIn ws n → Found g h k n o
-found {n = n} t l e = record { sound = t .sound; planned = t .planned; whole = t .whole; there = below t n l; action-is = e ∙ action-is t n l }
-
--- it goes to an ASP
-module _ {g : Gateway} {h : List ℕ} {k : EventKind} {n : ℕ} {o : Action} (f : Found g h k n o) (asp : o .to ≡ 255 → ⊥) where
-  goes : isSent (actionsOn g k) n ≡ true
-  unfolding isSent
-  goes = rw (lt-ltb n (length (actionsOn g k)) (f .there), ne-eqb (actionAt (actionsOn g k) n .to) 255 (λ e. asp (ap (λ x. x .to) (f .action-is) ∙ e)))
-
-  pub part-is : partAt g h k n ≡ messageAt g h k n
-  part-is = is-sent g h k n goes
-
-module _ (g : Gateway) (h : List ℕ) (k : EventKind) (n : ℕ) (out : List ℕ) where
-  sends-none : (code : ℕ) → code ≡ sendCode g h k n (length out) → (code ≡ 0 → ⊥) → Sends g h k n out (record { code = code; length = 0 }) out
-  sends-none code e z = record { code-is = e; length-is = rw (ne-eqb code 0 z); bytes-are = rw (ne-eqb code 0 z) }
-
-  -- the event is refused
-  pub sends-refused : (r : ℕ) → r ≡ refusalOf (isSound g) (inPlan g k) (length h) leastRoom → (r ≡ 0 → ⊥) → Sends g h k n out (record { code = r; length = 0 }) out
-  unfolding sendCode
-  sends-refused r e z = sends-none r (refused-first (isSound g) (inPlan g k) (length h) _ r e z) z
-
-  -- what decides once the event is not refused
-  behind : isSound g ≡ true → inPlan g k ≡ true → length h ≡ 34944 → sendCode g h k n (length out) ≡ 104 if not (isSent (actionsOn g k) n) orElse 103 if ltb (length out) (length (messageAt g h k n))
-  unfolding sendCode
-  behind s p w = accepted-rest (isSound g) (inPlan g k) (length h) _ s p w
-
-  sends-104 : isSound g ≡ true → inPlan g k ≡ true → length h ≡ 34944 → isSent (actionsOn g k) n ≡ false → Sends g h k n out (record { code = 104; length = 0 }) out
-  sends-104 s p w e = sends-none 104 (sym (behind s p w ∙ rw e)) (λ z. omega (arith, z))
-
-  -- the place is beyond the actions
-  pub sends-beyond : {count : ℕ} {ws : List ℕ} {after : Gateway} → Ran g h k count ws after → count ≤ n → Sends g h k n out (record { code = 104; length = 0 }) out
-  unfolding isSent
-  sends-beyond t l = sends-104 (t .sound) (t .planned) (t .whole) (rw (le-ltb n (length (actionsOn g k)) (omega (arith, l, t .count-is))))
-
-  module _ {o : Action} (f : Found g h k n o) where
-    -- the action goes to the link side
-    pub sends-side : o .to ≡ 255 → Sends g h k n out (record { code = 104; length = 0 }) out
-    unfolding isSent
-    sends-side e = sends-104 (f .sound) (f .planned) (f .whole) (rw (lt-ltb n (length (actionsOn g k)) (f .there), eq-eqb (actionAt (actionsOn g k) n .to) 255 (sym (ap (λ x. x .to) (f .action-is)) ∙ e)))
-
-    module _ (asp : o .to ≡ 255 → ⊥) where
-      -- the buffer is short
-      pub sends-short : {size : ℕ} {out′ : List ℕ} → size ≡ length (messageAt g h k n) → length out < size → out′ ≡ out → Sends g h k n out (record { code = 103; length = 0 }) out′
-      sends-short q l e =
-          subst (λ (o : List ℕ). Sends g h k n out (record { code = 103; length = 0 }) o) (sym e)
-          (sends-none 103 (sym (behind (f .sound) (f .planned) (f .whole) ∙ rw (goes f asp, lt-ltb (length out) (length (messageAt g h k n)) (omega (arith, q, l))))) (λ z. omega (arith, z)))
-
-      pub sends-all : {size : ℕ} {out′ : List ℕ} → size ≡ length (messageAt g h k n) → size ≤ length out → out′ ≡ overlay out 0 (messageAt g h k n)
-          → Sends g h k n out (record { code = 0; length = size }) out′
-      sends-all q l e =
-          record {
-            code-is = sym (behind (f .sound) (f .planned) (f .whole) ∙ rw (goes f asp, le-ltb (length out) (length (messageAt g h k n)) (omega (arith, q, l))));
-            length-is = q;
-            bytes-are = e;
-          }

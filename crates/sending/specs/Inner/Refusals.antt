@@ -6,11 +6,12 @@ use mathlib.Core.Bool.{Bool, true, false, not}
 use lib.Dec.{eqb}
 use borrow.Author.Tests.{eq-eqb}
 use Rattle.laws.specs.Choice.{_orElse_, _if_}
+use Rattle.rules.specs.Event.{lending}
 use Rattle.rules.specs.Effect.{holdBytes}
 use Rattle.rules.specs.Rules.{refusalOf, leastRoom}
 
 -- 101 cannot come up where the list has the words that an event asks for: what is refused is refused for 105, 102 or 106, which both forms give too
-pub refused-first : (sound known : Bool) (hold rest r : ℕ) → r ≡ refusalOf sound known hold leastRoom → ¬ (r ≡ 0)
+pub refused-first : (sound known : Bool) (hold rest r : ℕ) → r ≡ refusalOf sound known (lending leastRoom hold) → ¬ (r ≡ 0)
     → r ≡ 105 if not sound orElse 102 if not known orElse 106 if not (eqb hold holdBytes) orElse rest
 unfolding refusalOf
 refused-first sound known hold rest r = go sound known (eqb hold holdBytes)

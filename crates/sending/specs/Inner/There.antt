@@ -1,8 +1,8 @@
 -- What is written for an action of an event is its message, as specs/Send.antt of crate outgoing has it.
 -- Assumes nothing.
-use Prim.Native.Nat.{ℕ, _/_, _<_, _≤_}
+use Prim.Native.Nat.{ℕ, _/_, _<_}
 use mathlib.Core.Path.{_≡_, refl, sym, _∙_}
-use mathlib.Core.Bool.{Bool, true, false, cond, not, false≢true}
+use mathlib.Core.Bool.{Bool, true, false, not, false≢true}
 use mathlib.Core.List.{List, []}
 use native.Mathlib.Omega.{arith}
 use native.Mathlib.Decide.{decLt}
@@ -49,15 +49,6 @@ module _ (g : Gateway) (h : List ℕ) (k : EventKind) (j : ℕ) where
   not-sent e = rw e
 
   module _ (sound : isSound g ≡ true) (planned : inPlan g k ≡ true) where
-    -- nothing that is written is longer than a message may be
-    pub part-small : length (partAt g h k j) ≤ 2048
-    unfolding partAt
-    part-small = go (isSent (actionsOn g k) j) refl
-      where
-        go : (b : Bool) → isSent (actionsOn g k) j ≡ b → length (cond b (messageAt g h k j) []) ≤ 2048
-        go true e = every-short g h k j sound planned e .0
-        go false e = omega arith
-
     module _ (there : j < length (actionsOn g k)) where
       -- the unit that it sends is held
       pub unit-long : heldOf (isPassed k) o ≡ true → Long (numberAt (g .held .length) (unitFor g k j))

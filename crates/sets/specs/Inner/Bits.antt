@@ -10,7 +10,7 @@ use native.Mathlib.Decide.{ℕ-discrete, decLt}
 use lib.ListN.{length, getD, set, replicate, getD-replicate, length-set}
 use lib.Seq.{getD-set-same, getD-set-other}
 use lib.Bits.{bitAnd, bitOr, and-step, or-step, and-shr, or-shr, or-zero-r, shifted-even}
-use lib.Pow.{pow-add, pow-lt, shl-shr, shr-lt, mod-pow-add, mod-mod-pow, field}
+use lib.Pow.{shl-exact, pow-add, pow-lt, shl-shr, shr-lt, mod-pow-add, mod-mod-pow, field}
 use lib.Dec.{eqb}
 use borrow.Author.Tests.{eq-eqb, eqb-true}
 use Rattle.laws.specs.Below.{anyBelow, allBelow}
@@ -102,6 +102,14 @@ flags-with n a h = sym (is-tabulate false (set (flagsOf n) a true) 16 (bitAt (bi
     at : (b : ℕ) → b < 16 → Dec (b ≡ a) → getD (set (flagsOf n) a true) b false ≡ bitAt (bitOr n (1 * 2 ^ a)) b
     at b q (yes e) = rw e (getD-set-same (flagsOf n) a true false (let l = flags-long n in omega arith) ∙ sym (bit-or n (1 * 2 ^ a) a ∙ rw (bit-own a) (or-true (bitAt n a))))
     at b q (no e) = getD-set-other (flagsOf n) a b true false e ∙ flag-is n b q ∙ sym (bit-or n (1 * 2 ^ a) b ∙ rw (bit-other a b e) (or-none (bitAt n b)))
+
+-- one AS more where t holds: b is 1 or 0
+pub flags-if : (n a b : ℕ) (t : Bool) → a < 16 → b ≡ cond t 1 0 → flagsOf (bitOr n (b * 2 ^ a % 2 ^ 32)) ≡ cond t (set (flagsOf n) a true) (flagsOf n)
+flags-if n a b true h e = rw e (ap (λ x. flagsOf (bitOr n x)) (shl-exact 1 a 32 (omega arith) (omega arith)) ∙ flags-with n a h)
+flags-if n a b false h e = rw e (ap (λ x. flagsOf (bitOr n x)) (zero-shifted a) ∙ ap flagsOf (or-zero-r n))
+  where
+    zero-shifted : (a : ℕ) → 0 * 2 ^ a % 2 ^ 32 ≡ 0
+    zero-shifted a = omega arith
 
 -- ---- a set that grows AS by AS
 
