@@ -1,9 +1,12 @@
 //! What m2ua-asp does: an association, a script, and a record of every message that went to and fro.
+use crate::kernel;
 use crate::os;
 use crate::script::{Command, Said};
 use crate::sctp::Stack;
+use crate::terms::Terms;
 use crate::transport::{Association, Batch, Received, Sent, BURST};
-use m2ua::sys;
+use m2ua::{sys, MessageType, Parameter};
+use m2ua_trace::capture::stream;
 use m2ua_trace::script::Hex;
 use std::collections::VecDeque;
 use std::fs::File;
@@ -20,6 +23,12 @@ pub enum Target {
         from: SocketAddr,
         to: SocketAddr,
     },
+    /// By the kernel's SCTP, from some addresses to some addresses.
+    Kernel {
+        terms: Terms,
+        from: Vec<SocketAddr>,
+        to: Vec<SocketAddr>,
+    },
 }
 
 impl Target {
@@ -35,6 +44,10 @@ impl Target {
                 Target::Sctp { stack, from, to } => (
                     stack.connect(*from, *to).map(Association::Sctp),
                     to.to_string(),
+                ),
+                Target::Kernel { terms, from, to } => (
+                    kernel::Association::connect(from, to, terms).map(Association::Kernel),
+                    to[0].to_string(),
                 ),
             };
             match tried {
@@ -53,8 +66,13 @@ pub struct Controller {
     record: Option<File>,
     /// Each message in words on standard output.
     verbose: bool,
+    /// Heartbeats are the script's to see and to answer; else they are answered here, and it sees none.
+    own_beats: bool,
     association: Option<Association>,
     inbox: VecDeque<Vec<u8>>,
+    /// Answers to Heartbeats that are still to be sent, and whether a message of the script is being sent.
+    answers: VecDeque<Vec<u8>>,
+    sending: bool,
     batch: Batch,
     sent: u32,
 }
@@ -65,14 +83,18 @@ impl Controller {
         timeout: Duration,
         record: Option<File>,
         verbose: bool,
+        own_beats: bool,
     ) -> Controller {
         Controller {
             target,
             timeout,
             record,
             verbose,
+            own_beats,
             association: None,
             inbox: VecDeque::new(),
+            answers: VecDeque::new(),
+            sending: false,
             batch: Batch::new(),
             sent: 0,
         }
@@ -97,7 +119,7 @@ impl Controller {
             Command::Raw(bytes, ppid) => self.send(bytes, *ppid),
             Command::Wait(count, said) => self.wait(*count, said),
             Command::Expect(said) => {
-                let message = self.next(said)?;
+                let message = self.next(said, Some(stream_of(said.message)))?;
                 if said.fits(&message) {
                     Ok(())
                 } else {
@@ -183,15 +205,34 @@ impl Controller {
 
     /// Sends a message, and takes in what comes meanwhile.
     pub fn send(&mut self, message: &[u8], ppid: u32) -> Result<(), String> {
+        self.transmit(message, ppid)?;
+        self.sent = self.sent.wrapping_add(1);
+        self.answer()
+    }
+
+    /// Answers the Heartbeats that have come, but not while another message is being sent: the record has
+    /// messages in their sequence.
+    fn answer(&mut self) -> Result<(), String> {
+        while let (false, Some(answer)) = (self.sending, self.answers.pop_front()) {
+            self.transmit(&answer, sys::PPID)?;
+        }
+        Ok(())
+    }
+
+    fn transmit(&mut self, message: &[u8], ppid: u32) -> Result<(), String> {
+        self.sending = true;
+        let done = self.attempts(message, ppid);
+        self.sending = false;
+        done
+    }
+
+    fn attempts(&mut self, message: &[u8], ppid: u32) -> Result<(), String> {
         self.show(">", message);
         let end = Instant::now() + self.timeout;
         loop {
             match self.attempt(message, ppid)? {
-                Sent::Done => {
-                    self.sent = self.sent.wrapping_add(1);
-                    return Ok(());
-                }
-                Sent::Ended => return Err("the association is over".into()),
+                Sent::Done => return Ok(()),
+                Sent::Ended | Sent::Reset => return Err("the association is over".into()),
                 Sent::Later if Instant::now() >= end => {
                     return Err("the other end takes nothing more".into())
                 }
@@ -203,8 +244,7 @@ impl Controller {
     fn attempt(&self, message: &[u8], ppid: u32) -> Result<Sent, String> {
         match &self.association {
             None => Err("there is no association".into()),
-            Some(Association::Sctp(a)) if ppid != sys::PPID => Ok(a.send(message, 0, ppid)),
-            Some(association) => Ok(association.send(message)),
+            Some(association) => Ok(association.send_as(message, ppid)),
         }
     }
 
@@ -232,9 +272,12 @@ impl Controller {
             match batch.get(k) {
                 (Received::Message(_), message) => {
                     self.show("<", message);
-                    self.inbox.push_back(message.to_vec());
+                    match ack_of(message).filter(|_| !self.own_beats) {
+                        Some(ack) => self.answers.push_back(ack),
+                        None => self.inbox.push_back(message.to_vec()),
+                    }
                 }
-                (Received::Ended, _) => self.association = None,
+                (Received::Ended | Received::Reset, _) => self.association = None,
                 _ => {}
             }
         }
@@ -243,14 +286,22 @@ impl Controller {
         if self.association.is_none() {
             return Err("the association is over".into());
         }
+        if !self.sending {
+            self.answer()?;
+        }
         Ok(some)
     }
 
-    /// The next message that comes.
-    fn next(&mut self, wanted: &Said) -> Result<Vec<u8>, String> {
+    /// The next message that comes; over SCTP, which keeps the sequence within a stream alone, the next one
+    /// of a stream where one is given.
+    fn next(&mut self, wanted: &Said, of: Option<u16>) -> Result<Vec<u8>, String> {
         let end = Instant::now() + self.timeout;
+        let one_sequence = matches!(self.association, Some(Association::Packets(_)));
+        let of = of.filter(|_| !one_sequence);
         loop {
-            if let Some(message) = self.inbox.pop_front() {
+            let fits = |message: &Vec<u8>| of.is_none_or(|of| stream(message) == of);
+            let place = self.inbox.iter().position(fits);
+            if let Some(message) = place.and_then(|k| self.inbox.remove(k)) {
                 return Ok(message);
             }
             if Instant::now() >= end {
@@ -270,7 +321,7 @@ impl Controller {
         let mut found = 0;
         while found < count {
             let message = self
-                .next(said)
+                .next(said, None)
                 .map_err(|why| format!("{why} ({found} of {count} came)"))?;
             found += usize::from(said.fits(&message));
         }
@@ -322,6 +373,20 @@ impl Controller {
         }
         Ok((times, start.elapsed()))
     }
+}
+
+/// The stream of a message type, as that of its messages.
+fn stream_of(message: MessageType) -> u16 {
+    stream(&[1, 0, message.class()])
+}
+
+/// The Heartbeat Ack of a Heartbeat, with its data; `None` of any other message.
+fn ack_of(message: &[u8]) -> Option<Vec<u8>> {
+    let beat = m2ua::read(message).is_ok_and(|r| r.message == MessageType::Beat);
+    let data = m2ua::parameter(message, sys::TAG_HEARTBEAT);
+    let list = data.map(|data| Parameter::new(sys::TAG_HEARTBEAT, data));
+    let ack = beat.then(|| m2ua::write(MessageType::BeatAck, list.as_slice()))?;
+    ack.ok()
 }
 
 fn words(message: &[u8]) -> String {

@@ -1,37 +1,51 @@
 //! The daemon: one loop that waits for sockets, signals and timers, makes an event of what has happened, and has the orders carried out. Events come one after the other, each with
 //! all of its orders, before anything more is read.
+use crate::arrivals::{self, Held};
 use crate::dump;
 use crate::engine::Engine;
+use crate::files::{Entrance, Folder};
+use crate::kernel;
 use crate::links;
 use crate::log::Level;
 use crate::options::Options;
 use crate::os::{self, Epoll, Ready, Signals};
 use crate::outside::{Next, Outside};
+use crate::queue::Mark;
 use crate::records::Capture;
 use crate::sctp;
-use crate::transport::{Association, Batch, Received};
+use crate::transport::{Association, Batch, Received, Told};
 use m2ua::{Event, Refusal};
 use m2ua_plan::Plan;
 use m2ua_trace::capture::End;
-use std::io::Result;
-use std::os::fd::OwnedFd;
+use std::io::{Error, ErrorKind, Result};
 use std::time::{Duration, Instant, SystemTime};
 
 /// The SCTP stack does not always tell that it has room again: so it is asked.
 const SEND_AGAIN: Duration = Duration::from_millis(1);
 
-/// What is watched, by number: the peers, their listening sockets, and two more.
+/// So long nobody is let in when there is no descriptor for a peer.
+const CLOSED: Duration = Duration::from_secs(1);
+
+/// So often is read of a peer before a second association of it is refused: more than what the transport
+/// keeps.
+const DRAIN: usize = 1024;
+
+/// What is watched, by number: the peers, their listening sockets, and three more.
 const LISTENERS: u64 = 32;
 const SIGNALS: u64 = 64;
 const WAKE: u64 = 65;
+const KERNEL: u64 = 66;
 
 /// What a daemon has opened.
 pub struct Opened {
     pub watch: Epoll,
     pub signals: Signals,
+    pub folder: Folder,
     /// Of each peer the socket where it connects.
-    pub listeners: Vec<OwnedFd>,
+    pub listeners: Vec<Entrance>,
     pub sctp: Option<(sctp::Stack, sctp::Listener)>,
+    /// Where the kernel's SCTP listens.
+    pub kernel: Option<kernel::Listener>,
 }
 
 impl Opened {
@@ -41,9 +55,13 @@ impl Opened {
         for (p, listener) in self.listeners.iter().enumerate() {
             self.watch.add(listener, LISTENERS + p as u64)?;
         }
-        self.sctp
-            .as_ref()
-            .map_or(Ok(()), |(stack, _)| self.watch.add(stack.wake(), WAKE))
+        if let Some((stack, _)) = &self.sctp {
+            self.watch.add(stack.wake(), WAKE)?;
+        }
+        match &self.kernel {
+            Some(listener) => self.watch.add(listener, KERNEL),
+            None => Ok(()),
+        }
     }
 }
 
@@ -57,6 +75,10 @@ pub struct Daemon {
     pub timers: Vec<Option<Instant>>,
     /// What each peer's socket is watched for: to read, to write.
     pub interests: Vec<(bool, bool)>,
+    /// Associations of which is not yet known whose they are.
+    pub held: Vec<Held>,
+    /// Until when nobody is let in at the Unix sockets.
+    pub closed: Option<Instant>,
     /// Room for what is read.
     pub batch: Option<Box<Batch>>,
 }
@@ -75,6 +97,7 @@ impl Daemon {
                 }
             }
             self.serve_sctp();
+            self.serve_held();
             self.serve_timers();
             self.end_turn()?;
         }
@@ -94,8 +117,18 @@ impl Daemon {
         let again = sctp
             .any(|p| p.blocked)
             .then(|| self.outside.now + SEND_AGAIN);
+        let held = (!self.held.is_empty()).then(|| self.outside.now + arrivals::ASK_AGAIN);
         let due = self.timers.iter().flatten().copied();
-        let due = due.chain(stalls).chain(again).min()?;
+        let others = [self.closed, self.outside.say_at];
+        let connected = peers.iter().filter(|p| p.association.is_some());
+        let beats = connected.filter_map(|p| p.beats.next());
+        let due = due
+            .chain(stalls)
+            .chain(beats)
+            .chain(again)
+            .chain(held)
+            .chain(others.into_iter().flatten());
+        let due = due.min()?;
         Some(due.saturating_duration_since(Instant::now()))
     }
 
@@ -104,6 +137,7 @@ impl Daemon {
         match ready.number() {
             SIGNALS => return self.signalled(),
             WAKE => self.wake(),
+            KERNEL => self.accept_kernel(),
             n if n >= LISTENERS => self.accept((n - LISTENERS) as usize),
             n => {
                 let p = n as usize;
@@ -142,11 +176,24 @@ impl Daemon {
                         ),
                     )
                 }
+                Received::Told(told) => {
+                    let line = format!("{}: sctp: {told}", self.outside.peers[p].name);
+                    // addresses may come and go as often as a network likes
+                    match told {
+                        Told::Address(..) => self.outside.complain(p, format_args!("{line}")),
+                        _ => self
+                            .outside
+                            .log
+                            .line(Level::Changes, format_args!("{line}")),
+                    }
+                }
                 // what comes of the old association and what of the new one cannot be told apart any more
                 Received::Restarted => self
                     .outside
                     .lose(p, "the peer has begun anew: it has to connect again"),
-                Received::Ended => self.outside.lose(p, "the association is over"),
+                Received::Ended | Received::Reset => {
+                    self.outside.lose(p, "the association is over")
+                }
             }
             self.settle();
         }
@@ -185,6 +232,7 @@ impl Daemon {
         if let Err(no) = self.engine.run(event) {
             return self.refused(event, no);
         }
+        self.outside.units.count(event, &self.engine);
         self.set_timers();
         for (order, message) in self.engine.orders() {
             self.outside
@@ -239,7 +287,11 @@ impl Daemon {
             side,
             format_args!("links: a message that is no event is answered by Error {text}"),
         );
-        self.outside.send(side, &links::error(code, message), side);
+        let mark = Mark {
+            origin: side,
+            unit: None,
+        };
+        self.outside.send(side, &links::error(code, message), mark);
     }
 
     fn set_timers(&mut self) {
@@ -256,6 +308,9 @@ impl Daemon {
 
     fn serve_timers(&mut self) {
         let now = self.outside.now;
+        if self.closed.is_some_and(|until| until <= now) {
+            self.let_in(true);
+        }
         for a in 0..self.timers.len() {
             if self.timers[a].is_some_and(|due| due <= now) {
                 self.timers[a] = None;
@@ -263,6 +318,7 @@ impl Daemon {
             }
         }
         for p in 0..self.outside.peers.len() {
+            self.outside.beat(p);
             let peer = &self.outside.peers[p];
             if peer.waiting().1 > 0 && peer.progress + self.options.stall <= now {
                 self.outside.lose(
@@ -276,25 +332,50 @@ impl Daemon {
 
     /// A peer connects to its Unix socket. It has one association at a time.
     fn accept(&mut self, p: usize) {
-        while let Ok(socket) = os::accept(&self.opened.listeners[p]) {
-            let association = Association::Packets(socket);
-            if self.outside.peers[p].association.is_none() {
-                match self.opened.watch.add(&association, p as u64) {
-                    Ok(()) => self.interests[p] = (true, false),
-                    Err(e) => {
-                        return self.outside.log.line(
-                            Level::Faults,
-                            format_args!("{}: cannot be watched: {e}", self.outside.peers[p].name),
-                        )
-                    }
+        loop {
+            match self.opened.listeners[p].accept() {
+                Ok(socket) => self.begin(p, Association::Packets(socket), ""),
+                Err(e) if e.kind() == ErrorKind::WouldBlock => return,
+                // it has gone again before its turn
+                Err(e)
+                    if matches!(
+                        e.kind(),
+                        ErrorKind::Interrupted | ErrorKind::ConnectionAborted
+                    ) => {}
+                Err(e) => {
+                    let name = self.outside.peers[p].name.clone();
+                    return self.not_let_in(&name, &e);
                 }
             }
-            self.begin(p, association, "");
         }
     }
 
-    fn begin(&mut self, p: usize, association: Association, from: &str) {
+    pub(crate) fn not_let_in(&mut self, name: &str, why: &Error) {
+        let line = format_args!("{name}: cannot be let in, and nobody is for a second: {why}");
+        self.outside.log.line(Level::Faults, line);
+        self.let_in(false);
+    }
+
+    /// Whether peers are let in. They are not for a while after one could not be: without a descriptor for
+    /// it, it would be told of again and again.
+    fn let_in(&mut self, now: bool) {
+        self.closed = (!now).then(|| self.outside.now + CLOSED);
+        let opened = &self.opened;
+        let numbered = (LISTENERS..).zip(&opened.listeners);
+        let unix = numbered.map(|(number, l)| opened.watch.set(l, number, now, false));
+        let kernel = opened.kernel.iter();
+        let kernel = kernel.map(|l| opened.watch.set(l, KERNEL, now, false));
+        for done in unix.chain(kernel) {
+            if let Err(e) = done {
+                let line = format_args!("epoll: {e}");
+                self.outside.log.line(Level::Faults, line);
+            }
+        }
+    }
+
+    pub(crate) fn begin(&mut self, p: usize, association: Association, from: &str) {
         let (name, transport) = (self.outside.peers[p].name.clone(), association.transport());
+        self.drain(p);
         if self.outside.peers[p].association.is_some() {
             self.outside.complain(
                 p,
@@ -302,11 +383,33 @@ impl Daemon {
             );
             return association.close(true);
         }
+        if association.is_watched() {
+            if let Err(e) = self.opened.watch.add(&association, p as u64) {
+                let line = format_args!("{name}: cannot be watched: {e}");
+                self.outside.log.line(Level::Faults, line);
+                return association.close(true);
+            }
+            self.interests[p] = (true, false);
+        }
         self.outside.log.line(
             Level::Changes,
             format_args!("{name}: association ({transport}{from})"),
         );
         self.outside.begin(p, association);
+    }
+
+    /// Takes all that a peer has sent by now. One that was killed and comes again does so when its old
+    /// association is over: then the end of that is among it, and the new one is not a second one.
+    fn drain(&mut self, p: usize) {
+        for _ in 0..DRAIN {
+            if self.outside.peers[p].association.is_none() || self.outside.is_full(p) {
+                return;
+            }
+            self.read(p);
+            if self.outside.peers[p].came == 0 {
+                return;
+            }
+        }
     }
 
     /// The SCTP stack has something: which association, it does not tell.
@@ -317,18 +420,7 @@ impl Daemon {
         os::calm(stack.wake());
         let new: Vec<_> = std::iter::from_fn(|| listener.accept()).collect();
         for (association, peer) in new {
-            match self
-                .plan
-                .asps
-                .iter()
-                .position(|asp| asp.from.is_some_and(|from| from.is(peer)))
-            {
-                Some(p) => self.begin(p, Association::Sctp(association), &format!(", {peer}")),
-                None => {
-                    self.outside.complain(self.outside.stranger(), format_args!("sctp: an association of {peer}, where no ASP of the plan is from, is refused"));
-                    association.close(true);
-                }
-            }
+            self.arrives(&[peer], Association::Sctp(association));
         }
         for peer in self
             .outside
@@ -358,15 +450,15 @@ impl Daemon {
     /// What peers are watched for from here on, and what is written down.
     fn end_turn(&mut self) -> Result<()> {
         self.outside.sum_up(self.outside.stranger());
+        self.outside.say_losses(false);
         for p in 0..self.outside.peers.len() {
             let full = self.outside.is_full(p);
             self.outside.sum_up(p);
             let peer = &mut self.outside.peers[p];
             peer.paused = full;
             let interest = (!full, peer.blocked);
-            if interest != self.interests[p]
-                && matches!(peer.association, Some(Association::Packets(_)))
-            {
+            let watched = peer.association.as_ref().is_some_and(|a| a.is_watched());
+            if interest != self.interests[p] && watched {
                 self.opened.watch.set(
                     peer.association.as_ref().expect("there is one"),
                     p as u64,
@@ -383,8 +475,7 @@ impl Daemon {
     fn write_down(&mut self) {
         let outside = &mut self.outside;
         outside.log.flush();
-        let written = outside.journal.as_mut().map(|j| j.flush());
-        outside.journalled(written);
+        outside.flush_journal();
         if let Some(Err(e)) = outside.capture.as_mut().map(|c| c.flush()) {
             outside.capture = None;
             outside
@@ -397,6 +488,7 @@ impl Daemon {
     fn signalled(&mut self) -> bool {
         while let Some(signal) = self.opened.signals.next() {
             match signal {
+                os::SIGHUP => self.reopen(),
                 os::SIGUSR1 => self.dump(),
                 os::SIGUSR2 => self.toggle_capture(),
                 _ => return false,
@@ -405,16 +497,32 @@ impl Daemon {
         true
     }
 
+    /// Opens log, journal and capture anew where they were moved away; the state and all associations stay.
+    fn reopen(&mut self) {
+        self.write_down();
+        let path = self.options.log_file.as_deref();
+        let done = path.map(|path| self.outside.log.reopen(path));
+        self.outside.reopened("log", done);
+        let done = self.outside.journal.as_mut().map(|j| j.reopen());
+        self.outside.reopened("journal", done);
+        let now = SystemTime::now();
+        let done = self.outside.capture.as_mut().map(|c| c.reopen(now));
+        self.outside.reopened("capture", done);
+        self.outside.log.line(
+            Level::Faults,
+            format_args!(
+                "m2ua-gateway: opened its files anew, after {} events",
+                self.engine.events
+            ),
+        );
+    }
+
     fn dump(&mut self) {
         self.write_down();
-        let path = self.options.dir.join("state");
-        let text = dump::text(
-            &self.plan,
-            &self.engine,
-            &self.outside.peers,
-            SystemTime::now(),
-        );
-        match dump::write(&path, &text) {
+        self.outside.peers.iter_mut().for_each(|p| p.measure());
+        let path = self.opened.folder.join("state");
+        let text = dump::text(&self.plan, &self.engine, &self.outside, SystemTime::now());
+        match self.opened.folder.replace("state", &text) {
             Ok(()) => self.outside.log.line(
                 Level::Changes,
                 format_args!(
@@ -431,7 +539,7 @@ impl Daemon {
     }
 
     pub fn toggle_capture(&mut self) {
-        let path = self.options.dir.join("m2ua.pcap");
+        let path = self.opened.folder.join("m2ua.pcap");
         if let Some(mut capture) = self.outside.capture.take() {
             let ended = capture
                 .flush()
@@ -441,7 +549,7 @@ impl Daemon {
                 .log
                 .line(Level::Changes, format_args!("capture: {ended}"));
         }
-        match Capture::create(&path, SystemTime::now()) {
+        match Capture::open(&path, SystemTime::now()) {
             Ok(capture) => {
                 self.outside.capture = Some(capture);
                 self.outside
@@ -486,14 +594,17 @@ impl Daemon {
             listener.close();
             stack.stop(Duration::from_secs(1));
         }
-        for peer in &self.outside.peers {
-            let _ = std::fs::remove_file(self.options.dir.join(&peer.socket));
-        }
+        self.opened.listeners.clear();
+        self.outside.units.lost = true;
+        self.outside.say_losses(true);
+        let ended = self.outside.journal.as_mut().map(|j| j.end());
+        self.outside.journalled(ended);
         self.write_down();
         Ok(())
     }
 }
 
+/// Whether it is one of libusrsctp's, of which no descriptor tells.
 fn is_sctp(association: &Option<Association>) -> bool {
-    matches!(association, Some(Association::Sctp(_)))
+    association.as_ref().is_some_and(|a| !a.is_watched())
 }

@@ -1,25 +1,17 @@
 //! The state as text: for whoever asks with a signal, and for tests, which compare it with what `replay` says.
 use crate::engine::Engine;
 use crate::log::Stamp;
+use crate::outside::Outside;
 use crate::peer::Peer;
 use m2ua::{Gateway, Hold};
 use m2ua_plan::Plan;
 use m2ua_trace::script::Hex;
 use std::fmt::Write;
-use std::io::Result;
-use std::path::Path;
 use std::time::SystemTime;
 
-/// Writes a file whole: under another name first, which then takes the place of the old one.
-pub fn write(path: &Path, text: &str) -> Result<()> {
-    let part = path.with_extension("part");
-    std::fs::write(&part, text)?;
-    std::fs::rename(&part, path)
-}
-
 /// The dump. It is made between two events, so all of it is of one state.
-pub fn text(plan: &Plan, engine: &Engine, peers: &[Peer], now: SystemTime) -> String {
-    let g = &engine.state;
+pub fn text(plan: &Plan, engine: &Engine, outside: &Outside, now: SystemTime) -> String {
+    let (g, peers) = (&engine.state, &outside.peers);
     let mut out = String::new();
     let _ = writeln!(
         out,
@@ -52,6 +44,9 @@ pub fn text(plan: &Plan, engine: &Engine, peers: &[Peer], now: SystemTime) -> St
             g.held(a).count()
         );
     }
+    for (a, r#as) in plan.ases.iter().enumerate() {
+        let _ = write!(out, "{}", unit_lines(a, &r#as.name, g, outside));
+    }
     for (l, link) in plan.links.iter().enumerate() {
         let state = g.link_state(l).map_or(String::new(), |s| s.to_string());
         let _ = writeln!(
@@ -70,15 +65,46 @@ pub fn text(plan: &Plan, engine: &Engine, peers: &[Peer], now: SystemTime) -> St
 
 fn association(peer: &Peer) -> String {
     let (bytes, messages) = peer.waiting();
-    let c = &peer.counts;
+    let c = peer.counts_now();
     format!(
-        " {} associations {} received {} ordered {} sent {} waiting {messages} ({bytes} bytes) dropped {}",
+        " {} associations {} received {} ordered {} sent {} waiting {messages} ({bytes} bytes) dropped {} unread {} heartbeats {}",
         peer.association.as_ref().map_or("no association", |a| a.transport()),
         c.associations,
         c.received,
         c.ordered,
         c.sent,
-        c.dropped
+        c.dropped,
+        c.unread,
+        peer.beats.sent
+    )
+}
+
+/// What became of the units of an AS: of those of the link side, of all that were ordered for ASPs (of a
+/// broadcast unit each), and of those for the link side.
+fn unit_lines(a: usize, name: &str, g: &Gateway, outside: &Outside) -> String {
+    let t = &outside.units.of[a];
+    let (asps, links) = outside.peers.split_at(outside.link_side());
+    let to = |what: &str, peers: &[Peer]| {
+        let sum = |of: &dyn Fn(&Peer) -> u64| peers.iter().map(of).sum::<u64>();
+        format!(
+            "{what} {name} ordered {} sent {} waiting {} dropped {} unread {}\n",
+            sum(&|p| p.units[a].ordered),
+            sum(&|p| p.units_now(a).sent),
+            sum(&|p| p.units_waiting(a)),
+            sum(&|p| p.units[a].dropped),
+            sum(&|p| p.units_now(a).unread)
+        )
+    };
+    format!(
+        "units {name} arrived {} passed-on {} held {} turned-away {} discarded {} no-recipient {}\n{}{}",
+        t.arrived,
+        t.passed_on,
+        g.held(a).count(),
+        t.turned_away,
+        t.discarded,
+        t.no_recipient,
+        to("units-to-asps", asps),
+        to("units-to-links", links)
     )
 }
 

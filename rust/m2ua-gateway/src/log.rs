@@ -1,8 +1,11 @@
 //! The log: lines with the time, to a file that never holds the daemon up. What cannot be written at once is kept up to a limit; lines beyond it are counted and left out.
+use crate::files;
 use crate::os;
 use std::fmt::{Arguments, Write as _};
-use std::io::Write;
+use std::fs::File;
+use std::io::{Result, Write};
 use std::os::fd::AsRawFd;
+use std::path::Path;
 use std::time::{Duration, SystemTime, UNIX_EPOCH};
 
 /// How much is said.
@@ -41,6 +44,11 @@ impl<W: Write + AsRawFd> Log<W> {
             stamp: String::new(),
             left_out: 0,
         }
+    }
+
+    /// What is not yet written goes elsewhere from here on.
+    pub fn set_out(&mut self, out: W) {
+        self.out = out;
     }
 
     pub fn says(&self, level: Level) -> bool {
@@ -97,6 +105,19 @@ impl<W: Write + AsRawFd> Log<W> {
             );
             self.left_out = 0;
         }
+    }
+}
+
+impl Log<File> {
+    /// Where the file of the log was moved away, goes on in a new one. Whether it was.
+    pub fn reopen(&mut self, path: &Path) -> Result<bool> {
+        if !files::is_moved(&self.out, path)? {
+            return Ok(false);
+        }
+        let next = files::append(path)?;
+        self.flush();
+        self.set_out(next);
+        Ok(true)
     }
 }
 

@@ -1,7 +1,8 @@
-//! The C library's calls that std has not: sockets of type SOCK_SEQPACKET, epoll, signals as a file. The one module of this crate with `unsafe` beside sctp.rs: each function lends
+//! The C library's calls that std has not: sockets of type SOCK_SEQPACKET, epoll, signals as a file, users
+//! and groups. With kernel.rs and sctp.rs all that has `unsafe` in this crate: each function lends
 //! whole slices and owned descriptors, and answers with `io::Result`.
 #![allow(unsafe_code)]
-use std::ffi::{c_int, c_void, OsStr};
+use std::ffi::{c_char, c_int, c_void, CString, OsStr};
 use std::io::{Error, ErrorKind, Result};
 use std::os::fd::{AsRawFd, FromRawFd, OwnedFd, RawFd};
 use std::os::unix::ffi::OsStrExt;
@@ -10,17 +11,19 @@ use std::time::Duration;
 
 const AF_UNIX: u16 = 1;
 const SOCK_SEQPACKET: c_int = 5;
-const SOCK_NONBLOCK: c_int = 0o4000;
-const SOCK_CLOEXEC: c_int = 0o2000000;
-const MSG_DONTWAIT: c_int = 0x40;
+pub(crate) const SOCK_NONBLOCK: c_int = 0o4000;
+pub(crate) const SOCK_CLOEXEC: c_int = 0o2000000;
+pub(crate) const MSG_DONTWAIT: c_int = 0x40;
 const MSG_PEEK: c_int = 2;
 const MSG_TRUNC: c_int = 0x20;
-const MSG_NOSIGNAL: c_int = 0x4000;
+pub(crate) const MSG_NOSIGNAL: c_int = 0x4000;
 const POLLIN: i16 = 1;
 const POLLOUT: i16 = 4;
+const POLLERR: i16 = 8;
 const POLLHUP: i16 = 0x10;
 const POLLRDHUP: i16 = 0x2000;
 
+pub const SIGHUP: i32 = 1;
 pub const SIGINT: i32 = 2;
 pub const SIGUSR1: i32 = 10;
 pub const SIGUSR2: i32 = 12;
@@ -55,28 +58,33 @@ struct SignalSet([u64; 16]);
 /// Where a part of a packet is (struct iovec).
 #[repr(C)]
 #[derive(Clone, Copy)]
-struct Part {
-    start: *mut u8,
-    length: usize,
+pub(crate) struct Part {
+    pub start: *mut u8,
+    pub length: usize,
 }
 
-/// A packet to be taken (struct mmsghdr).
+impl Part {
+    const NONE: Part = Part {
+        start: std::ptr::null_mut(),
+        length: 0,
+    };
+}
+
+/// A message to be taken or sent, with what goes beside it (struct msghdr).
 #[repr(C)]
 #[derive(Clone, Copy)]
-struct Header {
-    name: *mut c_void,
-    name_length: u32,
-    parts: *mut Part,
-    part_count: usize,
-    control: *mut c_void,
-    control_length: usize,
-    flags: c_int,
-    _gap: u32,
-    length: u32,
+pub(crate) struct Message {
+    pub name: *mut c_void,
+    pub name_length: u32,
+    pub parts: *mut Part,
+    pub part_count: usize,
+    pub control: *mut c_void,
+    pub control_length: usize,
+    pub flags: c_int,
 }
 
-impl Header {
-    const NONE: Header = Header {
+impl Message {
+    pub const NONE: Message = Message {
         name: std::ptr::null_mut(),
         name_length: 0,
         parts: std::ptr::null_mut(),
@@ -84,14 +92,38 @@ impl Header {
         control: std::ptr::null_mut(),
         control_length: 0,
         flags: 0,
-        _gap: 0,
+    };
+}
+
+/// A packet to be taken (struct mmsghdr).
+#[repr(C)]
+#[derive(Clone, Copy)]
+struct Header {
+    message: Message,
+    length: u32,
+}
+
+impl Header {
+    const NONE: Header = Header {
+        message: Message::NONE,
         length: 0,
     };
 }
 
+/// A group of users (struct group).
+#[repr(C)]
+struct Group {
+    name: *mut c_char,
+    password: *mut c_char,
+    number: u32,
+    members: *mut *mut c_char,
+}
+
 // What a C compiler says of the structs.
 const _: () = assert!(
-    size_of::<Header>() == 64
+    size_of::<Group>() == 32
+        && size_of::<Message>() == 56
+        && size_of::<Header>() == 64
         && std::mem::offset_of!(Header, length) == 56
         && size_of::<Part>() == 16
         && size_of::<UnixAddress>() == 110
@@ -99,10 +131,26 @@ const _: () = assert!(
 );
 
 extern "C" {
-    fn socket(domain: c_int, kind: c_int, protocol: c_int) -> c_int;
-    fn bind(fd: c_int, address: *const UnixAddress, length: u32) -> c_int;
-    fn connect(fd: c_int, address: *const UnixAddress, length: u32) -> c_int;
-    fn listen(fd: c_int, backlog: c_int) -> c_int;
+    pub(crate) fn socket(domain: c_int, kind: c_int, protocol: c_int) -> c_int;
+    pub(crate) fn bind(fd: c_int, address: *const c_void, length: u32) -> c_int;
+    fn connect(fd: c_int, address: *const c_void, length: u32) -> c_int;
+    pub(crate) fn listen(fd: c_int, backlog: c_int) -> c_int;
+    pub(crate) fn setsockopt(
+        fd: c_int,
+        level: c_int,
+        name: c_int,
+        value: *const c_void,
+        length: u32,
+    ) -> c_int;
+    pub(crate) fn getsockopt(
+        fd: c_int,
+        level: c_int,
+        name: c_int,
+        value: *mut c_void,
+        length: *mut u32,
+    ) -> c_int;
+    pub(crate) fn recvmsg(fd: c_int, message: *mut Message, flags: c_int) -> isize;
+    pub(crate) fn sendmsg(fd: c_int, message: *const Message, flags: c_int) -> isize;
     fn accept4(fd: c_int, address: *mut c_void, length: *mut u32, flags: c_int) -> c_int;
     fn recv(fd: c_int, bytes: *mut u8, length: usize, flags: c_int) -> isize;
     fn recvmmsg(
@@ -125,9 +173,19 @@ extern "C" {
     fn eventfd(count: u32, flags: c_int) -> c_int;
     fn read(fd: c_int, bytes: *mut u8, length: usize) -> isize;
     fn umask(mask: u32) -> u32;
+    fn geteuid() -> u32;
+    fn socketpair(domain: c_int, kind: c_int, protocol: c_int, pair: *mut c_int) -> c_int;
+    fn ioctl(fd: c_int, what: u64, value: *mut c_int) -> c_int;
+    fn getgrnam_r(
+        name: *const c_char,
+        group: *mut Group,
+        text: *mut c_char,
+        size: usize,
+        found: *mut *mut Group,
+    ) -> c_int;
 }
 
-fn owned(fd: c_int) -> Result<OwnedFd> {
+pub(crate) fn owned(fd: c_int) -> Result<OwnedFd> {
     if fd < 0 {
         return Err(Error::last_os_error());
     }
@@ -135,14 +193,14 @@ fn owned(fd: c_int) -> Result<OwnedFd> {
     Ok(unsafe { OwnedFd::from_raw_fd(fd) })
 }
 
-fn done(code: c_int) -> Result<()> {
+pub(crate) fn done(code: c_int) -> Result<()> {
     if code < 0 {
         return Err(Error::last_os_error());
     }
     Ok(())
 }
 
-fn counted(count: isize) -> Result<usize> {
+pub(crate) fn counted(count: isize) -> Result<usize> {
     usize::try_from(count).map_err(|_| Error::last_os_error())
 }
 
@@ -167,13 +225,15 @@ fn seqpacket(flags: c_int) -> Result<OwnedFd> {
     owned(unsafe { socket(AF_UNIX.into(), SOCK_SEQPACKET | SOCK_CLOEXEC | flags, 0) })
 }
 
-/// A listening socket at a path, which only its owner's user may connect to. The path must be free.
-pub fn seqpacket_listen(path: &Path) -> Result<OwnedFd> {
+/// A listening socket at a path, which only its owner's user may connect to, or with `group` its group too.
+/// The path must be free.
+pub fn seqpacket_listen(path: &Path, group: bool) -> Result<OwnedFd> {
     let (fd, address) = (seqpacket(SOCK_NONBLOCK)?, address(path)?);
     // Safety: the address lives through the call and has the length that is told.
     unsafe {
-        let before = umask(0o077);
-        let bound = bind(fd.as_raw_fd(), &address, size_of::<UnixAddress>() as u32);
+        let before = umask(if group { 0o007 } else { 0o077 });
+        let at = std::ptr::from_ref(&address).cast();
+        let bound = bind(fd.as_raw_fd(), at, size_of::<UnixAddress>() as u32);
         umask(before);
         done(bound)?;
         done(listen(fd.as_raw_fd(), 4))?;
@@ -184,9 +244,28 @@ pub fn seqpacket_listen(path: &Path) -> Result<OwnedFd> {
 /// A socket connected to a path.
 pub fn seqpacket_connect(path: &Path) -> Result<OwnedFd> {
     let (fd, address) = (seqpacket(0)?, address(path)?);
+    let at = std::ptr::from_ref(&address).cast();
     // Safety: as above.
-    done(unsafe { connect(fd.as_raw_fd(), &address, size_of::<UnixAddress>() as u32) })?;
+    done(unsafe { connect(fd.as_raw_fd(), at, size_of::<UnixAddress>() as u32) })?;
     Ok(fd)
+}
+
+/// Two sockets that are connected to each other.
+pub fn seqpacket_pair() -> Result<(OwnedFd, OwnedFd)> {
+    let mut pair = [0; 2];
+    let kind = SOCK_SEQPACKET | SOCK_CLOEXEC | SOCK_NONBLOCK;
+    // Safety: room for two descriptors is lent.
+    done(unsafe { socketpair(AF_UNIX.into(), kind, 0, pair.as_mut_ptr()) })?;
+    Ok((owned(pair[0])?, owned(pair[1])?))
+}
+
+/// How much memory the kernel keeps for what was sent and is not yet read at the other end.
+pub fn unread(fd: &OwnedFd) -> Result<usize> {
+    const SIOCOUTQ: u64 = 0x5411;
+    let mut value = 0;
+    // Safety: one number is lent.
+    done(unsafe { ioctl(fd.as_raw_fd(), SIOCOUTQ, &mut value) })?;
+    Ok(value.max(0) as usize)
 }
 
 /// The next connection of a listening socket; `WouldBlock` where there is none.
@@ -202,32 +281,17 @@ pub fn accept(listener: &OwnedFd) -> Result<OwnedFd> {
     })
 }
 
-/// Room for `COUNT` packets of `SIZE` bytes that one call takes. What the headers point at lies in the same boxes for as long as these live.
+/// Room for `COUNT` packets of `SIZE` bytes that one call takes.
 pub struct Packets<const COUNT: usize, const SIZE: usize> {
     bytes: Box<[[u8; SIZE]; COUNT]>,
-    /// What the headers point at.
-    _parts: Box<[Part; COUNT]>,
-    headers: Box<[Header; COUNT]>,
+    lengths: [u32; COUNT],
 }
 
 impl<const COUNT: usize, const SIZE: usize> Packets<COUNT, SIZE> {
     pub fn new() -> Self {
-        let mut bytes = Box::new([[0; SIZE]; COUNT]);
-        let mut parts = Box::new(
-            [Part {
-                start: std::ptr::null_mut(),
-                length: SIZE,
-            }; COUNT],
-        );
-        let mut headers = Box::new([Header::NONE; COUNT]);
-        for (k, header) in headers.iter_mut().enumerate() {
-            parts[k].start = bytes[k].as_mut_ptr();
-            (header.parts, header.part_count) = (&mut parts[k], 1);
-        }
         Packets {
-            bytes,
-            _parts: parts,
-            headers,
+            bytes: Box::new([[0; SIZE]; COUNT]),
+            lengths: [0; COUNT],
         }
     }
 
@@ -243,25 +307,43 @@ impl<const COUNT: usize, const SIZE: usize> Packets<COUNT, SIZE> {
                     MSG_DONTWAIT | MSG_TRUNC,
                 )
             })?;
-            self.headers[0].length = length as u32;
+            self.lengths[0] = length as u32;
             return Ok(1);
         }
+        self.receive_some(fd, most.min(COUNT))
+    }
+
+    /// What points at the arrays is made for the call alone: a pointer that was kept would be that of a box
+    /// which has moved since.
+    fn receive_some(&mut self, fd: &OwnedFd, most: usize) -> Result<usize> {
+        let mut parts = [Part::NONE; COUNT];
+        let mut headers = [Header::NONE; COUNT];
+        for ((bytes, part), header) in self.bytes.iter_mut().zip(&mut parts).zip(&mut headers) {
+            *part = Part {
+                start: bytes.as_mut_ptr(),
+                length: SIZE,
+            };
+            (header.message.parts, header.message.part_count) = (part, 1);
+        }
         // Safety: each header has one part, which is one array of `bytes`; nobody else has them during the call.
-        let count = unsafe {
+        let count = counted(unsafe {
             recvmmsg(
                 fd.as_raw_fd(),
-                self.headers.as_mut_ptr(),
-                most.min(COUNT) as u32,
+                headers.as_mut_ptr(),
+                most as u32,
                 MSG_DONTWAIT | MSG_TRUNC,
                 std::ptr::null_mut(),
             )
-        };
-        counted(count as isize)
+        } as isize)?;
+        for (length, header) in self.lengths.iter_mut().zip(&headers[..count]) {
+            *length = header.length;
+        }
+        Ok(count)
     }
 
     /// How long a packet was: more than `SIZE` where its end was cut off.
     pub fn length(&self, k: usize) -> usize {
-        self.headers[k].length as usize
+        self.lengths[k] as usize
     }
 
     pub fn bytes(&self, k: usize) -> &[u8] {
@@ -270,7 +352,7 @@ impl<const COUNT: usize, const SIZE: usize> Packets<COUNT, SIZE> {
 
     /// A place to fill otherwise, and the length to set for it.
     pub fn place(&mut self, k: usize) -> (&mut [u8; SIZE], &mut u32) {
-        (&mut self.bytes[k], &mut self.headers[k].length)
+        (&mut self.bytes[k], &mut self.lengths[k])
     }
 }
 
@@ -301,6 +383,18 @@ pub fn is_ended(fd: &OwnedFd) -> bool {
     }
 }
 
+/// Whether the other end is closed, and whether that left unread what it was sent.
+pub fn is_closed(fd: &OwnedFd) -> (bool, bool) {
+    let mut one = PollFd {
+        fd: fd.as_raw_fd(),
+        events: 0,
+        seen: 0,
+    };
+    // Safety: one entry is lent.
+    unsafe { poll(&mut one, 1, 0) };
+    (one.seen & POLLHUP != 0, one.seen & POLLERR != 0)
+}
+
 /// Sends one packet whole, or none of it: `WouldBlock` where there is no room.
 pub fn transmit(fd: &OwnedFd, bytes: &[u8]) -> Result<()> {
     // Safety: the slice is lent whole.
@@ -318,10 +412,7 @@ pub fn transmit(fd: &OwnedFd, bytes: &[u8]) -> Result<()> {
 /// Sends packets one by one, each whole, as far as there is room: how many. `WouldBlock` where there is none for the first.
 pub fn transmit_all<'a>(fd: &OwnedFd, packets: impl Iterator<Item = &'a [u8]>) -> Result<usize> {
     const MOST: usize = 32;
-    let mut parts = [Part {
-        start: std::ptr::null_mut(),
-        length: 0,
-    }; MOST];
+    let mut parts = [Part::NONE; MOST];
     let mut headers = [Header::NONE; MOST];
     let mut count = 0;
     for ((packet, part), header) in packets.zip(&mut parts).zip(&mut headers) {
@@ -330,7 +421,7 @@ pub fn transmit_all<'a>(fd: &OwnedFd, packets: impl Iterator<Item = &'a [u8]>) -
             start: packet.as_ptr().cast_mut(),
             length: packet.len(),
         };
-        (header.parts, header.part_count) = (part, 1);
+        (header.message.parts, header.message.part_count) = (part, 1);
         count += 1;
     }
     // Safety: `count` headers have a part each, which is a slice that is lent through the call.
@@ -489,4 +580,53 @@ pub fn calm(wake: &OwnedFd) {
     let mut count = [0; 8];
     // Safety: the slice is lent whole. Nothing to read is no fault.
     let _ = unsafe { read(wake.as_raw_fd(), count.as_mut_ptr(), count.len()) };
+}
+
+/// The user that this process acts as.
+pub fn user() -> u32 {
+    // Safety: it takes nothing, and never fails.
+    unsafe { geteuid() }
+}
+
+/// The number of a group of users, from its name or its number; `None` where there is none.
+pub fn group(name: &str) -> Option<u32> {
+    if let Ok(number) = name.parse() {
+        return Some(number);
+    }
+    let name = CString::new(name).ok()?;
+    let mut text = vec![0; 1 << 16];
+    let mut group = Group {
+        name: std::ptr::null_mut(),
+        password: std::ptr::null_mut(),
+        number: 0,
+        members: std::ptr::null_mut(),
+    };
+    let mut found = std::ptr::null_mut();
+    // Safety: name, record and room live through the call, and of what points into the room nothing is kept.
+    unsafe {
+        getgrnam_r(
+            name.as_ptr(),
+            &mut group,
+            text.as_mut_ptr(),
+            text.len(),
+            &mut found,
+        )
+    };
+    (!found.is_null()).then_some(group.number)
+}
+
+/// The file system's flags that std has no name for.
+pub mod open {
+    /// The last part of a path is no link.
+    #[cfg(any(target_arch = "aarch64", target_arch = "arm"))]
+    pub const NO_LINK: i32 = 0o100000;
+    #[cfg(not(any(target_arch = "aarch64", target_arch = "arm")))]
+    pub const NO_LINK: i32 = 0o400000;
+    /// It is a folder.
+    #[cfg(any(target_arch = "aarch64", target_arch = "arm"))]
+    pub const FOLDER: i32 = 0o40000;
+    #[cfg(not(any(target_arch = "aarch64", target_arch = "arm")))]
+    pub const FOLDER: i32 = 0o200000;
+    /// A pipe or a device is not waited for.
+    pub const NO_WAIT: i32 = 0o4000;
 }

@@ -1,17 +1,21 @@
 //! All that is around the gateway itself: the peers, and what is written down. It carries out orders, and remembers what these lead to.
+use crate::beats::Due;
 use crate::engine::Engine;
 use crate::links;
 use crate::log::{Level, Log};
 use crate::options::Links;
 use crate::peer::{Fate, Peer};
+use crate::queue::Mark;
 use crate::records::{Capture, Journal};
 use crate::transport::Association;
+use crate::units::{Losses, Units};
 use m2ua::{Addressee, Event, Gateway, MessageType, Order, Status};
 use m2ua_trace::capture::End;
 use m2ua_trace::script::Happening;
 use std::collections::VecDeque;
-use std::io::{Result, Stderr};
-use std::time::{Instant, SystemTime};
+use std::fs::File;
+use std::io::Result;
+use std::time::{Duration, Instant, SystemTime};
 
 /// What is to happen next, before anything more is read.
 pub enum Next {
@@ -25,8 +29,12 @@ pub struct Outside {
     pub peers: Vec<Peer>,
     /// The names of the ASes.
     pub ases: Vec<String>,
+    pub units: Units,
+    /// What was said of units that were not delivered, by AS, and when more is to be said.
+    said: Vec<Losses>,
+    pub say_at: Option<Instant>,
     pub links: Links,
-    pub log: Log<Stderr>,
+    pub log: Log<File>,
     pub journal: Option<Journal>,
     pub capture: Option<Capture>,
     pub next: VecDeque<Next>,
@@ -37,16 +45,27 @@ pub struct Outside {
 
 /// So many complaints about a peer are written in a second; of more, how many there were.
 const COMPLAINTS: u64 = 10;
+/// So long units that are not delivered are summed up for one line.
+const LOSSES: Duration = Duration::from_secs(1);
 /// Where so much waits for an ASP, or so much of it for the link side, nothing is read of it until half has gone: a peer is held up by itself alone.
 pub const FULL: usize = 32768;
 
 impl Outside {
-    pub fn new(peers: Vec<Peer>, ases: Vec<String>, links: Links, log: Log<Stderr>) -> Outside {
+    pub fn new(
+        peers: Vec<Peer>,
+        ases: Vec<String>,
+        units: Units,
+        links: Links,
+        log: Log<File>,
+    ) -> Outside {
         let now = Instant::now();
         let complaints = vec![(now, 0); peers.len() + 1];
         Outside {
             peers,
+            said: vec![Losses::default(); ases.len()],
+            say_at: None,
             ases,
+            units,
             links,
             log,
             journal: None,
@@ -113,6 +132,27 @@ impl Outside {
         }
     }
 
+    /// The journal has all events until here. It has them before anything is sent that follows from them: so
+    /// whatever a peer has received, `replay` says too, even if the daemon is killed.
+    pub fn flush_journal(&mut self) {
+        let written = self.journal.as_mut().map(|j| j.flush());
+        self.journalled(written);
+    }
+
+    /// Says what became of a file that was to be opened anew: it stays the old one where that failed.
+    pub fn reopened(&mut self, what: &str, done: Option<Result<bool>>) {
+        match done {
+            Some(Err(e)) => self.log.line(
+                Level::Faults,
+                format_args!("{what}: it goes on in the file it had: {e}"),
+            ),
+            Some(Ok(true)) => self
+                .log
+                .line(Level::Faults, format_args!("{what}: goes on in a new file")),
+            _ => {}
+        }
+    }
+
     fn log_event(&mut self, event: &Event<'_>, g: &Gateway) {
         let text = event.to_string();
         let words = text
@@ -148,7 +188,7 @@ impl Outside {
     pub fn carry_out(&mut self, order: &Order, message: &[u8], event: &Event<'_>, g: &Gateway) {
         self.log_order(order);
         match order.to {
-            Addressee::Asp(p) => self.send(p, message, p),
+            Addressee::Asp(p) => self.send(p, message, self.mark(order, p)),
             Addressee::LinkSide => match links::message_of(order, event) {
                 Ok(message) => self.to_links(order, &message, event, g),
                 Err(no) => self.log.line(
@@ -156,6 +196,16 @@ impl Outside {
                     format_args!("links: {order} cannot be written: {no}"),
                 ),
             },
+        }
+    }
+
+    /// The mark of an order's message.
+    fn mark(&self, order: &Order, origin: usize) -> Mark {
+        let is_unit = order.message == MessageType::Data;
+        let owner = is_unit.then(|| self.units.owner(order.subject)).flatten();
+        Mark {
+            origin,
+            unit: owner.map(|a| a as u8),
         }
     }
 
@@ -196,7 +246,13 @@ impl Outside {
                     .map(Next::Event),
             );
         }
+        let origin = match event {
+            Event::Message { asp, .. } => *asp,
+            _ => side,
+        };
+        let mark = self.mark(order, origin);
         if self.peers[side].association.is_none() {
+            self.send(side, message, mark);
             self.complain(
                 side,
                 format_args!(
@@ -211,16 +267,17 @@ impl Outside {
                 .extend(link.map(|l| Next::Event(Happening::LinkDown(l))));
             return;
         }
-        let origin = match event {
-            Event::Message { asp, .. } => *asp,
-            _ => side,
-        };
-        self.send(side, message, origin)
+        self.send(side, message, mark)
     }
 
     /// Sends a message to a peer; a peer for which too much waits is disconnected.
-    pub fn send(&mut self, p: usize, message: &[u8], origin: usize) {
-        let fate = self.peers[p].send(message, origin, self.now);
+    pub fn send(&mut self, p: usize, message: &[u8], mark: Mark) {
+        if !self.peers[p].has_room(message) {
+            // it sends what it can first
+            self.flush_journal();
+        }
+        let fate = self.peers[p].send(message, mark, self.now);
+        self.units.lost |= fate != Fate::Taken && mark.unit.is_some();
         match fate {
             Fate::Taken => self.captured(self.end_of(p), true, message),
             Fate::Absent => {}
@@ -228,8 +285,39 @@ impl Outside {
         }
     }
 
+    /// Sends the gateway's own Heartbeat to an ASP where one is due; an ASP that does not answer is lost.
+    pub fn beat(&mut self, p: usize) {
+        if self.peers[p].association.is_none() {
+            return;
+        }
+        if self.peers[p].paused {
+            // what it says is not read for the moment
+            self.peers[p].beats.heard();
+        }
+        match self.peers[p].beats.due(self.now) {
+            Due::Nothing => {}
+            Due::Beat(message) => {
+                let name = &self.peers[p].name;
+                self.log.line(
+                    Level::All,
+                    format_args!("to {name}: Heartbeat of the gateway"),
+                );
+                let mark = Mark {
+                    origin: p,
+                    unit: None,
+                };
+                self.send(p, &message, mark);
+            }
+            Due::Lost(count) => {
+                let why = format!("it has not answered {count} Heartbeats: disconnected");
+                self.lose(p, &why);
+            }
+        }
+    }
+
     /// Sends what waits, to all peers.
     pub fn flush(&mut self) {
+        self.flush_journal();
         for p in 0..self.peers.len() {
             if !self.peers[p].flush(self.now) {
                 self.lose(p, "the association is over");
@@ -253,19 +341,25 @@ impl Outside {
 
     /// Ends the association of a peer, if it has one, and lets that be known.
     pub fn lose(&mut self, p: usize, why: &str) {
+        let unread = self.peers[p].counts.unread;
         let (association, dropped) = self.peers[p].end();
+        let unread = self.peers[p].counts.unread - unread;
         let Some(association) = association else {
             return;
         };
         association.close(true);
+        self.units.lost |= dropped > 0 || unread > 0;
         let name = &self.peers[p].name;
-        let waited = if dropped > 0 {
-            format!(", {dropped} messages that waited are dropped")
-        } else {
-            String::new()
+        let said = |count: u64, what: &str| match count {
+            0 => String::new(),
+            _ => format!(", {count} messages {what}"),
         };
-        self.log
-            .line(Level::Changes, format_args!("{name}: {why}{waited}"));
+        let waited = said(dropped as u64, "that waited are dropped");
+        let unread = said(unread, "were not read");
+        self.log.line(
+            Level::Changes,
+            format_args!("{name}: {why}{waited}{unread}"),
+        );
         self.note(p, "ends");
         let end = self.end_of(p);
         if let Some(capture) = &mut self.capture {
@@ -284,7 +378,7 @@ impl Outside {
         let (until, count) = self.complaints[p];
         if self.now >= until {
             self.sum_up(p);
-            self.complaints[p] = (self.now + std::time::Duration::from_secs(1), 1);
+            self.complaints[p] = (self.now + Duration::from_secs(1), 1);
         } else {
             self.complaints[p].1 = count + 1;
         }
@@ -304,6 +398,29 @@ impl Outside {
                 format_args!("{name}: {more} more such lines"),
             );
             self.complaints[p].1 = 0;
+        }
+    }
+
+    /// Says how many units were not delivered since it was said last: a second after the first of them, and
+    /// with `now` at once.
+    pub fn say_losses(&mut self, now: bool) {
+        if std::mem::take(&mut self.units.lost) && self.say_at.is_none() {
+            self.say_at = Some(self.now + LOSSES);
+        }
+        if !self.say_at.is_some_and(|at| now || at <= self.now) {
+            return;
+        }
+        self.say_at = None;
+        for a in 0..self.ases.len() {
+            let losses = Losses::of(a, &self.units, &self.peers);
+            let new = losses.since(&self.said[a]);
+            self.said[a] = losses;
+            if new != Losses::default() {
+                self.log.line(
+                    Level::Changes,
+                    format_args!("AS {}: units not delivered: {new}", self.ases[a]),
+                );
+            }
         }
     }
 

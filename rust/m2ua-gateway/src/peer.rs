@@ -1,16 +1,31 @@
 //! A peer: an ASP, or the link side; its association while it has one, and what waits to be sent.
-use crate::queue::{Queue, ENTRY};
-use crate::transport::{Association, Batch, Sent, BURST};
+use crate::beats::Beats;
+use crate::os;
+use crate::queue::{Mark, Queue, ENTRY};
+use crate::transport::{Association, Batch, Received, Sent, BURST};
+use crate::unread::Handed;
 use std::time::Instant;
 
-/// What a peer has received and sent since the start. Every message to it is sent, waits, or is dropped with its association.
+/// What a peer has received and sent since the start. Every message to it is sent, waits, or is dropped with
+/// its
+/// association; over a Unix socket what was not read when that ended is unread, and not sent.
 #[derive(Clone, Copy, Default)]
 pub struct Counts {
     pub received: u64,
     pub ordered: u64,
     pub sent: u64,
     pub dropped: u64,
+    pub unread: u64,
     pub associations: u64,
+}
+
+/// What became of the units of an AS that were ordered for a peer.
+#[derive(Clone, Copy, Debug, Default, PartialEq, Eq)]
+pub struct UnitCounts {
+    pub ordered: u64,
+    pub sent: u64,
+    pub dropped: u64,
+    pub unread: u64,
 }
 
 /// What has become of a message to a peer.
@@ -35,11 +50,19 @@ pub struct Peer {
     pub paused: bool,
     /// There may be something to read, which nobody else tells.
     pub ready: bool,
+    /// How much came when it was last read.
+    pub came: usize,
     pub counts: Counts,
+    /// The units among the messages, by AS.
+    pub units: Vec<UnitCounts>,
     /// How often was looked for messages, and whether there were several the last time.
     looks: u8,
     many: bool,
     queue: Queue,
+    handed: Handed,
+    /// It has gone without reading all.
+    reset: bool,
+    pub beats: Beats,
     limit: usize,
     /// The transport has no room: until it says so nothing is sent.
     pub blocked: bool,
@@ -47,7 +70,7 @@ pub struct Peer {
 
 impl Peer {
     /// A peer without an association, for which at most `limit` bytes may wait.
-    pub fn new(name: &str, socket: String, limit: usize, origins: usize) -> Peer {
+    pub fn new(name: &str, socket: String, limit: usize, origins: usize, beats: Beats) -> Peer {
         Peer {
             name: name.into(),
             socket,
@@ -55,10 +78,15 @@ impl Peer {
             progress: Instant::now(),
             paused: false,
             ready: false,
+            came: 0,
             counts: Counts::default(),
+            units: vec![UnitCounts::default(); m2ua::sys::MAX_ASES],
             looks: 0,
             many: false,
             queue: Queue::new(limit, origins),
+            handed: Handed::default(),
+            reset: false,
+            beats,
             limit,
             blocked: false,
         }
@@ -68,16 +96,75 @@ impl Peer {
         self.association = Some(association);
         self.progress = now;
         self.ready = true;
-        (self.paused, self.blocked) = (false, false);
+        (self.paused, self.blocked, self.reset) = (false, false, false);
+        self.beats.begin(now);
         self.counts.associations += 1;
     }
 
     /// Takes the association away, and drops what waits for it: how many messages that is.
     pub fn end(&mut self) -> (Option<Association>, usize) {
-        let dropped = self.queue.clear();
+        self.account();
+        let units = &mut self.units;
+        let dropped = self.queue.clear(|mark| {
+            if let Some(a) = mark.unit {
+                units[usize::from(a)].dropped += 1;
+            }
+        });
         self.counts.dropped += dropped as u64;
         self.ready = false;
         (self.association.take(), dropped)
+    }
+
+    /// Forgets what the peer has read since it was handed to its socket. Of one that has gone nobody can tell
+    /// any more what
+    /// it read last.
+    pub fn measure(&mut self) {
+        if let Some(Association::Packets(socket)) = &self.association {
+            self.handed.measure(socket);
+        }
+    }
+
+    /// What was handed to the socket and is unread at the end was not sent. Where the peer went and left
+    /// something unread,
+    /// that is what was unread when it was last looked for.
+    fn account(&mut self) {
+        if let Some(Association::Packets(socket)) = &self.association {
+            match os::is_closed(socket) {
+                (_, true) => self.reset = true,
+                (true, _) if !self.reset => drop(self.handed.take()),
+                _ => {}
+            }
+        }
+        self.measure();
+        for unit in self.handed.take() {
+            self.counts.sent -= 1;
+            self.counts.unread += 1;
+            if let Some(a) = unit {
+                self.units[usize::from(a)].sent -= 1;
+                self.units[usize::from(a)].unread += 1;
+            }
+        }
+    }
+
+    /// The counts, in which what is unread now is not sent yet.
+    pub fn counts_now(&self) -> Counts {
+        let unread = self.handed.units().count() as u64;
+        Counts {
+            sent: self.counts.sent - unread,
+            unread: self.counts.unread + unread,
+            ..self.counts
+        }
+    }
+
+    /// The same of the units of an AS.
+    pub fn units_now(&self, a: usize) -> UnitCounts {
+        let of = |unit: &Option<u8>| unit.map(usize::from) == Some(a);
+        let unread = self.handed.units().filter(of).count() as u64;
+        UnitCounts {
+            sent: self.units[a].sent - unread,
+            unread: self.units[a].unread + unread,
+            ..self.units[a]
+        }
     }
 
     /// What has come. To look for a second message where there is none costs as much as half a message: so that is done now and then, and as long as there is one.
@@ -94,28 +181,40 @@ impl Peer {
         }
         self.many = batch.len() > 1;
         self.ready = batch.len() == BURST;
-        self.counts.received += batch.messages() as u64;
+        self.came = batch.len();
+        let messages = batch.messages();
+        self.counts.received += messages as u64;
+        if messages > 0 {
+            self.beats.heard();
+        }
+        self.reset |= (0..batch.len()).any(|k| batch.get(k).0 == Received::Reset);
     }
 
     /// Lets a message wait until the next flush. Where too much waits, what can be sent is sent first.
-    pub fn send(&mut self, message: &[u8], origin: usize, now: Instant) -> Fate {
+    pub fn send(&mut self, message: &[u8], mark: Mark, now: Instant) -> Fate {
         self.counts.ordered += 1;
+        if let Some(a) = mark.unit {
+            self.units[usize::from(a)].ordered += 1;
+        }
         let fate = if self.association.is_none() {
             Fate::Absent
         } else if self.has_room(message) || (self.flush(now) && self.has_room(message)) {
             if self.queue.is_empty() {
                 self.progress = now;
             }
-            self.queue.push(message, origin);
+            self.queue.push(message, mark);
             return Fate::Taken;
         } else {
             Fate::Overflow
         };
         self.counts.dropped += 1;
+        if let Some(a) = mark.unit {
+            self.units[usize::from(a)].dropped += 1;
+        }
         fate
     }
 
-    fn has_room(&self, message: &[u8]) -> bool {
+    pub fn has_room(&self, message: &[u8]) -> bool {
         self.queue.cost() + message.len() + ENTRY <= self.limit
     }
 
@@ -132,10 +231,23 @@ impl Peer {
                 },
                 None => association.send_all(self.queue.iter()),
             };
-            self.queue.pop(count);
+            let (units, handed) = (&mut self.units, &mut self.handed);
+            let is_unix = matches!(association, Association::Packets(_));
+            self.queue.pop(count, |length, mark| {
+                if let Some(a) = mark.unit {
+                    units[usize::from(a)].sent += 1;
+                }
+                if is_unix {
+                    handed.push(length, mark.unit);
+                }
+            });
             self.counts.sent += count as u64;
             match rest {
                 Sent::Ended => return false,
+                Sent::Reset => {
+                    self.reset = true;
+                    return false;
+                }
                 Sent::Later => self.blocked = true,
                 Sent::Done => {}
             }
@@ -143,6 +255,7 @@ impl Peer {
                 self.progress = now;
             }
         }
+        self.measure();
         true
     }
 
@@ -154,6 +267,12 @@ impl Peer {
     /// How many bytes wait, and how many messages.
     pub fn waiting(&self) -> (usize, usize) {
         (self.queue.cost(), self.queue.len())
+    }
+
+    /// How many units of an AS wait.
+    pub fn units_waiting(&self, a: usize) -> u64 {
+        let of = |mark: &Mark| mark.unit.map(usize::from) == Some(a);
+        self.queue.marks().filter(of).count() as u64
     }
 
     /// How many of the bytes that wait come from an origin.

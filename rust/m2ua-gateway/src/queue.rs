@@ -1,13 +1,22 @@
-//! Messages that wait for a peer, oldest first, one behind the other in one buffer. Each has an origin: the ASP whose message it came from, where that matters.
+//! Messages that wait for a peer, oldest first, one behind the other in one buffer. Each has a mark.
 use std::collections::VecDeque;
 
 /// What a message costs beside its bytes: its entry, twice, since a list that grows has room for as much again.
 pub const ENTRY: usize = 64;
 
+/// What is known of a message beside its bytes.
+#[derive(Clone, Copy, Debug, PartialEq, Eq)]
+pub struct Mark {
+    /// The ASP whose message it came from, where that matters.
+    pub origin: usize,
+    /// The AS that it brings a unit of.
+    pub unit: Option<u8>,
+}
+
 #[derive(Clone, Copy)]
 struct Entry {
     length: usize,
-    origin: usize,
+    mark: Mark,
 }
 
 pub struct Queue {
@@ -52,7 +61,7 @@ impl Queue {
         self.shares[origin]
     }
 
-    pub fn push(&mut self, message: &[u8], origin: usize) {
+    pub fn push(&mut self, message: &[u8], mark: Mark) {
         let end = self.bytes.len() + message.len();
         if end > self.bytes.capacity() {
             // twice as much, but no more than ever is needed: what is sent takes no more than what waits
@@ -62,9 +71,9 @@ impl Queue {
         self.bytes.extend(message);
         self.entries.push_back(Entry {
             length: message.len(),
-            origin,
+            mark,
         });
-        self.shares[origin] += message.len() + ENTRY;
+        self.shares[mark.origin] += message.len() + ENTRY;
         self.cost += message.len() + ENTRY;
     }
 
@@ -83,11 +92,17 @@ impl Queue {
         })
     }
 
-    /// Takes the oldest messages away.
-    pub fn pop(&mut self, count: usize) {
+    /// The marks of the messages, oldest first.
+    pub fn marks(&self) -> impl Iterator<Item = Mark> + '_ {
+        self.entries.iter().map(|entry| entry.mark)
+    }
+
+    /// Takes the oldest messages away, and tells the length and the mark of each.
+    pub fn pop(&mut self, count: usize, mut gone: impl FnMut(usize, Mark)) {
         for entry in self.entries.drain(..count) {
+            gone(entry.length, entry.mark);
             self.start += entry.length;
-            self.shares[entry.origin] -= entry.length + ENTRY;
+            self.shares[entry.mark.origin] -= entry.length + ENTRY;
             self.cost -= entry.length + ENTRY;
         }
         if self.entries.is_empty() {
@@ -100,9 +115,10 @@ impl Queue {
         }
     }
 
-    /// Takes all away: how many there were. The room is given back.
-    pub fn clear(&mut self) -> usize {
+    /// Takes all away, and tells the mark of each: how many there were. The room is given back.
+    pub fn clear(&mut self, gone: impl FnMut(Mark)) -> usize {
         let count = self.len();
+        self.marks().for_each(gone);
         *self = Queue::new(self.limit, self.shares.len());
         count
     }
@@ -119,7 +135,11 @@ mod tests {
         for round in 0..1000usize {
             for _ in 0..round % 7 {
                 let message = vec![pushed as u8; pushed as usize % 50];
-                queue.push(&message, pushed as usize % 2);
+                let mark = Mark {
+                    origin: pushed as usize % 2,
+                    unit: Some(pushed as u8),
+                };
+                queue.push(&message, mark);
                 pushed += 1;
             }
             let gone = queue.len().min(round % 5);
@@ -127,8 +147,13 @@ mod tests {
                 let number = popped as usize + k;
                 assert_eq!(message, vec![number as u8; number % 50]);
             }
-            queue.pop(gone);
-            popped += gone as u32;
+            queue.pop(gone, |length, mark| {
+                assert_eq!(
+                    (length, mark.unit),
+                    (popped as usize % 50, Some(popped as u8))
+                );
+                popped += 1;
+            });
             let waiting: usize = (popped..pushed).map(|n| n as usize % 50 + ENTRY).sum();
             assert_eq!(
                 (queue.cost(), queue.share(0) + queue.share(1)),
@@ -136,7 +161,12 @@ mod tests {
             );
             assert!(queue.bytes.len() <= 2 * waiting + 64 && queue.bytes.capacity() <= 2 << 16);
         }
-        assert_eq!(queue.clear(), (pushed - popped) as usize);
+        let mut cleared = popped;
+        let count = queue.clear(|mark| {
+            assert_eq!(mark.unit, Some(cleared as u8));
+            cleared += 1;
+        });
+        assert_eq!((count, cleared), ((pushed - popped) as usize, pushed));
         assert_eq!(
             (queue.cost(), queue.share(1), queue.is_empty()),
             (0, 0, true)

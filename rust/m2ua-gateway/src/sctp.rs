@@ -1,10 +1,13 @@
-//! SCTP by libusrsctp, over src/sctp.c. Where the library was not there when this was compiled, starting it says so and nothing else is ever reached.
+//! SCTP by libusrsctp, over src/sctp.c. Where the library was not there when this was compiled, starting it
+//! says so and nothing else is ever reached.
 #![allow(unsafe_code)]
 // without the library a socket has no value, so that what follows one is never reached
 #![cfg_attr(not(sctp), allow(unreachable_code))]
+use crate::pieces::Pieces;
+use crate::terms::{Pace, Terms};
 use crate::transport::{Received, Sent, READ};
 use std::io::{Error, Result};
-use std::net::{IpAddr, Ipv4Addr, Ipv6Addr, SocketAddr};
+use std::net::{IpAddr, Ipv4Addr, Ipv6Addr, SocketAddr, UdpSocket};
 use std::os::fd::{AsRawFd, OwnedFd, RawFd};
 use std::sync::Arc;
 use std::time::Duration;
@@ -51,58 +54,85 @@ impl Address {
     }
 }
 
-/// How associations are kept.
+/// Terms as sctp.c has them.
 #[repr(C)]
 #[derive(Clone, Copy)]
-pub struct Terms {
-    /// The peer's port where SCTP goes inside UDP (RFC 6951); 0 over IP.
-    pub udp_port: u16,
-    /// Milliseconds after which a dead peer is noticed.
-    pub dead: u32,
-    /// Bytes that the stack keeps for an association, each way.
-    pub buffer: u32,
+struct Kept {
+    udp_port: u16,
+    streams: u16,
+    misses: u16,
+    rto: u32,
+    rto_least: u32,
+    heartbeat: u32,
+    buffer: u32,
+}
+
+impl Kept {
+    fn of(terms: &Terms) -> Kept {
+        let pace = Pace::of_library(terms.dead);
+        Kept {
+            udp_port: terms.udp_port,
+            streams: terms.streams,
+            misses: pace.misses,
+            rto: pace.rto,
+            rto_least: pace.least(),
+            heartbeat: pace.heartbeat,
+            buffer: terms.buffer,
+        }
+    }
 }
 
 /// The stack of this process, with the counter that it raises when something has come, gone or ended.
 pub struct Stack {
     wake: Arc<OwnedFd>,
-    terms: Terms,
+    terms: Kept,
+    over_ip: bool,
+}
+
+/// What sctp.c answers: zero, or why not.
+fn done(code: i32) -> Result<()> {
+    match code {
+        0 => Ok(()),
+        why => Err(Error::from_raw_os_error(why)),
+    }
 }
 
 /// A listening socket.
 pub struct Listener {
     socket: c::Socket,
     wake: Arc<OwnedFd>,
+    _hold: Option<UdpSocket>,
 }
 
 /// An association, and the part of a message that came before its end.
 pub struct Association {
     socket: c::Socket,
     wake: Arc<OwnedFd>,
-    part: Vec<u8>,
-    length: usize,
+    streams: u16,
+    pieces: Pieces,
 }
 
 impl Stack {
-    /// Starts the stack: inside UDP from a port of this side, or over IP where no port is given.
-    pub fn start(udp_port: Option<u16>, terms: Terms) -> Result<Stack> {
+    /// Starts the stack for an address of this side: inside UDP from a port, or over IP where none is given.
+    pub fn start(at: SocketAddr, udp_port: Option<u16>, terms: Terms) -> Result<Stack> {
         if !cfg!(sctp) {
             return Err(Error::other(
                 "compiled without SCTP: libusrsctp was not installed (tools/setup)",
             ));
         }
         match udp_port {
-            // the stack does not tell whether it could have its port
-            Some(port) => drop(std::net::UdpSocket::bind(("0.0.0.0", port))?),
-            None => match c::raw() {
-                0 => {}
-                code => return Err(Error::from_raw_os_error(code)),
-            },
+            // of all addresses the stack does not tell whether it could have its port
+            Some(port) if at.ip().is_unspecified() => {
+                drop(UdpSocket::bind((Ipv4Addr::UNSPECIFIED, port))?)
+            }
+            Some(_) => {}
+            None => done(c::raw())?,
         }
-        c::start(udp_port.unwrap_or(0));
+        done(c::start(&Address::of(at), udp_port.unwrap_or(0)))?;
         Ok(Stack {
             wake: Arc::new(crate::os::wake_file()?),
-            terms,
+            terms: Kept::of(&terms),
+            over_ip: udp_port.is_none(),
         })
     }
 
@@ -112,10 +142,14 @@ impl Stack {
     }
 
     pub fn listen(&self, at: SocketAddr) -> Result<Listener> {
+        // over IP nobody says that another has the address and port: so the port of UDP that has the same
+        // number is held too
+        let hold = self.over_ip.then(|| UdpSocket::bind(at)).transpose()?;
         let socket = c::listen(&Address::of(at), &self.terms, self.wake.as_raw_fd())?;
         Ok(Listener {
             socket,
             wake: self.wake.clone(),
+            _hold: hold,
         })
     }
 
@@ -157,24 +191,25 @@ impl Association {
         Association {
             socket,
             wake,
-            part: Vec::new(),
-            length: 0,
+            streams: c::streams(socket).max(1),
+            pieces: Pieces::default(),
         }
     }
 
-    /// The next message; `None` where there is none. A long one comes in pieces: of these the first bytes are kept, and the rest is counted.
+    /// How many streams the peer takes.
+    pub fn streams(&self) -> u16 {
+        self.streams
+    }
+
+    /// The next message; `None` where there is none. A long one comes in pieces: of these the first bytes
+    /// are kept, and the rest is counted.
     pub fn receive(&mut self, bytes: &mut [u8; READ]) -> Option<Received> {
         loop {
             let (kind, length, ppid) = c::receive(self.socket, bytes);
             match kind {
                 c::PIECE | c::END => {
-                    if let Some(whole) = self.piece(bytes, length, kind == c::END) {
-                        let ours = ppid == m2ua::sys::PPID;
-                        return Some(if ours {
-                            Received::Message(whole)
-                        } else {
-                            Received::Foreign(ppid)
-                        });
+                    if let Some(whole) = self.pieces.add(bytes, length, kind == c::END) {
+                        return Some(Received::of(whole, ppid));
                     }
                 }
                 c::NOTHING => return None,
@@ -183,22 +218,6 @@ impl Association {
                 _ => {}
             }
         }
-    }
-
-    /// Takes in a piece; at the end of a message it is in the buffer as far as it goes in, and its length is handed out.
-    fn piece(&mut self, bytes: &mut [u8; READ], length: usize, end: bool) -> Option<usize> {
-        if end && self.length == 0 {
-            return Some(length);
-        }
-        let room = READ - self.part.len();
-        self.part.extend(&bytes[..length.min(room)]);
-        self.length += length;
-        if !end {
-            return None;
-        }
-        bytes[..self.part.len()].copy_from_slice(&self.part);
-        self.part.clear();
-        Some(std::mem::take(&mut self.length))
     }
 
     pub fn send(&self, message: &[u8], stream: u16, ppid: u32) -> Sent {
@@ -225,10 +244,11 @@ impl AsRawFd for Association {
     }
 }
 
-/// The functions of sctp.c. A socket is handed to them only between its opening and its close, which takes it away.
+/// The functions of sctp.c. A socket is handed to them only between its opening and its close, which takes
+/// it away.
 #[cfg(sctp)]
 mod c {
-    use super::{Address, Error, RawFd, Result, Terms};
+    use super::{Address, Error, Kept, RawFd, Result};
     use std::ffi::{c_int, c_void};
 
     pub const NOTHING: c_int = 0;
@@ -242,15 +262,16 @@ mod c {
 
     extern "C" {
         fn m2ua_sctp_raw() -> c_int;
-        fn m2ua_sctp_start(udp_port: u16);
-        fn m2ua_sctp_listen(at: *const Address, terms: *const Terms, wake: c_int) -> *mut c_void;
+        fn m2ua_sctp_start(at: *const Address, udp_port: u16) -> c_int;
+        fn m2ua_sctp_listen(at: *const Address, terms: *const Kept, wake: c_int) -> *mut c_void;
         fn m2ua_sctp_accept(listener: *mut c_void, peer: *mut Address, wake: c_int) -> *mut c_void;
         fn m2ua_sctp_connect(
             from: *const Address,
             to: *const Address,
-            terms: *const Terms,
+            terms: *const Kept,
             wake: c_int,
         ) -> *mut c_void;
+        fn m2ua_sctp_streams(socket: *mut c_void) -> u16;
         fn m2ua_sctp_receive(
             socket: *mut c_void,
             bytes: *mut u8,
@@ -276,29 +297,41 @@ mod c {
         Ok(Socket(socket))
     }
 
-    // Safety, of all: structs and slices are lent whole and not kept.
     pub fn raw() -> c_int {
+        // Safety: it takes nothing.
         unsafe { m2ua_sctp_raw() }
     }
 
-    pub fn start(udp_port: u16) {
-        unsafe { m2ua_sctp_start(udp_port) }
+    pub fn start(at: &Address, udp_port: u16) -> c_int {
+        // Safety: the address is lent through the call, and not kept.
+        unsafe { m2ua_sctp_start(at, udp_port) }
     }
 
-    pub fn listen(at: &Address, terms: &Terms, wake: RawFd) -> Result<Socket> {
+    pub fn listen(at: &Address, terms: &Kept, wake: RawFd) -> Result<Socket> {
+        // Safety: address and terms are lent through the call, and not kept. The counter outlives the
+        // socket, which has a share in it.
         opened(unsafe { m2ua_sctp_listen(at, terms, wake) })
     }
 
     pub fn accept(listener: Socket, peer: &mut Address, wake: RawFd) -> Option<Socket> {
+        // Safety: the listener is open, the address is lent through the call; the counter as above.
         opened(unsafe { m2ua_sctp_accept(listener.0, peer, wake) }).ok()
     }
 
-    pub fn connect(from: &Address, to: &Address, terms: &Terms, wake: RawFd) -> Result<Socket> {
+    pub fn connect(from: &Address, to: &Address, terms: &Kept, wake: RawFd) -> Result<Socket> {
+        // Safety: addresses and terms are lent through the call, and not kept; the counter as above.
         opened(unsafe { m2ua_sctp_connect(from, to, terms, wake) })
+    }
+
+    pub fn streams(socket: Socket) -> u16 {
+        // Safety: the socket is open.
+        unsafe { m2ua_sctp_streams(socket.0) }
     }
 
     pub fn receive(socket: Socket, bytes: &mut [u8]) -> (c_int, usize, u32) {
         let (mut length, mut ppid) = (0, 0);
+        // Safety: the socket is open; the slice is lent whole with its length, and so are the two numbers,
+        // and none is kept.
         let kind = unsafe {
             m2ua_sctp_receive(
                 socket.0,
@@ -312,14 +345,17 @@ mod c {
     }
 
     pub fn send(socket: Socket, message: &[u8], stream: u16, ppid: u32) -> c_int {
+        // Safety: the socket is open; the slice is lent whole with its length, and the stack copies it.
         unsafe { m2ua_sctp_send(socket.0, message.as_ptr(), message.len(), stream, ppid) }
     }
 
     pub fn close(socket: Socket, abort: bool) {
+        // Safety: the socket is open, and whoever had it gives it up with this call.
         unsafe { m2ua_sctp_close(socket.0, abort.into()) }
     }
 
     pub fn stop(most: u32) -> c_int {
+        // Safety: a number alone.
         unsafe { m2ua_sctp_stop(most) }
     }
 }
@@ -327,7 +363,7 @@ mod c {
 /// Without the library: no socket can be made, so none is ever lent.
 #[cfg(not(sctp))]
 mod c {
-    use super::{Address, Error, RawFd, Result, Terms};
+    use super::{Address, Error, Kept, RawFd, Result};
 
     pub const NOTHING: i32 = 0;
     pub const PIECE: i32 = 1;
@@ -341,18 +377,23 @@ mod c {
     pub fn raw() -> i32 {
         0
     }
-    pub fn start(_: u16) {}
+    pub fn start(_: &Address, _: u16) -> i32 {
+        0
+    }
     pub fn stop(_: u32) -> i32 {
         0
     }
-    pub fn listen(_: &Address, _: &Terms, _: RawFd) -> Result<Socket> {
+    pub fn listen(_: &Address, _: &Kept, _: RawFd) -> Result<Socket> {
         Err(Error::other("no SCTP"))
     }
-    pub fn connect(_: &Address, _: &Address, _: &Terms, _: RawFd) -> Result<Socket> {
+    pub fn connect(_: &Address, _: &Address, _: &Kept, _: RawFd) -> Result<Socket> {
         Err(Error::other("no SCTP"))
     }
     pub fn accept(listener: Socket, _: &mut Address, _: RawFd) -> Option<Socket> {
         match listener {}
+    }
+    pub fn streams(socket: Socket) -> u16 {
+        match socket {}
     }
     pub fn receive(socket: Socket, _: &mut [u8]) -> (i32, usize, u32) {
         match socket {}

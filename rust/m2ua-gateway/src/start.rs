@@ -1,23 +1,38 @@
 //! Starting: the plan is read and loaded, sockets and files are opened. Whatever fails is said in one line or more, and nothing runs.
+use crate::beats::{self, Beats};
 use crate::daemon::{Daemon, Opened};
 use crate::engine::Engine;
+use crate::files::{self, Folder};
+use crate::kernel;
 use crate::log::{Level, Log};
 use crate::options::Options;
 use crate::os::{self, Epoll, Signals};
 use crate::outside::Outside;
 use crate::peer::Peer;
-use crate::records::Journal;
-use crate::sctp::{Listener, Stack, Terms};
+use crate::records::{Before, Journal};
+use crate::sctp::{Listener, Stack};
+use crate::terms::{Terms, GRANTED};
+use crate::units::Units;
 use m2ua::Gateway;
 use m2ua_plan::Plan;
+use std::fs::File;
 use std::io::ErrorKind;
 use std::net::SocketAddr;
-use std::os::fd::OwnedFd;
-use std::os::unix::fs::DirBuilderExt;
+use std::os::fd::AsFd;
 use std::os::unix::net::UnixDatagram;
 use std::path::Path;
 use std::time::{Instant, SystemTime};
 
+/// What the daemon takes as an order (daemon.rs).
+const SIGNALS: [i32; 5] = [
+    os::SIGTERM,
+    os::SIGINT,
+    os::SIGHUP,
+    os::SIGUSR1,
+    os::SIGUSR2,
+];
+/// The name of the link side, and of its socket.
+const LINKS: &str = "links";
 /// The port inside UDP where none is said (RFC 6951).
 const UDP: u16 = 9899;
 /// What the SCTP stack keeps for an association, each way.
@@ -50,29 +65,28 @@ pub fn daemon(options: Options) -> Result<Daemon, String> {
     let (plan, file) = plan_of(&options.plan)?;
     let state = Gateway::load(&file).map_err(|no| no.to_string())?;
     // before any thread of the SCTP stack is there, so that no signal ends the process elsewhere
-    let signals = Signals::new(&[os::SIGTERM, os::SIGINT, os::SIGUSR1, os::SIGUSR2])
-        .map_err(|e| format!("signals: {e}"))?;
+    let signals = Signals::new(&SIGNALS).map_err(|e| format!("signals: {e}"))?;
+    check(&plan, &options)?;
     let peers = peers_of(&plan, &options);
     let ases = plan.ases.iter().map(|r#as| r#as.name.clone()).collect();
     let mut outside = Outside::new(
         peers,
         ases,
+        Units::new(&state),
         options.links,
-        Log::new(options.log, std::io::stderr()),
+        Log::new(options.log, standard_error()?),
     );
     outside.set_time(Instant::now(), SystemTime::now());
-    outside.journal = match &options.journal {
-        Some(path) => {
-            Some(Journal::create(path, &file).map_err(|e| format!("{}: {e}", path.display()))?)
-        }
-        None => None,
-    };
+    // files behind the sockets: a start that is refused has not touched any
     let opened = opened(&options, &mut outside, signals)?;
     opened.watched().map_err(|e| format!("epoll: {e}"))?;
+    written(&options, &mut outside, &file)?;
     let mut daemon = Daemon {
         engine: Engine::new(state),
         timers: vec![None; plan.ases.len()],
         interests: vec![(true, false); outside.peers.len()],
+        held: Vec::new(),
+        closed: None,
         batch: None,
         options,
         plan,
@@ -88,54 +102,130 @@ pub fn daemon(options: Options) -> Result<Daemon, String> {
 
 fn peers_of(plan: &Plan, options: &Options) -> Vec<Peer> {
     let origins = plan.asps.len() + 1;
-    let asp = |name: &String| Peer::new(name, format!("asp-{name}"), options.queue, origins);
+    let misses = options.beat_misses;
+    let terms = options
+        .beat
+        .map(|interval| beats::Terms { interval, misses });
+    let peer = |name: &str, socket, terms| {
+        Peer::new(name, socket, options.queue, origins, Beats::new(terms))
+    };
+    let asp = |name: &String| peer(name, format!("asp-{name}"), terms);
     let mut peers: Vec<Peer> = plan.asps.iter().map(|a| asp(&a.name)).collect();
-    peers.push(Peer::new("links", "links".into(), options.queue, origins));
+    // the link side speaks class 6 alone
+    peers.push(peer(LINKS, LINKS.into(), None));
     peers
+}
+
+/// What of a plan does not go with the options.
+fn check(plan: &Plan, options: &Options) -> Result<(), String> {
+    let said = |why: &str| Err(format!("{}: {why}", options.plan.display()));
+    if plan.asps.iter().any(|asp| asp.name == LINKS) {
+        return said("no ASP may have the name of the link side, 'links'");
+    }
+    let sctp = !options.sctp.is_empty() || !options.kernel.is_empty();
+    if sctp && plan.asps.iter().all(|asp| asp.from.is_empty()) {
+        return said("--sctp: nobody could come: no ASP of the plan says where it is 'from'");
+    }
+    Ok(())
+}
+
+/// Standard error as a file of its own.
+fn standard_error() -> Result<File, String> {
+    let own = std::io::stderr().as_fd().try_clone_to_owned();
+    own.map(File::from)
+        .map_err(|e| format!("standard error: {e}"))
+}
+
+/// Opens the log's file and the journal, and says whether the run before ended in order.
+fn written(options: &Options, outside: &mut Outside, plan: &[u8]) -> Result<(), String> {
+    let said = |path: &Path, e: std::io::Error| format!("{}: {e}", path.display());
+    if let Some(path) = &options.log_file {
+        let file = files::append(path).map_err(|e| said(path, e))?;
+        outside.log.set_out(file);
+    }
+    if let Some(path) = &options.journal {
+        let (journal, before) =
+            Journal::open(path, plan, SystemTime::now()).map_err(|e| said(path, e))?;
+        outside.journal = Some(journal);
+        if before == Before::Killed {
+            outside.log.line(
+                Level::Faults,
+                format_args!("the last run did not end in order: its journal has no end"),
+            );
+        }
+    }
+    Ok(())
 }
 
 fn opened(options: &Options, outside: &mut Outside, signals: Signals) -> Result<Opened, String> {
     let watch = Epoll::new().map_err(|e| format!("epoll: {e}"))?;
-    let made = std::fs::DirBuilder::new()
-        .recursive(true)
-        .mode(0o700)
-        .create(&options.dir);
-    made.map_err(|e| format!("{}: {e}", options.dir.display()))?;
-    let mut listeners = Vec::new();
+    let folder = Folder::open(&options.dir, options.group)?;
+    let (mut listeners, mut left) = (Vec::new(), 0);
     for peer in &outside.peers {
-        listeners.push(listener(&options.dir.join(&peer.socket))?);
+        let (entrance, was_left) = folder.listen(&peer.socket)?;
+        listeners.push(entrance);
+        left += usize::from(was_left);
     }
-    let sctp = match options.sctp {
-        Some(at) => Some(sctp(at, options, outside)?),
-        None => None,
+    if left > 0 {
+        outside.log.line(
+            Level::Faults,
+            format_args!(
+                "the last run did not end in order: it left {left} sockets, which are made anew"
+            ),
+        );
+    }
+    let kernel = match kernels(options) {
+        [] => None,
+        at => Some(kernel_sctp(at, options, outside)?),
+    };
+    let sctp = match options.sctp[..] {
+        [] => None,
+        _ if kernels(options) == options.sctp => None,
+        [at] => Some(sctp(at, options, outside)?),
+        _ => return Err("SCTP by libusrsctp has one address; the kernel's takes several".into()),
     };
     Ok(Opened {
         watch,
         signals,
+        folder,
         listeners,
         sctp,
+        kernel,
     })
 }
 
-/// A listening Unix socket. One that a process left behind, which is no more, is taken away.
-fn listener(path: &Path) -> Result<OwnedFd, String> {
-    let said = |e: std::io::Error| format!("{}: {e}", path.display());
-    match os::seqpacket_listen(path) {
-        Err(e) if e.kind() == ErrorKind::AddrInUse => {}
-        other => return other.map_err(said),
+/// The addresses where the kernel's SCTP is to listen: those of `--sctp` too, where it is there and nothing
+/// else is said.
+fn kernels(options: &Options) -> &[SocketAddr] {
+    let by_choice = options.udp.is_none() && kernel::is_there();
+    if options.kernel.is_empty() && by_choice {
+        &options.sctp
+    } else {
+        &options.kernel
     }
-    match os::seqpacket_connect(path) {
-        Err(e) if e.kind() == ErrorKind::ConnectionRefused => {}
-        Ok(_) => {
-            return Err(format!(
-                "{}: a running process has this socket",
-                path.display()
-            ))
-        }
-        Err(e) => return Err(said(e)),
+}
+
+fn terms(options: &Options) -> Terms {
+    Terms {
+        udp_port: 0,
+        dead: options.dead.as_millis() as u32,
+        buffer: BUFFER,
+        streams: GRANTED,
     }
-    std::fs::remove_file(path).map_err(said)?;
-    os::seqpacket_listen(path).map_err(said)
+}
+
+fn kernel_sctp(
+    at: &[SocketAddr],
+    options: &Options,
+    outside: &mut Outside,
+) -> Result<kernel::Listener, String> {
+    let words: Vec<String> = at.iter().map(|at| at.to_string()).collect();
+    let words = words.join(", ");
+    let listener = kernel::Listener::new(at, &terms(options));
+    let listener = listener.map_err(|e| format!("SCTP {words}, the kernel's: {e}"))?;
+    let line = format_args!("sctp: listens at {words}, by the kernel's SCTP");
+    outside.log.line(Level::Faults, line);
+    Ok(listener)
 }
 
 /// The SCTP stack: over IP if that may be, else inside UDP.
@@ -144,25 +234,24 @@ fn sctp(
     options: &Options,
     outside: &mut Outside,
 ) -> Result<(Stack, Listener), String> {
-    let terms = Terms {
-        udp_port: 0,
-        dead: options.dead.as_millis() as u32,
-        buffer: BUFFER,
-    };
+    let terms = terms(options);
     let mut udp = options.udp;
-    let stack = match Stack::start(udp, terms) {
+    let stack = match Stack::start(at, udp, terms) {
         Err(e) if udp.is_none() && e.kind() == ErrorKind::PermissionDenied => {
             udp = Some(UDP);
-            Stack::start(udp, terms)
+            Stack::start(at, udp, terms)
         }
         other => other,
     };
     let way = udp.map_or("over IP".into(), |port| format!("inside UDP, port {port}"));
     let stack = stack.map_err(|e| format!("SCTP {way}: {e}"))?;
-    let listener = stack.listen(at).map_err(|e| format!("SCTP {at}: {e}"))?;
-    outside
-        .log
-        .line(Level::Faults, format_args!("sctp: listens at {at}, {way}"));
+    let listener = stack
+        .listen(at)
+        .map_err(|e| format!("SCTP {at} {way}: {e}"))?;
+    outside.log.line(
+        Level::Faults,
+        format_args!("sctp: listens at {at}, by libusrsctp {way}"),
+    );
     Ok((stack, listener))
 }
 

@@ -1,11 +1,16 @@
-//! The two transports behind one interface: Unix sockets of type SOCK_SEQPACKET, and SCTP. Both keep the boundaries of messages and tell the end of an association.
+//! The transports behind one interface: Unix sockets of type SOCK_SEQPACKET, the kernel's SCTP, and that of
+//! libusrsctp. All keep the boundaries of messages and tell the end of an association.
+use crate::kernel;
 use crate::os::{self, Packets};
 use crate::sctp;
 use m2ua_trace::capture::stream;
+use std::fmt;
 use std::io::{ErrorKind, Result};
+use std::net::IpAddr;
 use std::os::fd::{AsRawFd, OwnedFd, RawFd};
 
-/// As much as is read of a message. One byte more than a message may have: what is longer is refused for its size alone (Rule 2.1), so that its first bytes stand for all of it.
+/// As much as is read of a message. One byte more than a message may have: what is longer is refused for
+/// its size alone (Rule 2.1), so that its first bytes stand for all of it.
 pub const READ: usize = m2ua::sys::MAX_MESSAGE + 1;
 
 /// So much is taken of one peer before it is another's turn.
@@ -18,10 +23,66 @@ pub enum Received {
     Message(usize),
     /// A message of another payload protocol, which is none of ours.
     Foreign(u32),
+    /// What SCTP tells of the association, for the log alone.
+    Told(Told),
     /// The peer has begun anew: what it was before is lost.
     Restarted,
     /// The association is over.
     Ended,
+    /// The same, and the peer has not read all that it was sent.
+    Reset,
+}
+
+impl Received {
+    /// A message of so many bytes and some payload protocol.
+    pub fn of(length: usize, ppid: u32) -> Received {
+        if ppid == m2ua::sys::PPID {
+            Received::Message(length)
+        } else {
+            Received::Foreign(ppid)
+        }
+    }
+}
+
+/// What SCTP tells of an association, by the names of RFC 6458.
+#[derive(Clone, Copy, Debug, PartialEq, Eq)]
+pub enum Told {
+    Up { out: u16, r#in: u16 },
+    Lost { error: u16 },
+    Restart,
+    Shutdown,
+    ShutdownComplete,
+    Address(IpAddr, i32),
+}
+
+impl fmt::Display for Told {
+    fn fmt(&self, f: &mut fmt::Formatter<'_>) -> fmt::Result {
+        match self {
+            Told::Up { out, r#in } => {
+                write!(f, "COMM_UP, {out} streams to it and {in} from it", in = r#in)
+            }
+            Told::Lost { error } => write!(f, "COMM_LOST, cause {error}"),
+            Told::Restart => f.write_str("RESTART"),
+            Told::Shutdown => f.write_str("SHUTDOWN, the peer sends nothing more"),
+            Told::ShutdownComplete => f.write_str("SHUTDOWN_COMP"),
+            Told::Address(at, state) => {
+                let words = [
+                    "available",
+                    "unreachable",
+                    "removed",
+                    "added",
+                    "made primary",
+                    "confirmed",
+                ];
+                let word = usize::try_from(*state).ok().and_then(|k| words.get(k));
+                write!(
+                    f,
+                    "PEER_ADDR_CHANGE, {at} is {}",
+                    word.unwrap_or(&"changed")
+                )
+            }
+        }
+    }
 }
 
 /// What has come of one peer, in its sequence.
@@ -63,11 +124,15 @@ impl Batch {
             .count()
     }
 
-    /// Takes packets of a Unix socket. An empty one looks like the end, of which there is no end: where only such are left and the peer has closed, it is the end.
+    /// Takes packets of a Unix socket. An empty one looks like the end, of which there is no end: where
+    /// only such are left and the peer has closed, it is the end.
     fn take_packets(&mut self, socket: &OwnedFd, most: usize) {
         let count = match self.packets.receive(socket, most) {
             Ok(count) => count,
             Err(e) if matches!(e.kind(), ErrorKind::WouldBlock | ErrorKind::Interrupted) => 0,
+            Err(e) if e.kind() == ErrorKind::ConnectionReset => {
+                return self.received.push(Received::Reset)
+            }
             Err(_) => return self.received.push(Received::Ended),
         };
         let full = (0..count)
@@ -83,10 +148,11 @@ impl Batch {
         }
     }
 
-    fn take_sctp(&mut self, association: &mut sctp::Association) {
-        while self.received.len() < BURST {
+    /// Takes messages one by one, at most so many.
+    fn take(&mut self, most: usize, mut next: impl FnMut(&mut [u8; READ]) -> Option<Received>) {
+        while self.received.len() < most {
             let (bytes, length) = self.packets.place(self.received.len());
-            let Some(received) = association.receive(bytes) else {
+            let Some(received) = next(bytes) else {
                 return;
             };
             if let Received::Message(whole) = received {
@@ -115,35 +181,49 @@ pub enum Sent {
     Later,
     /// The association is over.
     Ended,
+    /// The same, and the peer has not read all that it was sent.
+    Reset,
 }
 
 /// An association with one peer.
 pub enum Association {
     Packets(OwnedFd),
+    Kernel(kernel::Association),
     Sctp(sctp::Association),
 }
 
 impl Association {
-    /// What has come, without waiting; nothing where the batch is empty behind it. Of a Unix socket, which tells by itself that more is there, at most so much.
+    /// What has come, without waiting; nothing where the batch is empty behind it. Of a descriptor, which
+    /// tells by itself that more is there, at most so much.
     pub fn receive(&mut self, batch: &mut Batch, most: usize) {
         batch.clear();
         match self {
             Association::Packets(socket) => batch.take_packets(socket, most),
-            Association::Sctp(association) => batch.take_sctp(association),
+            Association::Kernel(association) => {
+                batch.take(most, |bytes| association.receive(bytes))
+            }
+            Association::Sctp(association) => batch.take(BURST, |bytes| association.receive(bytes)),
         }
     }
 
     /// Sends a message whole, or nothing of it, without waiting.
     pub fn send(&self, message: &[u8]) -> Sent {
+        self.send_as(message, m2ua::sys::PPID)
+    }
+
+    /// The same, of some payload protocol.
+    pub fn send_as(&self, message: &[u8], ppid: u32) -> Sent {
+        // a peer that grants one stream has all on it
+        let stream = |streams: u16| stream(message).min(streams - 1);
         match self {
             Association::Packets(socket) => sent(os::transmit(socket, message)),
-            Association::Sctp(association) => {
-                association.send(message, stream(message), m2ua::sys::PPID)
-            }
+            Association::Kernel(a) => a.send(message, stream(a.streams()), ppid),
+            Association::Sctp(a) => a.send(message, stream(a.streams()), ppid),
         }
     }
 
-    /// Sends some messages, each whole, as far as there is room: how many, and what became of the next one. There is one at least.
+    /// Sends some messages, each whole, as far as there is room: how many, and what became of the next one.
+    /// There is one at least.
     pub fn send_all<'a>(&self, mut messages: impl Iterator<Item = &'a [u8]>) -> (usize, Sent) {
         if let Association::Packets(socket) = self {
             return match os::transmit_all(socket, messages) {
@@ -164,14 +244,21 @@ impl Association {
     pub fn close(self, now: bool) {
         match self {
             Association::Packets(socket) => drop(socket),
+            Association::Kernel(association) => association.close(now),
             Association::Sctp(association) => association.close(now),
         }
+    }
+
+    /// Whether it has a descriptor of its own, which tells what it is ready for.
+    pub fn is_watched(&self) -> bool {
+        !matches!(self, Association::Sctp(_))
     }
 
     /// The name of the transport.
     pub fn transport(&self) -> &'static str {
         match self {
             Association::Packets(_) => "unix",
+            Association::Kernel(_) => "kernel's sctp",
             Association::Sctp(_) => "sctp",
         }
     }
@@ -182,17 +269,20 @@ impl AsRawFd for Association {
     fn as_raw_fd(&self) -> RawFd {
         match self {
             Association::Packets(socket) => socket.as_raw_fd(),
+            Association::Kernel(association) => association.as_raw_fd(),
             Association::Sctp(association) => association.as_raw_fd(),
         }
     }
 }
 
-fn sent(result: Result<()>) -> Sent {
+/// What a call that sends answers.
+pub(crate) fn sent(result: Result<()>) -> Sent {
     match result {
         Ok(()) => Sent::Done,
         Err(e) if matches!(e.kind(), ErrorKind::WouldBlock | ErrorKind::Interrupted) => Sent::Later,
         // the kernel is short of memory for the moment
         Err(e) if e.raw_os_error() == Some(105) => Sent::Later,
+        Err(e) if e.kind() == ErrorKind::ConnectionReset => Sent::Reset,
         Err(_) => Sent::Ended,
     }
 }

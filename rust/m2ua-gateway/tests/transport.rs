@@ -1,17 +1,23 @@
 //! Unix sockets as associations, and a peer's queue over one.
+use m2ua_gateway::beats::Beats;
 use m2ua_gateway::os;
 use m2ua_gateway::peer::{Fate, Peer};
+use m2ua_gateway::queue::Mark;
 use m2ua_gateway::transport::{Association, Batch, Received, BURST, READ};
 use m2ua_trace::capture::stream;
 use std::os::fd::OwnedFd;
 use std::path::PathBuf;
 use std::time::Instant;
 
+fn mark(origin: usize) -> Mark {
+    Mark { origin, unit: None }
+}
+
 /// Both ends of an association, over a socket of its own.
 fn pair(name: &str) -> (Association, OwnedFd) {
     let path: PathBuf = std::env::temp_dir().join(format!("m2ua-{}-{name}", std::process::id()));
     let _ = std::fs::remove_file(&path);
-    let listener = os::seqpacket_listen(&path).unwrap();
+    let listener = os::seqpacket_listen(&path, false).unwrap();
     let there = os::seqpacket_connect(&path).unwrap();
     let here = os::accept(&listener).unwrap();
     std::fs::remove_file(&path).unwrap();
@@ -80,14 +86,14 @@ fn so_much_at_a_time() {
 #[test]
 fn a_queue_is_bounded_and_nothing_is_lost() {
     let (association, there) = pair("queue");
-    let mut peer = Peer::new("p", "asp-p".into(), 65536, 3);
-    assert_eq!(peer.send(b"early", 0, Instant::now()), Fate::Absent);
+    let mut peer = Peer::new("p", "asp-p".into(), 65536, 3, Beats::new(None));
+    assert_eq!(peer.send(b"early", mark(0), Instant::now()), Fate::Absent);
     peer.begin(association, Instant::now());
     let mut taken = 0u32;
     let fate = loop {
         let mut message = [0; 200];
         message[..4].copy_from_slice(&taken.to_be_bytes());
-        match peer.send(&message, taken as usize % 3, Instant::now()) {
+        match peer.send(&message, mark(taken as usize % 3), Instant::now()) {
             Fate::Taken => taken += 1,
             other => break other,
         }
@@ -124,7 +130,7 @@ fn a_queue_is_bounded_and_nothing_is_lost() {
     assert_eq!((peer.waiting(), peer.share(0)), ((0, 0), 0));
     // what waits when the association ends is dropped, and counted
     while peer.waiting().1 < 5 {
-        peer.send(&[1; 200], 0, Instant::now());
+        peer.send(&[1; 200], mark(0), Instant::now());
     }
     let dropped = peer.end().1;
     let counts = peer.counts;

@@ -9,9 +9,9 @@ usage: m2ua-plan compile TEXT [-o FILE]   a plan file from text
        m2ua-plan show FILE                a plan, as text or compiled, as canonical text
 FILE - is standard input. Exit status: 0 right, 1 the plan is refused, 2 wrong usage, or a file cannot be read or written.
 
-asp NAME id NUMBER [whole-lists] [from ADDRESS[:PORT]]
+asp NAME id NUMBER [whole-lists] [from ADDRESS[:PORT] ..]
                                           an ASP and its identifier; its lists of links are taken all or none; where its SCTP
-                                          association comes from, for m2ua-gateway
+                                          association comes from, for m2ua-gateway: each address that it has
 as NAME mode MODE [members ASP ..]        an AS: override, load-share or broadcast
 link ID[-ID] as NAME [high-speed]         links by interface identifier, and the AS that owns them
 # ..                                      a comment";

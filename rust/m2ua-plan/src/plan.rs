@@ -10,8 +10,9 @@ pub struct Asp {
     pub id: u32,
     /// Identifiers that it lists are taken all or none; else part of a list may succeed.
     pub whole_lists: bool,
-    /// Where its SCTP association comes from. A plan file has no place for it: it is for the host that reads the text, such as m2ua-gateway.
-    pub from: Option<Origin>,
+    /// Where its SCTP association comes from: each address that it may have. A plan file has no place for it: it is for the
+    /// host that reads the text, such as m2ua-gateway.
+    pub from: Vec<Origin>,
 }
 
 /// An address, and a port where that matters.
@@ -101,7 +102,7 @@ impl Plan {
                     name: format!("asp{p}"),
                     id: g.asp_id(p).unwrap_or_default(),
                     whole_lists: g.takes_whole_lists(p),
-                    from: None,
+                    from: Vec::new(),
                 })
                 .collect(),
             ases: (0..g.ases())
@@ -176,8 +177,9 @@ impl fmt::Display for Plan {
         for asp in &self.asps {
             let lists = if asp.whole_lists { " whole-lists" } else { "" };
             write!(f, "asp {} id {}{lists}", asp.name, asp.id)?;
-            if let Some(from) = asp.from {
-                write!(f, " from {from}")?;
+            if !asp.from.is_empty() {
+                f.write_str(" from")?;
+                asp.from.iter().try_for_each(|from| write!(f, " {from}"))?;
             }
             writeln!(f)?;
         }

@@ -209,15 +209,24 @@ fn mode_of(s: &Statement<'_>) -> Result<TrafficMode, Problem> {
     }
 }
 
-fn from_of(s: &Statement<'_>) -> Result<Option<Origin>, Problem> {
-    if s.option("from").is_none() {
-        return Ok(None);
+fn from_of(s: &Statement<'_>) -> Result<Vec<Origin>, Problem> {
+    let Some(words) = s.option("from") else {
+        return Ok(Vec::new());
+    };
+    if words.is_empty() {
+        return Err(s.problem("'from' takes addresses, each as ADDRESS or ADDRESS:PORT"));
     }
-    let word = s.single("from", "an address, or ADDRESS:PORT")?;
-    match Origin::parse(word) {
-        Some(from) => Ok(Some(from)),
-        None => Err(s.problem(format!("from '{word}' is no address, and no ADDRESS:PORT"))),
+    let mut found: Vec<Origin> = Vec::new();
+    for word in words {
+        let Some(from) = Origin::parse(word) else {
+            return Err(s.problem(format!("from '{word}' is no address, and no ADDRESS:PORT")));
+        };
+        if found.iter().any(|before| before.meets(&from)) {
+            return Err(s.problem(format!("from '{word}' is given twice")));
+        }
+        found.push(from);
     }
+    Ok(found)
 }
 
 fn range_of(s: &Statement<'_>) -> Result<(u32, u32), Problem> {
@@ -295,7 +304,7 @@ struct Said {
 struct SaidAsp {
     id: u32,
     whole_lists: bool,
-    from: Option<Origin>,
+    from: Vec<Origin>,
 }
 
 /// A line of links, both ends, with the name of their owner.
@@ -375,10 +384,13 @@ fn asps_of(said: &Said, problems: &mut Vec<Problem>) -> Vec<Asp> {
         }
     }
     for (i, (name, line, asp)) in said.asps.rows.iter().enumerate() {
-        let meets = |before: &SaidAsp| Some(before.from?.meets(&asp.from?));
+        let meets = |before: &SaidAsp| {
+            let met = |one: &Origin| asp.from.iter().any(|other| one.meets(other));
+            before.from.iter().any(met)
+        };
         if let Some((other, at, _)) = said.asps.rows[..i]
             .iter()
-            .find(|(_, _, before)| meets(before) == Some(true))
+            .find(|(_, _, before)| meets(before))
         {
             problems.push(Problem::new(
                 *line,
@@ -394,7 +406,7 @@ fn asps_of(said: &Said, problems: &mut Vec<Problem>) -> Vec<Asp> {
             name: name.clone(),
             id: asp.id,
             whole_lists: asp.whole_lists,
-            from: asp.from,
+            from: asp.from.clone(),
         })
         .collect()
 }

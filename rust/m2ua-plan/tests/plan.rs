@@ -310,19 +310,24 @@ fn problems(text: &str) -> Vec<String> {
 
 #[test]
 fn where_an_asp_comes_from() {
-    let text = "asp a id 1 from 192.0.2.1\nasp b id 2 whole-lists from 192.0.2.2:2905\nasp c from [2001:db8::1]:7 id 3\nasp d id 4\nas x mode override members a\n";
+    let text = "asp a id 1 from 192.0.2.1\nasp b id 2 whole-lists from 192.0.2.2:2905\nasp c from [2001:db8::1]:7 198.51.100.3:7 id 3\nasp d id 4\nas x mode override members a\n";
     let plan = parse(text).unwrap();
     let shown: Vec<String> = plan
         .asps
         .iter()
-        .map(|a| a.from.map_or(String::new(), |f| f.to_string()))
+        .map(|a| {
+            let words: Vec<String> = a.from.iter().map(|f| f.to_string()).collect();
+            words.join(" ")
+        })
         .collect();
-    assert_eq!(
-        shown,
-        ["192.0.2.1", "192.0.2.2:2905", "[2001:db8::1]:7", ""]
-    );
-    let is = |p: usize, peer: &str| plan.asps[p].from.unwrap().is(peer.parse().unwrap());
+    let both = "[2001:db8::1]:7 198.51.100.3:7";
+    assert_eq!(shown, ["192.0.2.1", "192.0.2.2:2905", both, ""]);
+    let is = |p: usize, peer: &str| {
+        let from = &plan.asps[p].from;
+        from.iter().any(|from| from.is(peer.parse().unwrap()))
+    };
     assert!(is(0, "192.0.2.1:9") && is(1, "192.0.2.2:2905") && is(2, "[2001:db8::1]:7"));
+    assert!(is(2, "198.51.100.3:7") && !is(2, "198.51.100.3:8") && !is(3, "192.0.2.1:9"));
     assert!(!is(0, "192.0.2.2:9") && !is(1, "192.0.2.2:2906") && !is(2, "[2001:db8::2]:7"));
     // canonical text has it, and a file has no place for it
     assert_eq!(parse(&plan.to_string()).unwrap(), plan);
@@ -381,7 +386,7 @@ fn a_refused_text_names_line_row_and_reason() {
     );
     assert_eq!(
         with("asp b id 1 from"),
-        ["line 3: asp b: 'from' takes one word: an address, or ADDRESS:PORT"]
+        ["line 3: asp b: 'from' takes addresses, each as ADDRESS or ADDRESS:PORT"]
     );
     assert_eq!(
         with("asp b id 1 from here"),
@@ -392,7 +397,11 @@ fn a_refused_text_names_line_row_and_reason() {
         ["line 3: asp b: from '192.0.2.1:0' is no address, and no ADDRESS:PORT"]
     );
     assert_eq!(
-        with("asp b id 1 from 192.0.2.1\nasp c id 2 from 192.0.2.1:5"),
+        with("asp b id 1 from 192.0.2.1 192.0.2.2 192.0.2.1:7"),
+        ["line 3: asp b: from '192.0.2.1:7' is given twice"]
+    );
+    assert_eq!(
+        with("asp b id 1 from 192.0.2.9 192.0.2.1\nasp c id 2 from 192.0.2.1:5"),
         ["line 4: asp c: it could not be told from asp b (line 3) by where it comes from"]
     );
     assert_eq!(

@@ -1,21 +1,14 @@
 //! m2ua-gateway: the M2UA side of a signalling gateway as a daemon.
 #![forbid(unsafe_code)]
-use m2ua_gateway::options::{Options, USAGE};
+use m2ua_gateway::options::{asked, Options, USAGE};
 use m2ua_gateway::start;
 use std::process::ExitCode;
 
 fn main() -> ExitCode {
     let words: Vec<String> = std::env::args().skip(1).collect();
-    match words.iter().map(String::as_str).collect::<Vec<_>>()[..] {
-        ["--help" | "-h"] => {
-            println!("{USAGE}");
-            return ExitCode::SUCCESS;
-        }
-        ["--version"] => {
-            println!("m2ua-gateway {}", env!("CARGO_PKG_VERSION"));
-            return ExitCode::SUCCESS;
-        }
-        _ => {}
+    if let Some(text) = asked(&words, "m2ua-gateway", USAGE) {
+        println!("{text}");
+        return ExitCode::SUCCESS;
     }
     let options = match Options::parse(&words) {
         Ok(options) => options,
