@@ -1,9 +1,9 @@
 // Reads scripts from standard input and writes the answers.
 use libc::STDIN_FILENO;
 use libc::STDOUT_FILENO;
-use session::State;
-use text::collect;
-use text::first;
+use tool_session::State;
+use tool_text::collect;
+use tool_text::first;
 ghost use mathlib.Core.Path.{_≡_};
 ghost use Prim.Native.Nat.{_≤_};
 ghost use Rattle.replay.specs.Inner.Sound.{Sound};
@@ -34,7 +34,7 @@ fn flush(out: &[u8; 65536], s: State) -> State
         return s;
     }
     write_out(out, used);
-    session::at(s, 0)
+    tool_session::at(s, 0)
 }
 
 // A block of the input: the lines that end in it are answered, and what follows the last of them is held.
@@ -58,7 +58,7 @@ fn take_block(
         if end == block.len() {
             return session_of(held, state);
         }
-        let answered = session::run(first(line, held), bytes, hold, out, state);
+        let answered = tool_session::run(first(line, held), bytes, hold, out, state);
         t = session_of(0, flush(out, answered));
         at = end + 1;
     }
@@ -101,7 +101,7 @@ fn main() {
         &mut bytes,
         &mut hold,
         &mut out,
-        session_of(0, session::start()),
+        session_of(0, tool_session::start()),
     );
     write_out(&out, t.used);
 }

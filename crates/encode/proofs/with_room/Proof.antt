@@ -1,8 +1,0 @@
-use Rattle.encode.specs.Inner.Write.{roomCode}
-use Rattle.laws.specs.Inner.Choice.{choices}
-use Rattle.encode.proofs.with_room.Statement.{statement}
-use Rattle.encode.proofs.with_room.Tie as tie
-
-pub with-room-spec : {M : Type 1} → statement M
-unfolding roomCode
-with-room-spec = tie.close (tie.spec (λ c. search choices depth 9) (λ c. search choices depth 9) (λ c. search choices depth 9))

@@ -1,0 +1,12 @@
+use Rattle.rules_event.specs.Inner.Decision.{effectIn, firstActions}
+use borrow.Author.Needs.{needs}
+use mathlib.Core.Path.{refl}
+use Rattle.event_decision.proofs.change_two.Statement.{statement}
+use Rattle.event_decision.proofs.change_two.Tie as tie
+
+returns : tie.Need-returns
+unfolding effectIn firstActions
+returns c = record { is = refl; few = search needs; asp = search needs; place = search needs }
+
+pub change-two-spec : {M : Type 1} → statement M
+change-two-spec = tie.close (tie.spec returns)

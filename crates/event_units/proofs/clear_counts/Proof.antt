@@ -1,0 +1,28 @@
+-- `event_units::clear_counts`: the ASes passed. Assumes nothing.
+use Prim.Native.Nat.{_≤_, _-_}
+use native.Mathlib.Omega.{arith}
+use borrow.Author.Needs.{needs}
+use Rattle.event_units.specs.Inner.Rows.{Rows, rows-end, rows-none, rows-place}
+use Rattle.event_units.proofs.clear_counts.Statement.{statement}
+use Rattle.event_units.proofs.clear_counts.Tie as tie
+
+abbrev Inv-loop : tie.InvT-loop
+Inv-loop c₀ go a₀ c a = Rows go (λ i. i) a c₀ c × (a ≤ 16)
+
+abbrev μ-loop : tie.MeasureT-loop
+μ-loop c₀ go a₀ c a = 16 - a
+
+loop-holds : tie.Need-loop-holds Inv-loop μ-loop
+loop-holds c = (rows-none, omega arith)
+
+loop-again : tie.Need-loop-again Inv-loop μ-loop
+loop-again c = (rows-place (c .before .before .before .loop .inv .0) (c .unless .ensures), search needs)
+
+returns : tie.Need-returns Inv-loop μ-loop
+returns c = rows-end (c .before .loop .inv .0) (search needs) (c .loop-test .left)
+
+pub clear-counts-spec : {M : Type 1} → statement M
+clear-counts-spec =
+    tie.close
+    (tie.spec Inv-loop μ-loop loop-holds (search needs) (search needs) (search needs) (search needs) (search needs)
+    (search needs) loop-again returns)

@@ -1,8 +1,0 @@
--- An event on the state where it lies: what is handed back, with the columns as they are left, is an outcome.
--- Assumes nothing.
-use Rattle.gateway.specs.declared.Gateway.{Gateway}
-use Rattle.rules.specs.declared.Outcome.{Outcome}
-use Rattle.events.specs.declared.Done.{Done}
-
-abbrev pub outcomeOf : Done → Gateway → Outcome
-outcomeOf r g = record { refusal = r .refusal; count = r .count; gateway = g }

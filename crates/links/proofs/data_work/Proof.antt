@@ -1,7 +1,0 @@
-use Rattle.links.specs.Inner.Six.{data-tree}
-use borrow.Author.Needs.{needs}
-use Rattle.links.proofs.data_work.Statement.{statement}
-use Rattle.links.proofs.data_work.Tie as tie
-
-pub data-work-spec : {M : Type 1} → statement M
-data-work-spec = tie.close (tie.spec (λ c κs. search needs) (λ c. rw (data-tree _ _ _ _) at (c .data-tree .ensures)))

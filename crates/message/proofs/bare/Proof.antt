@@ -1,9 +1,0 @@
-use Rattle.message.specs.Verdict.{has, number}
-use Rattle.message.specs.Meaning.{meaning}
-use borrow.Author.Needs.{needs}
-use Rattle.message.proofs.bare.Statement.{statement}
-use Rattle.message.proofs.bare.Tie as tie
-
-pub bare-spec : {M : Type 1} → statement M
-unfolding meaning has number
-bare-spec = tie.close (tie.spec (search needs) (λ c. rw (c .refused .ensures)))

@@ -1,8 +1,0 @@
-use Rattle.parameter.specs.Inner.Slot.{slot}
-use borrow.Author.Needs.{needs}
-use Rattle.message.proofs.finish.Statement.{statement}
-use Rattle.message.proofs.finish.Tie as tie
-
-pub finish-spec : {M : Type 1} → statement M
-unfolding slot
-finish-spec = tie.close (tie.spec (search needs) (search needs) (search needs) (search needs) (λ c. cc))

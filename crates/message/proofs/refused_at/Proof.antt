@@ -1,6 +1,0 @@
-use borrow.Author.Needs.{needs}
-use Rattle.message.proofs.refused_at.Statement.{statement}
-use Rattle.message.proofs.refused_at.Tie as tie
-
-pub refused-at-spec : {M : Type 1} → statement M
-refused-at-spec = tie.close (tie.spec (search needs) (search needs) (search needs) (λ c. cc))

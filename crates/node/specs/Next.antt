@@ -1,7 +1,0 @@
--- What a method hands back, as an outcome of the rules.
--- Assumes nothing.
-use Rattle.rules.specs.declared.Outcome.{Outcome}
-use Rattle.node.specs.declared.Next.{Next}
-
-abbrev pub outcomeOf : Next → Outcome
-outcomeOf r = record { refusal = r .refusal; count = r .count; gateway = r .node .gateway }

@@ -1,8 +1,0 @@
-use Rattle.parameter.specs.Inner.Slot.{allAsked}
-use borrow.Author.Needs.{needs}
-use Rattle.parameter.proofs.musts_met.Statement.{statement}
-use Rattle.parameter.proofs.musts_met.Tie as tie
-
-pub musts-met-spec : {M : Type 1} → statement M
-unfolding allAsked
-musts-met-spec = tie.close (tie.spec (search needs) (search needs) (search needs) (λ c. cc))

@@ -1,6 +1,0 @@
-use borrow.Author.Needs.{needs}
-use Rattle.parameter.proofs.plain_of.Statement.{statement}
-use Rattle.parameter.proofs.plain_of.Tie as tie
-
-pub plain-of-spec : {M : Type 1} → statement M
-plain-of-spec = tie.close (tie.spec (search needs) (search needs) (λ c. cc))

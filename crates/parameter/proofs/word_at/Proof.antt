@@ -1,6 +1,0 @@
-use borrow.Author.Needs.{needs}
-use Rattle.parameter.proofs.word_at.Statement.{statement}
-use Rattle.parameter.proofs.word_at.Tie as tie
-
-pub word-at-spec : {M : Type 1} → statement M
-word-at-spec = tie.close (tie.spec (search needs) (search needs) (λ c. cc))

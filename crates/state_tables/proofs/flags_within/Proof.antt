@@ -1,0 +1,33 @@
+-- `state_tables::flags_within`: the flags passed are in order. Assumes nothing.
+use Prim.Native.Nat.{_≤_, _-_}
+use mathlib.Core.Path.{_≡_, sym}
+use native.Mathlib.Omega.{arith}
+use borrow.Author.Needs.{needs}
+use Rattle.state_tables.specs.Sound.{flagWithin}
+use Rattle.state_tables.specs.Inner.Limits.{places, place-at, flag-limit}
+use Rattle.laws.specs.Below.{allBelow}
+use Rattle.laws.specs.Inner.Below.{all-none, all-more, at-end}
+use Rattle.state_tables.proofs.flags_within.Statement.{statement}
+use Rattle.state_tables.proofs.flags_within.Tie as tie
+
+abbrev Inv-loop : tie.InvT-loop
+Inv-loop place c n end ok₀ i₀ ok i = (ok ≡ allBelow (flagWithin c n) i) × (i ≤ end) × (place ≡ places)
+
+abbrev μ-loop : tie.MeasureT-loop
+μ-loop place c n end ok₀ i₀ ok i = end - i
+
+loop-holds : tie.Need-loop-holds Inv-loop μ-loop
+loop-holds c = (sym (all-none _), search needs, search needs)
+
+loop-again : tie.Need-loop-again Inv-loop μ-loop
+unfolding flagWithin
+loop-again c = (rw all-more (rw (c .before .before .before .before .loop .inv .0, c .limit .ensures, c .before .before .before .before .loop .inv .2, place-at (c .before .before .before .before .loop .i) (omega arith), flag-limit)), search needs, search needs)
+
+returns : tie.Need-returns Inv-loop μ-loop
+returns c = at-end (allBelow _) (c .before .loop .inv .0) (c .loop-test .left) (c .before .loop .inv .1)
+
+pub flags-within-spec : {M : Type 1} → statement M
+flags-within-spec =
+    tie.close
+    (tie.spec Inv-loop μ-loop loop-holds (search needs) (search needs) (search needs) (search needs) (search needs) loop-again
+    returns)
