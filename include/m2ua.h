@@ -1,5 +1,5 @@
 /* The M2UA side (RFC 3331) of a signalling gateway, for hosts in C and C++. What it does is in docs/RULES.md, to which "Rule" refers; docs/HOST.md is the
- * guide for hosts, m2ua(3) the short one. Link libm2ua.a or -lm2ua (tools/install). tools/header-check compares this file with the proved sources.
+ * guide for hosts, m2ua(3) the short one. Link libm2ua.a or -lm2ua (tools/build/install). tools/check/header-check compares this file with the proved sources.
  *
  * It needs C11 or C++11, and a 64-bit x86 machine, for which the library is compiled.
  *
@@ -64,7 +64,7 @@ enum {
     M2UA_HOLD_PLACE = 273,   /* bytes of a place in the hold */
     M2UA_HOLD_BYTES = 34944, /* bytes of the hold */
     M2UA_ROOM_BYTES = 790528, /* bytes that all messages of an event go into, whatever it is */
-    M2UA_STACK = 32768       /* bytes of stack that a call takes at most (tools/stack) */
+    M2UA_STACK = 32768       /* bytes of stack that a call takes at most (tools/check/stack) */
 };
 
 /* The largest sequence number (0x307): of a high-speed link, which is the largest that reads, and of a plain one (Rule 5.23). */
@@ -601,7 +601,7 @@ static inline m2ua_batch m2ua_orders(const m2ua_gateway *g, uint32_t kind, size_
 
 /* ---- Layout ---- */
 
-/* The structs as the library was compiled for: size, and where each field starts. tools/header-check writes these lines anew (--write). */
+/* The structs as the library was compiled for: size, and where each field starts. tools/check/header-check writes these lines anew (--write). */
 M2UA_STATIC_ASSERT(sizeof(m2ua_answer) == 8, "m2ua_answer");
 M2UA_STATIC_ASSERT(offsetof(m2ua_answer, code) == 0, "m2ua_answer.code");
 M2UA_STATIC_ASSERT(offsetof(m2ua_answer, value) == 4, "m2ua_answer.value");

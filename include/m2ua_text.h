@@ -1,5 +1,5 @@
 /* Orders, messages and refusals in words, for logs and traces. Plain C over m2ua.h, and no part of the library; the words are those of the Rust crate, with which
- * tools/hosts compares them. */
+ * tools/try/hosts compares them. */
 #ifndef M2UA_TEXT_H
 #define M2UA_TEXT_H
 #include <stdio.h>

@@ -1,6 +1,6 @@
 /* A small host: it loads a plan, lets two ASPs take turns, a link come up, units go both ways, an ASP fetch what a high-speed link has not sent, a list of links succeed in part, an association
  * break, units wait until the other ASP takes over, and the recovery time run out. What a host sends, which units wait, and which timers it starts, is printed.
- * (rust/m2ua/examples/scenario.rs is the same in Rust; tools/hosts compares what both print.)
+ * (rust/m2ua/examples/scenario.rs is the same in Rust; tools/try/hosts compares what both print.)
  * Usage: scenario PLAN, with examples/plans/high-speed.txt compiled; or scenario words. */
 #include <stdlib.h>
 #include <string.h>

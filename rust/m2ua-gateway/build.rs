@@ -1,4 +1,4 @@
-//! SCTP by Debian's libusrsctp, where it is installed (tools/setup): src/sctp.c is compiled and the flag `sctp` is set. Without it the programs have Unix sockets alone.
+//! SCTP by Debian's libusrsctp, where it is installed (tools/build/setup): src/sctp.c is compiled and the flag `sctp` is set. Without it the programs have Unix sockets alone.
 use std::path::Path;
 use std::process::Command;
 
@@ -9,7 +9,7 @@ fn main() {
     println!("cargo:rerun-if-changed=src/sctp.c");
     println!("cargo:rerun-if-changed={HEADER}");
     if !Path::new(HEADER).exists() {
-        println!("cargo:warning=without SCTP: {HEADER} is not there (tools/setup installs it)");
+        println!("cargo:warning=without SCTP: {HEADER} is not there (tools/build/setup installs it)");
         return;
     }
     let out = std::env::var("OUT_DIR").expect("cargo sets OUT_DIR");

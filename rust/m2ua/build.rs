@@ -1,4 +1,4 @@
-//! Finds libm2ua.a: in M2UA_LIB_DIR, where tools/library puts it in this repository, or where pkg-config knows of m2ua.
+//! Finds libm2ua.a: in M2UA_LIB_DIR, where tools/build/library puts it in this repository, or where pkg-config knows of m2ua.
 use std::path::{Path, PathBuf};
 use std::process::Command;
 
@@ -21,7 +21,7 @@ fn found() -> PathBuf {
     let repository = Path::new(env!("CARGO_MANIFEST_DIR")).join("../../target/lib");
     has_archive(&repository)
         .or_else(|| has_archive(&installed()?))
-        .unwrap_or_else(|| panic!("libm2ua.a is not there: run tools/library, or set M2UA_LIB_DIR or PKG_CONFIG_PATH to where tools/install has put it"))
+        .unwrap_or_else(|| panic!("libm2ua.a is not there: run tools/build/library, or set M2UA_LIB_DIR or PKG_CONFIG_PATH to where tools/build/install has put it"))
 }
 
 fn has_archive(dir: &Path) -> Option<PathBuf> {

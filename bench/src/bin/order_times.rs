@@ -1,6 +1,6 @@
 //! Times actions as bytes, of the proved library against the hand-written second program, both in this one run: one action and many of an event that is
 //! not kept, where the state is only read; and an event on the state where it lies with all its bytes, by one call. Each call is first checked to give the
-//! same on both sides: result, state, words, lengths and all bytes. A star as in event_times. With an older library linked (tools/bench --old) the one
+//! same on both sides: result, state, words, lengths and all bytes. A star as in event_times. With an older library linked (tools/measure/bench --old) the one
 //! call is timed against that one's two calls too, and a Beat alone.
 use bench::holds::{full_hold, held_on_plan_s};
 use bench::lines::{Call, What};

@@ -117,7 +117,7 @@ impl Stack {
     pub fn start(at: SocketAddr, udp_port: Option<u16>, terms: Terms) -> Result<Stack> {
         if !cfg!(sctp) {
             return Err(Error::other(
-                "compiled without SCTP: libusrsctp was not installed (tools/setup)",
+                "compiled without SCTP: libusrsctp was not installed (tools/build/setup)",
             ));
         }
         match udp_port {

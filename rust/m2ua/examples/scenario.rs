@@ -1,6 +1,6 @@
 //! A small host: it loads a plan, lets two ASPs take turns, a link come up, units go both ways, an ASP fetch what a high-speed link has not sent, a list of links succeed in part,
 //! an association break, units wait until the other ASP takes over, and the recovery time run out. What a host sends, which units wait, and which timers it starts, is printed.
-//! (examples/c/scenario.c is the same in C; tools/hosts compares what both print.)
+//! (examples/c/scenario.c is the same in C; tools/try/hosts compares what both print.)
 //! Usage: scenario PLAN, with examples/plans/high-speed.txt compiled; or scenario words.
 use m2ua::{
     parameter, protocol_data, read, sys, write, Addressee, Event, Gateway, Hold, MessageType,

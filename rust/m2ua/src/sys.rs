@@ -1,4 +1,4 @@
-//! The library's entries, structs and numbers as include/m2ua.h has them, with that file's names without `m2ua_` and `M2UA_`. tools/header-check compares them with the
+//! The library's entries, structs and numbers as include/m2ua.h has them, with that file's names without `m2ua_` and `M2UA_`. tools/check/header-check compares them with the
 //! proved sources. The one module with `unsafe`: each call lends whole slices, and the entries promise an answer to every value.
 #![allow(unsafe_code)]
 use std::mem::{offset_of, size_of};
@@ -639,7 +639,7 @@ pub fn orders(
     )
 }
 
-// The structs as the library was compiled for. tools/header-check writes these lines anew (--write).
+// The structs as the library was compiled for. tools/check/header-check writes these lines anew (--write).
 const _: () = assert!(size_of::<Answer>() == 8);
 const _: () = assert!(offset_of!(Answer, code) == 0);
 const _: () = assert!(offset_of!(Answer, value) == 4);
