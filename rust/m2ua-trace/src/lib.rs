@@ -2,6 +2,7 @@
 #![forbid(unsafe_code)]
 pub mod capture;
 pub mod chart;
+pub mod names;
 pub mod script;
 pub mod svg;
 pub mod trace;

@@ -1,6 +1,6 @@
 //! m2ua-trace: a script of the gateway as a capture file or a message sequence chart.
 #![forbid(unsafe_code)]
-use m2ua_trace::{capture, chart, script, svg, trace};
+use m2ua_trace::{capture, chart, names::Names, script, svg, trace};
 use std::io::Write;
 use std::process::ExitCode;
 
@@ -8,13 +8,14 @@ const USAGE: &str = "\
 usage: m2ua-trace capture SCRIPT OUT.pcap   what goes over the associations, for Wireshark
        m2ua-trace chart SCRIPT              who sends what to whom, as text
        m2ua-trace svg SCRIPT                the same as a picture
-SCRIPT is a script of docs/SCRIPT.md, or a file of samples with '> ' before each command.";
+SCRIPT is a script of docs/SCRIPT.md, or a file of samples with '> ' before each command. Its comments
+'# title: TEXT', '# asps: NAME ..' and '# ases: NAME ..' are for charts.";
 
-fn traced(path: &str) -> Result<trace::Trace, String> {
+fn traced(path: &str) -> Result<(trace::Trace, Names), String> {
     let bytes = std::fs::read(path).map_err(|e| format!("{path}: {e}"))?;
     let source = String::from_utf8(bytes).map_err(|_| format!("{path}: no text"))?;
     let commands = script::parse(&source).map_err(|why| format!("{path}: {why}"))?;
-    Ok(trace::run(&commands))
+    Ok((trace::run(&commands), Names::of(&source)))
 }
 
 fn run(words: &[&str]) -> Result<(), String> {
@@ -25,10 +26,12 @@ fn run(words: &[&str]) -> Result<(), String> {
     };
     match *words {
         ["capture", path, out] => {
-            std::fs::write(out, capture::pcap(&traced(path)?)).map_err(|e| format!("{out}: {e}"))
+            std::fs::write(out, capture::pcap(&traced(path)?.0)).map_err(|e| format!("{out}: {e}"))
         }
-        ["chart", path] => put(chart::text(&traced(path)?)),
-        ["svg", path] => put(svg::picture(&traced(path)?)),
+        ["chart", path] => {
+            traced(path).and_then(|(trace, names)| put(chart::named(&trace, &names)))
+        }
+        ["svg", path] => traced(path).and_then(|(trace, names)| put(svg::named(&trace, &names))),
         _ => Err(USAGE.to_string()),
     }
 }
