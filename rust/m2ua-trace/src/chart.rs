@@ -1,4 +1,5 @@
-//! A message sequence chart as text: a lane for each who takes part, an arrow to a line, its words at the right.
+//! A message sequence chart as text: a lane for each who takes part, an arrow to a line, its words at the
+//! right.
 use crate::names::Names;
 use crate::trace::{Lane, Step, Trace, What};
 
