@@ -78,7 +78,7 @@ fn hex(word: &str) -> Option<Vec<u8>> {
     if word == "-" {
         return Some(vec![]);
     }
-    if word.len() % 2 != 0 {
+    if !word.len().is_multiple_of(2) {
         return None;
     }
     (0..word.len() / 2)

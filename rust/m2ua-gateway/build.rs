@@ -9,7 +9,9 @@ fn main() {
     println!("cargo:rerun-if-changed=src/sctp.c");
     println!("cargo:rerun-if-changed={HEADER}");
     if !Path::new(HEADER).exists() {
-        println!("cargo:warning=without SCTP: {HEADER} is not there (tools/build/setup installs it)");
+        println!(
+            "cargo:warning=without SCTP: {HEADER} is not there (tools/build/setup installs it)"
+        );
         return;
     }
     let out = std::env::var("OUT_DIR").expect("cargo sets OUT_DIR");

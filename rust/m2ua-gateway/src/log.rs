@@ -141,7 +141,9 @@ impl std::fmt::Display for Stamp {
 
 /// The date of a day, counted from 1970-01-01: years of 365 or 366 days, then months.
 fn date(mut day: u64) -> (u64, u64, u64) {
-    let leap = |year: u64| (year % 4 == 0 && year % 100 != 0) || year % 400 == 0;
+    let leap = |year: u64| {
+        (year.is_multiple_of(4) && !year.is_multiple_of(100)) || year.is_multiple_of(400)
+    };
     let mut year = 1970;
     while day >= 365 + u64::from(leap(year)) {
         day -= 365 + u64::from(leap(year));

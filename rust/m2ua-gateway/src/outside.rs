@@ -190,7 +190,7 @@ impl Outside {
         match order.to {
             Addressee::Asp(p) => self.send(p, message, self.mark(order, p)),
             Addressee::LinkSide => match links::message_of(order, event) {
-                Ok(message) => self.to_links(order, &message, event, g),
+                Ok(message) => self.carry_to_links(order, &message, event, g),
                 Err(no) => self.log.line(
                     Level::Faults,
                     format_args!("links: {order} cannot be written: {no}"),
@@ -236,7 +236,7 @@ impl Outside {
         }
     }
 
-    fn to_links(&mut self, order: &Order, message: &[u8], event: &Event<'_>, g: &Gateway) {
+    fn carry_to_links(&mut self, order: &Order, message: &[u8], event: &Event<'_>, g: &Gateway) {
         let side = self.link_side();
         if self.links == Links::Loop {
             self.captured(End::LinkSide, true, message);
