@@ -1,4 +1,5 @@
-//! M2UA_OLD: the archive of an older version, whose entries are called old_m2ua_.. (tools/measure/bench --old). With it `cfg(old)` is set.
+//! M2UA_OLD: the archive of an older version, whose entries are called old_m2ua_.. (tools/measure/bench
+//! --old). With it `cfg(old)` is set.
 use std::path::Path;
 
 fn main() {

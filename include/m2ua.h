@@ -1,5 +1,6 @@
-/* The M2UA side (RFC 3331) of a signalling gateway, for hosts in C and C++. What it does is in docs/RULES.md, to which "Rule" refers; docs/HOST.md is the
- * guide for hosts, m2ua(3) the short one. Link libm2ua.a or -lm2ua (tools/build/install). tools/check/header-check compares this file with the proved sources.
+/* The M2UA side (RFC 3331) of a signalling gateway, for hosts in C and C++. What it does is in docs/RULES.md,
+ * to which "Rule" refers; docs/HOST.md is the guide for hosts, m2ua(3) the short one. Link libm2ua.a or
+ * -lm2ua (tools/build/install). tools/check/header-check compares this file with the proved sources.
  *
  * It needs C11 or C++11, and a 64-bit x86 machine, for which the library is compiled.
  *
@@ -12,26 +13,28 @@
  * - Stack: a call takes less than M2UA_STACK bytes, its arguments and result included.
  * - Pointers: a pointer and the count behind it lend so many elements for the time of the call; a pointer to
  *   a struct lends that struct. It is aligned for its type and not null, also where the count is 0: then lend
- *   any byte of your own. (That a null with a count of 0 is not touched was tried, and is not proved.) What is
- *   written to (the state and the hold of an event, a room, `words`, `lens`, `out`) overlaps nothing else that
- *   is lent. What is lent for reading is not changed by anybody during the call, and is never written.
- * - The hold: the bytes of the units that wait with a pending AS (Rule 5.22), M2UA_HOLD_BYTES for each gateway,
- *   zero or not at the start. The state says which units there are, the hold has their bytes, so the two are
- *   copied, stored and thrown away together. Nobody but events writes either.
+ *   any byte of your own. (That a null with a count of 0 is not touched was tried, and is not proved.) What
+ *   is written to (the state and the hold of an event, a room, `words`, `lens`, `out`) overlaps nothing else
+ *   that is lent. What is lent for reading is not changed by anybody during the call, and is never written.
+ * - The hold: the bytes of the units that wait with a pending AS (Rule 5.22), M2UA_HOLD_BYTES for each
+ *   gateway, zero or not at the start. The state says which units there are, the hold has their bytes, so the
+ *   two are copied, stored and thrown away together. Nobody but events writes either.
  * - Every value of every other argument is allowed, and answered. A refusal leaves the lent memory as it was.
- * - The functions whose names end in _at are what the library exports. They take the state as its columns, one
- *   pointer each; the columns are those of one m2ua_gateway. Call the inline functions of this file in their
- *   place: these alone list the columns.
+ * - The functions whose names end in _at are what the library exports. They take the state as its columns,
+ *   one pointer each; the columns are those of one m2ua_gateway. Call the inline functions of this file in
+ *   their place: these alone list the columns.
  * These duties are all that a host has; no call needs another call before it.
  *
- * Words: an ASP or AS is named by its number and a link by its place, all from 0 in the order of the plan's rows. An ASP's identifier, and the interface
- * identifier of a link, are numbers that the plan gives them and that messages carry. */
+ * Words: an ASP or AS is named by its number and a link by its place, all from 0 in the order of the plan's
+ * rows. An ASP's identifier, and the interface identifier of a link, are numbers that the plan gives them and
+ * that messages carry. */
 #ifndef M2UA_H
 #define M2UA_H
 #include <stddef.h>
 #include <stdint.h>
 
-/* Raised by each change of a struct, a limit or an entry that hosts must be compiled anew for; the number of the shared library's name (CHANGELOG.md). */
+/* Raised by each change of a struct, a limit or an entry that hosts must be compiled anew for; the number of
+ * the shared library's name (CHANGELOG.md). */
 #define M2UA_ABI 5
 #define M2UA_VERSION "0.6.0"
 
@@ -42,7 +45,8 @@ extern "C" {
 #define M2UA_STATIC_ASSERT(holds, what) _Static_assert(holds, what)
 #endif
 
-/* The ABI of the library that is linked: a host that may meet another one compares it with M2UA_ABI before all else. */
+/* The ABI of the library that is linked: a host that may meet another one compares it with M2UA_ABI before
+ * all else. */
 uint32_t m2ua_abi(void);
 
 /* ---- Numbers ---- */
@@ -67,7 +71,8 @@ enum {
     M2UA_STACK = 32768       /* bytes of stack that a call takes at most (tools/check/stack) */
 };
 
-/* The largest sequence number (0x307): of a high-speed link, which is the largest that reads, and of a plain one (Rule 5.23). */
+/* The largest sequence number (0x307): of a high-speed link, which is the largest that reads, and of a plain
+ * one (Rule 5.23). */
 enum { M2UA_MAX_SEQUENCE = 4095, M2UA_MAX_SEQUENCE_PLAIN = 127 };
 
 /* Where messages come from: SCTP port and payload protocol identifier of M2UA. */
@@ -90,7 +95,8 @@ enum {
     M2UA_REFUSED_ROW = 202     /* plan file: a row is wrong (Rule 4.5) */
 };
 
-/* Error codes (RFC 3331, 3.3.3.1): the reader's verdicts (Rule 2.9), and the value of an Error order (Rule 8.4). The gateway gives those with a star. */
+/* Error codes (RFC 3331, 3.3.3.1): the reader's verdicts (Rule 2.9), and the value of an Error order
+ * (Rule 8.4). The gateway gives those with a star. */
 enum {
     M2UA_ERROR_INVALID_VERSION = 1,           /* * */
     M2UA_ERROR_INVALID_INTERFACE_ID = 2,      /* * in orders alone: unknown, or of an AS without this ASP. Alone, or behind the Ack of a list that succeeds in part */
@@ -136,7 +142,8 @@ enum {
     M2UA_TYPE_DATA_ACK = 15
 };
 
-/* The second word of an order (Rule 8.1): class * 256 + type. Orders to ASPs, orders to the link side, or both. */
+/* The second word of an order (Rule 8.1): class * 256 + type. Orders to ASPs, orders to the link side, or
+ * both. */
 enum {
     M2UA_ORDER_ERROR = 0,
     M2UA_ORDER_NOTIFY = 1,
@@ -194,7 +201,8 @@ enum {
     M2UA_TAG_RETRIEVAL_RESULT = 0x308         /* 0 done, 1 not */
 };
 
-/* State of an AS (Rule 5.2): active if a member is active; else pending while it waits; else inactive if a member is up; else down. */
+/* State of an AS (Rule 5.2): active if a member is active; else pending while it waits; else inactive if a
+ * member is up; else down. */
 enum { M2UA_AS_DOWN = 0, M2UA_AS_INACTIVE = 2, M2UA_AS_ACTIVE = 3, M2UA_AS_PENDING = 4 };
 
 /* State of a link (Rule 5.1). */
@@ -222,7 +230,8 @@ enum { M2UA_RETRIEVE_BSN = 1, M2UA_RETRIEVE_MESSAGES = 2 };
 
 /* ---- Reading a message ---- */
 
-/* What reading a message gives (Rule 2.18). Of a refused message `code` is its number, and the rest 0. A number that is not given is 0. */
+/* What reading a message gives (Rule 2.18). Of a refused message `code` is its number, and the rest 0. A
+ * number that is not given is 0. */
 typedef struct {
     uint32_t code;        /* M2UA_OK, or an Error code */
     uint32_t class_;      /* M2UA_CLASS_.. */
@@ -241,7 +250,8 @@ typedef struct {
 } m2ua_reading;
 
 /* Reads a message of `len` bytes, which may be any bytes.
- * Answers: `code` 0 and what the message says, or one of 1, 3, 4, 5, 7, 8, 17, 18, 19, 22 and zeros (Rules 2.1 to 2.18). */
+ * Answers: `code` 0 and what the message says, or one of 1, 3, 4, 5, 7, 8, 17, 18, 19, 22 and zeros
+ * (Rules 2.1 to 2.18). */
 m2ua_reading m2ua_read(const uint8_t *msg, size_t len);
 
 /* Where a part of a message lies: its first byte, counted from 0, and the number of its bytes. */
@@ -250,8 +260,9 @@ typedef struct {
     size_t length;
 } m2ua_data_at;
 
-/* Where the protocol data of a message lies, the SS7 unit: the value of its first 0x300 or 0x301 (Rule 1.7). Any bytes are answered; both numbers are 0 where
- * there is none. It asks for no verdict: read the message first. */
+/* Where the protocol data of a message lies, the SS7 unit: the value of its first 0x300 or 0x301 (Rule 1.7).
+ * Any bytes are answered; both numbers are 0 where there is none. It asks for no verdict: read the message
+ * first. */
 m2ua_data_at m2ua_data(const uint8_t *msg, size_t len);
 
 /* The same with whether it is there: `found` is 1 or 0. */
@@ -261,7 +272,8 @@ typedef struct {
     size_t length;
 } m2ua_param_at;
 
-/* Where the value of the first parameter of a tag (M2UA_TAG_..) lies, without padding (Rule 1.8). Any bytes are answered; zeros where there is none. */
+/* Where the value of the first parameter of a tag (M2UA_TAG_..) lies, without padding (Rule 1.8). Any bytes
+ * are answered; zeros where there is none. */
 m2ua_param_at m2ua_parameter(const uint8_t *msg, size_t len, uint16_t tag);
 
 /* ---- Writing a message ---- */
@@ -272,18 +284,19 @@ typedef struct {
     size_t length;
 } m2ua_written;
 
-/* Writes the message of a class (M2UA_CLASS_..), a type (M2UA_TYPE_..) and a list of parameters in the order given (Rule 3.1): their tags, the length of
- * each value in bytes, and the values one behind the other. `out` has `out_bytes` bytes; M2UA_MAX_MESSAGE are always enough.
- * Answers: `code` 0 and the message's length, the message at the start of `out` and the bytes behind it unchanged; or, in this order: 7 where the two counts
- * differ or the lengths do not add up to value_bytes; the number with which m2ua_read would refuse the message; M2UA_REFUSED_BUFFER where `out` is short.
- * Refused: length 0, `out` unchanged. */
+/* Writes the message of a class (M2UA_CLASS_..), a type (M2UA_TYPE_..) and a list of parameters in the order
+ * given (Rule 3.1): their tags, the length of each value in bytes, and the values one behind the other. `out`
+ * has `out_bytes` bytes; M2UA_MAX_MESSAGE are always enough. Answers: `code` 0 and the message's length, the
+ * message at the start of `out` and the bytes behind it unchanged; or, in this order: 7 where the two counts
+ * differ or the lengths do not add up to value_bytes; the number with which m2ua_read would refuse the
+ * message; M2UA_REFUSED_BUFFER where `out` is short. Refused: length 0, `out` unchanged. */
 m2ua_written m2ua_write(uint8_t class_, uint8_t msgtype, const uint16_t *tags, size_t tag_count, const uint32_t *lens, size_t len_count,
                         const uint8_t *values, size_t value_bytes, uint8_t *out, size_t out_bytes);
 
 /* ---- The state ---- */
 
-/* The units held for ASes that wait (Rule 5.21). Unit k of an AS, the oldest 0, is at index as * M2UA_HELD_MOST + k of each column; its bytes are in the hold, from
- * m2ua_hold_at(as, k) on. */
+/* The units held for ASes that wait (Rule 5.21). Unit k of an AS, the oldest 0, is at index as *
+ * M2UA_HELD_MOST + k of each column; its bytes are in the hold, from m2ua_hold_at(as, k) on. */
 typedef struct {
     uint8_t count[M2UA_MAX_ASES];           /* how many units an AS holds */
     uint16_t tag[M2UA_UNITS];               /* M2UA_TAG_DATA_1 or M2UA_TAG_DATA_2 */
@@ -298,9 +311,9 @@ static inline size_t m2ua_hold_at(size_t as, size_t k) {
     return (as * M2UA_HELD_MOST + k) * M2UA_HOLD_PLACE;
 }
 
-/* The gateway's state (Rule 5.1), which the host keeps where it likes. Any bytes are a state; an event refuses
- * those that are not sound. Places beyond the counts hold 0. Hosts read it between events; only m2ua_load and
- * events write it. It may be copied, with its hold. */
+/* The gateway's state (Rule 5.1), which the host keeps where it likes. Any bytes are a state; an event
+ * refuses those that are not sound. Places beyond the counts hold 0. Hosts read it between events; only
+ * m2ua_load and events write it. It may be copied, with its hold. */
 typedef struct {
     uint8_t asps;                           /* how many of each the plan has */
     uint8_t ases;
@@ -320,21 +333,27 @@ typedef struct {
     m2ua_units held;                        /* units held */
 } m2ua_gateway;
 
-/* What loading a plan gives: 0 and a fresh state; or 201 or 202 and a state of zeros, on which every event is refused. */
+/* What loading a plan gives: 0 and a fresh state; or 201 or 202 and a state of zeros, on which every event is
+ * refused. */
 typedef struct {
     uint32_t code;
     m2ua_gateway gateway;
 } m2ua_loaded;
 
-/* Loads a plan file of `len` bytes, which may be any bytes (section 4 of the rules; m2ua-plan(1) makes such files from text). Its numbers are big-endian. It begins
- * with three pairs of 32 bits, for ASPs, ASes and links: the byte where their rows start, and how many there are. Then the rows, one behind the other:
- *   ASP   32 bits: its identifier; 16: its ASes, bit a for AS a; 16: 1 where its lists of identifiers are taken all or none, else 0
+/* Loads a plan file of `len` bytes, which may be any bytes (section 4 of the rules; m2ua-plan(1) makes such
+ * files from text). Its numbers are big-endian. It begins with three pairs of 32 bits, for ASPs, ASes and
+ * links: the byte where their rows start, and how many there are. Then the rows, one behind the other:
+ *   ASP   32 bits: its identifier; 16: its ASes, bit a for AS a; 16: 1 where its lists of identifiers are
+ *         taken all or none, else 0
  *   AS    32 bits: its traffic mode, M2UA_MODE_..
- *   link  32 bits: its interface identifier, above that of the row before; 16: its kind, 0 plain or 1 high-speed; 16: the AS that owns it
- * Answers: 0 and the fresh state: all ASPs down, nobody active, no AS waiting, all links idle, no unit held; or M2UA_REFUSED_LAYOUT or M2UA_REFUSED_ROW and zeros. */
+ *   link  32 bits: its interface identifier, above that of the row before; 16: its kind, 0 plain or 1
+ *         high-speed; 16: the AS that owns it
+ * Answers: 0 and the fresh state: all ASPs down, nobody active, no AS waiting, all links idle, no unit held;
+ * or M2UA_REFUSED_LAYOUT or M2UA_REFUSED_ROW and zeros. */
 m2ua_loaded m2ua_load(const uint8_t *file, size_t len);
 
-/* The columns of a state as the exported functions take them: lent for reading, lent to an event, and passed. */
+/* The columns of a state as the exported functions take them: lent for reading, lent to an event, and
+ * passed. */
 #define M2UA_COLUMNS_READ \
     uint8_t asps, uint8_t ases, uint8_t links, uint8_t spare, const uint32_t *aspid, const uint8_t *up, \
     const uint8_t *member, const uint8_t *active, const uint8_t *mode, const uint8_t *waiting, \
@@ -384,7 +403,8 @@ static inline m2ua_answer m2ua_link_place(const m2ua_gateway *g, uint32_t wanted
     return m2ua_link_place_at(M2UA_COLUMNS_OF(g), wanted);
 }
 
-/* The recovery timers T(r) that an event asks for, by number of AS: 1 in `began` where the timer is to be started, 1 in `ended` where it is to be stopped. */
+/* The recovery timers T(r) that an event asks for, by number of AS: 1 in `began` where the timer is to be
+ * started, 1 in `ended` where it is to be stopped. */
 typedef struct {
     uint8_t began[M2UA_MAX_ASES];
     uint8_t ended[M2UA_MAX_ASES];
@@ -410,10 +430,10 @@ enum {
     M2UA_LINK_MESSAGE = 5 /* a message of the link side (6.1, 6.8, 6.9, 6.11 to 6.14), which names its link itself: any */
 };
 
-/* What a host lends to m2ua_handle and finds there: the recovery timers to start and to stop, the orders of the
- * event as words, four for each, the length of each order's message, and the messages one behind the other.
- * It is large, and an event touches only what it writes: keep one for each thread, as a static or on the heap,
- * and use it for all gateways. It need not be cleared. */
+/* What a host lends to m2ua_handle and finds there: the recovery timers to start and to stop, the orders of
+ * the event as words, four for each, the length of each order's message, and the messages one behind the
+ * other. It is large, and an event touches only what it writes: keep one for each thread, as a static or on
+ * the heap, and use it for all gateways. It need not be cleared. */
 typedef struct {
     m2ua_timers timers;
     uint32_t words[M2UA_LIST_WORDS];
@@ -421,7 +441,8 @@ typedef struct {
     uint8_t bytes[M2UA_ROOM_BYTES];
 } m2ua_room;
 
-/* What it hands back: 0, the number of orders and the bytes of all their messages; or the refusal and zeros. */
+/* What it hands back: 0, the number of orders and the bytes of all their messages; or the refusal and
+ * zeros. */
 typedef struct {
     uint32_t refusal;
     size_t count;
@@ -432,15 +453,15 @@ m2ua_handled m2ua_handle_at(M2UA_COLUMNS_WRITTEN, uint32_t kind, size_t index, c
                             uint8_t *hold, size_t hold_bytes, uint32_t *words, uint32_t *lens, uint8_t *out,
                             size_t out_bytes);
 
-/* An event (Rule 6.2) on the state where it lies, and the messages of all its orders (Rule 8.19): the one call
- * that a host needs. `msg` is read in kinds 0 and 5. `hold` is the gateway's hold: Data of the link side for an
- * AS that is pending is put there and gives no order (Rule 7.24); it goes out as an order as soon as an ASP is
- * active in the AS (Rule 7.25).
+/* An event (Rule 6.2) on the state where it lies, and the messages of all its orders (Rule 8.19): the one
+ * call that a host needs. `msg` is read in kinds 0 and 5. `hold` is the gateway's hold: Data of the link side
+ * for an AS that is pending is put there and gives no order (Rule 7.24); it goes out as an order as soon as
+ * an ASP is active in the AS (Rule 7.25).
  *
  * An order is four words (Rule 8.1): the addressee (the number of an ASP, or M2UA_LINK_SIDE); M2UA_ORDER_..;
- * subject; value. In class 6 the subject is an interface identifier, in a Notify the number of an AS, in an Error
- * of code 2 the refused identifier, else 0; the value is said beside M2UA_ORDER_.., of an Error it is the code,
- * else 0. The orders are carried out in their sequence:
+ * subject; value. In class 6 the subject is an interface identifier, in a Notify the number of an AS, in an
+ * Error of code 2 the refused identifier, else 0; the value is said beside M2UA_ORDER_.., of an Error it is
+ * the code, else 0. The orders are carried out in their sequence:
  *
  *     const m2ua_handled h = m2ua_handle(&gateway, M2UA_MESSAGE, asp, msg, len, hold, sizeof hold, &room);
  *     const uint8_t *message = room.bytes;
@@ -450,25 +471,25 @@ m2ua_handled m2ua_handle_at(M2UA_COLUMNS_WRITTEN, uint32_t kind, size_t index, c
  *         else to_the_asp(order[0], message, room.lens[j]);
  *     }
  *
- * Answers: `refusal` 0, the number of orders, at most M2UA_MAX_ORDERS, and the bytes of their messages. Then ALL
- * of them are there: words[4 * j] to words[4 * j + 3] are order j, lens[j] is the length of its message, 0 for one
- * to the link side; words, lens and bytes behind them stay; `timers` says which T(r) to start and to stop; and
- * the state is the next one. Or, in this order:
- * M2UA_REFUSED_STATE; M2UA_REFUSED_PLACE (a kind above 5; `index` beyond the plan; a message of the link side that
- * does not read, is of another type or has an unknown identifier, or a Retrieval Confirm has a sequence number
- * above M2UA_MAX_SEQUENCE_PLAIN and its link is a plain one); M2UA_REFUSED_HOLD (`hold_bytes` is not
- * M2UA_HOLD_BYTES). m2ua_handle_at is refused with M2UA_REFUSED_BUFFER behind these where `out` has fewer than
- * M2UA_ROOM_BYTES; the room of this file has them. Refused: zeros, no timer to start or to stop, and every byte of
- * the state, the hold, words, lens and bytes as it was.
+ * Answers: `refusal` 0, the number of orders, at most M2UA_MAX_ORDERS, and the bytes of their messages. Then
+ * ALL of them are there: words[4 * j] to words[4 * j + 3] are order j, lens[j] is the length of its message,
+ * 0 for one to the link side; words, lens and bytes behind them stay; `timers` says which T(r) to start and
+ * to stop; and the state is the next one. Or, in this order:
+ * M2UA_REFUSED_STATE; M2UA_REFUSED_PLACE (a kind above 5; `index` beyond the plan; a message of the link side
+ * that does not read, is of another type or has an unknown identifier, or a Retrieval Confirm has a sequence
+ * number above M2UA_MAX_SEQUENCE_PLAIN and its link is a plain one); M2UA_REFUSED_HOLD (`hold_bytes` is not
+ * M2UA_HOLD_BYTES). m2ua_handle_at is refused with M2UA_REFUSED_BUFFER behind these where `out` has fewer
+ * than M2UA_ROOM_BYTES; the room of this file has them. Refused: zeros, no timer to start or to stop, and
+ * every byte of the state, the hold, words, lens and bytes as it was.
  *
  * A message of an ASP that does not read is no refusal: it is answered by an Error order (Rule 6.8). So is a
- * Retrieval Request that asks a plain link for a sequence number above M2UA_MAX_SEQUENCE_PLAIN: where the ASP is
- * active for the link, by Error 17, and the link side is told nothing (Rule 7.14).
- * An Active or Inactive may name identifiers that the ASP cannot have beside those that it can. Then it acts on
- * the latter: the orders are the Ack, an Error of code 2 with the first of the former, and what follows in the
- * ASes; as bytes the Ack lists what was acted on (Rule 8.11). Where the ASP can have none of them, and wherever the
- * state has 1 for it in `wholelists`, the Error is all, and nothing changes. A traffic mode that is not that of
- * each AS acted on is Error 5 for the whole message (Rule 7.9). */
+ * Retrieval Request that asks a plain link for a sequence number above M2UA_MAX_SEQUENCE_PLAIN: where the ASP
+ * is active for the link, by Error 17, and the link side is told nothing (Rule 7.14).
+ * An Active or Inactive may name identifiers that the ASP cannot have beside those that it can. Then it acts
+ * on the latter: the orders are the Ack, an Error of code 2 with the first of the former, and what follows in
+ * the ASes; as bytes the Ack lists what was acted on (Rule 8.11). Where the ASP can have none of them, and
+ * wherever the state has 1 for it in `wholelists`, the Error is all, and nothing changes. A traffic mode that
+ * is not that of each AS acted on is Error 5 for the whole message (Rule 7.9). */
 static inline m2ua_handled m2ua_handle(m2ua_gateway *g, uint32_t kind, size_t index, const uint8_t *msg, size_t len,
                                        uint8_t *hold, size_t hold_bytes, m2ua_room *room) {
     uint8_t before[M2UA_MAX_ASES];
@@ -479,7 +500,8 @@ static inline m2ua_handled m2ua_handle(m2ua_gateway *g, uint32_t kind, size_t in
     return handled;
 }
 
-/* The six kinds by name. An event without a message lends none of a byte's bytes: what is lent is never null. */
+/* The six kinds by name. An event without a message lends none of a byte's bytes: what is lent is never
+ * null. */
 static inline m2ua_handled m2ua_message(m2ua_gateway *g, size_t asp, const uint8_t *msg, size_t len, uint8_t *hold,
                                         size_t hold_bytes, m2ua_room *room) {
     return m2ua_handle(g, M2UA_MESSAGE, asp, msg, len, hold, hold_bytes, room);
@@ -523,18 +545,18 @@ typedef struct {
 m2ua_done m2ua_event_at(M2UA_COLUMNS_WRITTEN, uint32_t kind, size_t index, const uint8_t *msg, size_t msg_bytes, uint8_t *hold,
                         size_t hold_bytes, uint32_t *words, size_t word_count);
 
-/* The event alone, on the state where it lies, with its orders as words: for a host that writes messages itself
- * or needs none. The state before it is gone, and with it what m2ua_order and m2ua_orders (below) would need: ask
- * them first, or keep a copy, or call m2ua_handle.
- * Answers and refusals are those of m2ua_handle, but for the last one: M2UA_REFUSED_LIST, where `count` is below
- * M2UA_LIST_WORDS. Refused: every byte of the state, the hold and `words` as it was. */
+/* The event alone, on the state where it lies, with its orders as words: for a host that writes messages
+ * itself or needs none. The state before it is gone, and with it what m2ua_order and m2ua_orders (below)
+ * would need: ask them first, or keep a copy, or call m2ua_handle.
+ * Answers and refusals are those of m2ua_handle, but for the last one: M2UA_REFUSED_LIST, where `count` is
+ * below M2UA_LIST_WORDS. Refused: every byte of the state, the hold and `words` as it was. */
 static inline m2ua_done m2ua_event(m2ua_gateway *g, uint32_t kind, size_t index, const uint8_t *msg, size_t len, uint8_t *hold,
                                    size_t hold_bytes, uint32_t *words, size_t count) {
     return m2ua_event_at(M2UA_COLUMNS_OF(g), kind, index, msg, len, hold, hold_bytes, words, count);
 }
 
-/* The same by value: the state that is given stays, and the next one, or the same, is handed back. It copies the
- * state twice. */
+/* The same by value: the state that is given stays, and the next one, or the same, is handed back. It copies
+ * the state twice. */
 typedef struct {
     uint32_t refusal;
     size_t count;
@@ -553,17 +575,19 @@ static inline m2ua_outcome m2ua_event_by_value(m2ua_gateway g, uint32_t kind, si
 
 /* ---- Orders as bytes, of an event that is not kept ---- */
 
-/* What an event on a state would send: the state BEFORE the event is only read, and so is its hold, in which a unit
- * that goes out has its bytes (Rule 8.18). No list of words is lent, so nothing is refused with M2UA_REFUSED_LIST. */
+/* What an event on a state would send: the state BEFORE the event is only read, and so is its hold, in which
+ * a unit that goes out has its bytes (Rule 8.18). No list of words is lent, so nothing is refused with
+ * M2UA_REFUSED_LIST. */
 
 m2ua_written m2ua_order_at(M2UA_COLUMNS_READ, uint32_t kind, size_t index, const uint8_t *msg, size_t msg_bytes,
                            const uint8_t *hold, size_t hold_bytes, size_t place, uint8_t *out, size_t out_bytes);
 
-/* Writes the order at a place, from 0, as the message that goes to its ASP (Rule 8.15). M2UA_MAX_MESSAGE bytes of
- * `out` are always enough.
- * Answers: `code` 0 and the message's length, the bytes behind it unchanged; or, in this order: M2UA_REFUSED_STATE;
- * M2UA_REFUSED_PLACE and M2UA_REFUSED_HOLD, as the event itself; M2UA_REFUSED_ORDER, where the event has no order at
- * the place or sends it to the link side; M2UA_REFUSED_BUFFER. Refused: length 0, `out` unchanged. */
+/* Writes the order at a place, from 0, as the message that goes to its ASP (Rule 8.15). M2UA_MAX_MESSAGE
+ * bytes of `out` are always enough.
+ * Answers: `code` 0 and the message's length, the bytes behind it unchanged; or, in this order:
+ * M2UA_REFUSED_STATE; M2UA_REFUSED_PLACE and M2UA_REFUSED_HOLD, as the event itself; M2UA_REFUSED_ORDER,
+ * where the event has no order at the place or sends it to the link side; M2UA_REFUSED_BUFFER. Refused:
+ * length 0, `out` unchanged. */
 static inline m2ua_written m2ua_order(const m2ua_gateway *g, uint32_t kind, size_t index, const uint8_t *msg, size_t len,
                                       const uint8_t *hold, size_t hold_bytes, size_t place, uint8_t *out, size_t out_bytes) {
     return m2ua_order_at(M2UA_COLUMNS_OF(g), kind, index, msg, len, hold, hold_bytes, place, out, out_bytes);
@@ -580,12 +604,13 @@ m2ua_batch m2ua_orders_at(M2UA_COLUMNS_READ, uint32_t kind, size_t index, const 
                           const uint8_t *hold, size_t hold_bytes, size_t place, uint32_t *lens, size_t len_count, uint8_t *out,
                           size_t out_bytes);
 
-/* Writes the messages of as many orders, from a place on, as go into `out` and have a place in `lens`, one behind the
- * other (Rule 8.16): lens[j] is the length of the j-th, 0 for an order to the link side, which goes in wherever there
- * is a place in `lens`. Each message is the one that m2ua_order writes.
- * Answers: `code` 0, the number of orders and of bytes, what lies behind them in `lens` and `out` unchanged; or, in
- * this order: M2UA_REFUSED_STATE, M2UA_REFUSED_PLACE and M2UA_REFUSED_HOLD as above; M2UA_REFUSED_ORDER, a place beyond
- * the orders; M2UA_REFUSED_BUFFER, not one goes in. Refused: zeros, nothing changed.
+/* Writes the messages of as many orders, from a place on, as go into `out` and have a place in `lens`, one
+ * behind the other (Rule 8.16): lens[j] is the length of the j-th, 0 for an order to the link side, which
+ * goes in wherever there is a place in `lens`. Each message is the one that m2ua_order writes.
+ * Answers: `code` 0, the number of orders and of bytes, what lies behind them in `lens` and `out` unchanged;
+ * or, in this order: M2UA_REFUSED_STATE, M2UA_REFUSED_PLACE and M2UA_REFUSED_HOLD as above;
+ * M2UA_REFUSED_ORDER, a place beyond the orders; M2UA_REFUSED_BUFFER, not one goes in. Refused: zeros,
+ * nothing changed.
  * With M2UA_MAX_MESSAGE bytes and one length or more at least one goes in, so that this writes all:
  *     for (place = 0; place < count; place += b.count) b = m2ua_orders(.., place, ..);
  * Each call runs the event again (docs/HOST.md has the times). */
@@ -601,7 +626,8 @@ static inline m2ua_batch m2ua_orders(const m2ua_gateway *g, uint32_t kind, size_
 
 /* ---- Layout ---- */
 
-/* The structs as the library was compiled for: size, and where each field starts. tools/check/header-check writes these lines anew (--write). */
+/* The structs as the library was compiled for: size, and where each field starts. tools/check/header-check
+ * writes these lines anew (--write). */
 M2UA_STATIC_ASSERT(sizeof(m2ua_answer) == 8, "m2ua_answer");
 M2UA_STATIC_ASSERT(offsetof(m2ua_answer, code) == 0, "m2ua_answer.code");
 M2UA_STATIC_ASSERT(offsetof(m2ua_answer, value) == 4, "m2ua_answer.value");

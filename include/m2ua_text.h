@@ -1,11 +1,12 @@
-/* Orders, messages and refusals in words, for logs and traces. Plain C over m2ua.h, and no part of the library; the words are those of the Rust crate, with which
- * tools/try/hosts compares them. */
+/* Orders, messages and refusals in words, for logs and traces. Plain C over m2ua.h, and no part of the
+ * library; the words are those of the Rust crate, with which tools/try/hosts compares them. */
 #ifndef M2UA_TEXT_H
 #define M2UA_TEXT_H
 #include <stdio.h>
 #include "m2ua.h"
 
-/* The name of a message by its class * 256 + type (as in an order's second word); null where there is none. */
+/* The name of a message by its class * 256 + type (as in an order's second word); null where there is
+ * none. */
 static inline const char *m2ua_message_name(uint32_t word) {
     switch (word) {
     case 0 * 256 + M2UA_TYPE_ERROR: return "Error";

@@ -4,7 +4,8 @@ use crate::plans::{full_plan, plan_s};
 use second::events::LIST_WORDS;
 use second::{load, Gateway, HOLD_BYTES};
 
-/// The plan's state with ASPs 0 up to `asps` up and ASP 0 inactive after it was active: every AS of ASP 0 is pending.
+/// The plan's state with ASPs 0 up to `asps` up and ASP 0 inactive after it was active: every AS of ASP 0 is
+/// pending.
 fn pending(file: &[u8], asps: u32) -> Gateway {
     let (up, active, inactive) = (message(3, 1, &[]), message(4, 1, &[]), message(4, 2, &[]));
     let mut events: Vec<(u32, &[u8])> = (0..asps).map(|p| (p, &up[..])).collect();

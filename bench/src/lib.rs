@@ -1,4 +1,5 @@
-//! What the programs here share: the proved library's entries, plans, messages, states with units held, event lines as calls, and timing.
+//! What the programs here share: the proved library's entries, plans, messages, states with units held, event
+//! lines as calls, and timing.
 pub mod holds;
 pub mod lines;
 pub mod messages;

@@ -15,7 +15,8 @@ pub enum What {
     LinkMessage,
 }
 
-/// An event with its message and the lengths of its hold and of its list: what it keeps when it trades places.
+/// An event with its message and the lengths of its hold and of its list: what it keeps when it trades
+/// places.
 #[derive(Clone, Debug, PartialEq, Eq)]
 pub struct Call {
     pub what: What,
@@ -86,7 +87,8 @@ fn hex(word: &str) -> Option<Vec<u8>> {
         .collect()
 }
 
-/// A plan, a painted hold or an event, which is lent a hold of so many bytes; nothing for other lines and for malformed ones, which the scripts compare.
+/// A plan, a painted hold or an event, which is lent a hold of so many bytes; nothing for other lines and for
+/// malformed ones, which the scripts compare.
 pub fn line(text: &str, hold: usize) -> Option<Line> {
     let words: Vec<&str> = text.split(' ').collect();
     let (what, index, room, message) = match words[..] {
@@ -110,7 +112,8 @@ pub fn line(text: &str, hold: usize) -> Option<Line> {
     }))
 }
 
-/// The kinds of histories that a program is asked for: one by its name, or the usual ones. With it, what a line about them begins with.
+/// The kinds of histories that a program is asked for: one by its name, or the usual ones. With it, what a
+/// line about them begins with.
 pub fn asked(program: &str, word: Option<&str>, usual: &[Kind]) -> (String, Vec<Kind>) {
     let Some(word) = word else {
         return (program.to_string(), usual.to_vec());

@@ -1,5 +1,5 @@
-//! Times the proved library against the hand-written second program, both in this one run, on the same inputs. Each pair is first checked to
-//! agree on what is timed.
+//! Times the proved library against the hand-written second program, both in this one run, on the same
+//! inputs. Each pair is first checked to agree on what is timed.
 use bench::holds::full_hold;
 use bench::messages::{active_of, bytes, data, message, sample_m};
 use bench::plans::{full_plan, plan, plan_s};

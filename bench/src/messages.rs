@@ -74,7 +74,8 @@ pub fn over_gaps() -> impl Iterator<Item = (u32, u32)> {
     (0..250).map(|i| (i * 37 % 120 * 3, i * 37 % 120 * 3 + 21))
 }
 
-/// An Active of 509 identifiers in no order, of links 0, 3, 6 and so on; about half of them have no link. Another one for each seed.
+/// An Active of 509 identifiers in no order, of links 0, 3, 6 and so on; about half of them have no link.
+/// Another one for each seed.
 pub fn half_unknown(seed: u32) -> Vec<u8> {
     let mut x = seed.wrapping_mul(2_654_435_761) | 1;
     active_of((0..509).map(move |_| {

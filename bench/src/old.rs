@@ -1,4 +1,5 @@
-//! The entries of an older version, ABI 4, at commit a79f60c: the state by value, the bytes of an event by a second call on the state before it.
+//! The entries of an older version, ABI 4, at commit a79f60c: the state by value, the bytes of an event by a
+//! second call on the state before it.
 use crate::proved::Batch;
 use second::Gateway;
 
@@ -49,7 +50,8 @@ pub fn event(
     hold: &mut [u8],
     words: &mut [u32],
 ) -> Outcome {
-    // SAFETY: each pointer and length are those of one slice, any bytes are a state, and the entry has no `requires`.
+    // SAFETY: each pointer and length are those of one slice, any bytes are a state, and the entry has no
+    // `requires`.
     unsafe {
         old_m2ua_run(
             *g,

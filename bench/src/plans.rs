@@ -1,6 +1,7 @@
 //! Plan files.
 
-/// A plan file: ASPs (identifier, mask), ASes (mode), links (identifier, and a word with kind and owner). Part of every list may succeed.
+/// A plan file: ASPs (identifier, mask), ASes (mode), links (identifier, and a word with kind and owner).
+/// Part of every list may succeed.
 pub fn plan(asps: &[(u32, u16)], ases: &[u32], links: &[(u32, u32)]) -> Vec<u8> {
     let at = [
         24,

@@ -1,4 +1,5 @@
-//! The proved library's entries, as the crate `m2ua` declares them, over the second program's structs: both are `repr(C)` with the same fields.
+//! The proved library's entries, as the crate `m2ua` declares them, over the second program's structs: both
+//! are `repr(C)` with the same fields.
 use m2ua::sys;
 pub use m2ua::sys::{load, read, write, Batch, Done, Handled, Written};
 use second::read::Reading;

@@ -1,5 +1,6 @@
-//! Two functions timed in many short rounds, each round both of them, the first one now the one and now the other: best and median of each, and the median of the
-//! rounds' ratios. (The machine's clock moves, so only what runs in one round is compared.) It is processor time.
+//! Two functions timed in many short rounds, each round both of them, the first one now the one and now the
+//! other: best and median of each, and the median of the rounds' ratios. (The machine's clock moves, so only
+//! what runs in one round is compared.) It is processor time.
 use std::hint::black_box;
 use std::sync::atomic::{AtomicU32, Ordering};
 

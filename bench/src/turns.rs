@@ -1,5 +1,6 @@
-//! Events that are timed again and again on a state that they change where it lies. Where each leads to the state of the next, or leaves the state as it
-//! is, nothing is to be put back; else the state is copied back before each call, for both sides alike (some 40 ns).
+//! Events that are timed again and again on a state that they change where it lies. Where each leads to the
+//! state of the next, or leaves the state as it is, nothing is to be put back; else the state is copied back
+//! before each call, for both sides alike (some 40 ns).
 use crate::lines::{Call, What};
 use second::events::LIST_WORDS;
 use second::{Gateway, HOLD_BYTES};

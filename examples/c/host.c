@@ -1,6 +1,7 @@
-/* Every entry of the library called once or more: messages read and written, plan S loaded, a short history of its events
- * (docs/RULES.md, 11.1 to 11.4, with a link established, in service and lost), what the ASPs are sent, units that wait with a pending AS, sequence numbers
- * of plain and high-speed links, and lists of links that succeed in part or are taken whole. */
+/* Every entry of the library called once or more: messages read and written, plan S loaded, a short history
+ * of its events (docs/RULES.md, 11.1 to 11.4, with a link established, in service and lost), what the ASPs
+ * are sent, units that wait with a pending AS, sequence numbers of plain and high-speed links, and lists of
+ * links that succeed in part or are taken whole. */
 #include <stdio.h>
 #include <string.h>
 #include "m2ua.h"
@@ -44,8 +45,9 @@ static void messages(void) {
     expect("the byte behind it", out[28], 0xaa);
 }
 
-/* Plan S: ASPs 7 and 8 in AS 0, override, with links 100 to 115; ASP 9 in AS 1, load-share, with link 200. In plan S itself the kind of link 200 is 0 (plain), and the spare of
- * ASP 8 is 0 (part of a list may succeed). */
+/* Plan S: ASPs 7 and 8 in AS 0, override, with links 100 to 115; ASP 9 in AS 1, load-share, with link 200. In
+ * plan S itself the kind of link 200 is 0 (plain), and the spare of ASP 8 is 0 (part of a list may
+ * succeed). */
 static m2ua_loaded plan_of(uint16_t kind, uint16_t spare, size_t len) {
     uint8_t file[192] = {0, 0, 0, 24, 0, 0, 0, 3, 0, 0, 0, 48, 0, 0, 0, 2, 0, 0, 0, 56, 0, 0, 0, 17,
                          0, 0, 0, 7, 0, 1, 0, 0, 0, 0, 0, 8, 0, 1, 0, 0, 0, 0, 0, 9, 0, 2, 0, 0, 0, 0, 0, 1, 0, 0, 0, 2};
@@ -67,7 +69,8 @@ static uint8_t hold[M2UA_HOLD_BYTES];
 static m2ua_room room;
 static const uint8_t none[1];
 
-/* An event was accepted with these orders, four words each; all their messages read and are as long as is said. */
+/* An event was accepted with these orders, four words each; all their messages read and are as long as is
+ * said. */
 static void orders(const char *what, m2ua_handled h, size_t count, const uint32_t *expected) {
     size_t at = 0;
     expect(what, h.refusal, 0);
@@ -226,7 +229,8 @@ static const uint8_t *unit(uint8_t id, uint8_t byte) {
     return d;
 }
 
-/* ASP 0 is active and goes inactive: AS 0 is pending. Nine units come, of which the ninth is turned away; the others go out as ASP 0 is active again. */
+/* ASP 0 is active and goes inactive: AS 0 is pending. Nine units come, of which the ninth is turned away; the
+ * others go out as ASP 0 is active again. */
 static void held(m2ua_gateway g) {
     const uint8_t up[8] = {1, 0, 3, 1, 0, 0, 0, 8}, active[8] = {1, 0, 4, 1, 0, 0, 0, 8}, inactive[8] = {1, 0, 4, 2, 0, 0, 0, 8};
     /* row order: the correlation id behind the data */
@@ -259,8 +263,9 @@ static void held(m2ua_gateway g) {
     expect("its byte stays", hold[m2ua_hold_at(0, 7)], 7);
 }
 
-/* AS 0 is pending and a unit comes, but the hold that is lent is short: 106, by both calls, and every byte of the state, the hold and what is lent for orders as it was. A state never says
- * that there is a unit whose bytes nobody wrote. */
+/* AS 0 is pending and a unit comes, but the hold that is lent is short: 106, by both calls, and every byte of
+ * the state, the hold and what is lent for orders as it was. A state never says that there is a unit whose
+ * bytes nobody wrote. */
 static void lent_short(m2ua_gateway g) {
     static m2ua_room kept_room;
     static uint8_t kept_hold[M2UA_HOLD_BYTES];

@@ -1,7 +1,9 @@
-/* A small host: it loads a plan, lets two ASPs take turns, a link come up, units go both ways, an ASP fetch what a high-speed link has not sent, a list of links succeed in part, an association
- * break, units wait until the other ASP takes over, and the recovery time run out. What a host sends, which units wait, and which timers it starts, is printed.
- * (rust/m2ua/examples/scenario.rs is the same in Rust; tools/try/hosts compares what both print.)
- * Usage: scenario PLAN, with examples/plans/high-speed.txt compiled; or scenario words. */
+/* A small host: it loads a plan, lets two ASPs take turns, a link come up, units go both ways, an ASP fetch
+ * what a high-speed link has not sent, a list of links succeed in part, an association break, units wait
+ * until the other ASP takes over, and the recovery time run out. What a host sends, which units wait, and
+ * which timers it starts, is printed. (rust/m2ua/examples/scenario.rs is the same in Rust; tools/try/hosts
+ * compares what both print.) Usage: scenario PLAN, with examples/plans/high-speed.txt compiled; or scenario
+ * words. */
 #include <stdlib.h>
 #include <string.h>
 #include "m2ua.h"
@@ -64,7 +66,8 @@ static size_t place_of(uint32_t id) {
     return place.value;
 }
 
-/* Asks a link for its BSN, or for the messages after a sequence number. Here it is printed; a host asks MTP2. The link can have the number: the event has seen to it. */
+/* Asks a link for its BSN, or for the messages after a sequence number. Here it is printed; a host asks MTP2.
+ * The link can have the number: the event has seen to it. */
 static void retrieve(uint32_t id, const uint8_t *msg, size_t len) {
     m2ua_reading r = m2ua_read(msg, len);
     const char *kind = gateway.highspeed[place_of(id)] ? "high-speed" : "plain";
@@ -185,7 +188,8 @@ static void retrieval(message up, message active) {
     link_sends("link 100 has BSN 128, which a plain link cannot have", has_bsn(100, 128));
 }
 
-/* Links 114 to 116, of which the plan has two. Part of what left lists may succeed; what right lists is taken all or none. */
+/* Links 114 to 116, of which the plan has two. Part of what left lists may succeed; what right lists is taken
+ * all or none. */
 static void lists(message active) {
     const uint16_t range = M2UA_TAG_INTERFACE_ID_RANGE;
     const uint32_t length = 8;

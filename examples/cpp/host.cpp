@@ -1,5 +1,5 @@
-// The header in C++: a plan is loaded, an ASP comes up, and what it is sent is printed. Then it asks a plain link, and another ASP a high-speed one, for the messages after a
-// sequence number.
+// The header in C++: a plan is loaded, an ASP comes up, and what it is sent is printed. Then it asks a plain
+// link, and another ASP a high-speed one, for the messages after a sequence number.
 #include <array>
 #include <cstdint>
 #include <cstdio>
@@ -29,7 +29,8 @@ struct Host {
 
     explicit Host(const m2ua_gateway &fresh) : gateway(fresh), hold(M2UA_HOLD_BYTES), room(new m2ua_room) {}
 
-    // A message of an ASP: each order in words, with the bytes of its message (none for the link side) and those of all.
+    // A message of an ASP: each order in words, with the bytes of its message (none for the link side) and
+    // those of all.
     void receives(std::size_t asp, const Bytes &message) {
         std::array<char, 128> line;
         const m2ua_handled h = m2ua_message(&gateway, asp, message.data(), message.size(), hold.data(), hold.size(), room.get());

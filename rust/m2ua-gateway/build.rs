@@ -1,4 +1,5 @@
-//! SCTP by Debian's libusrsctp, where it is installed (tools/build/setup): src/sctp.c is compiled and the flag `sctp` is set. Without it the programs have Unix sockets alone.
+//! SCTP by Debian's libusrsctp, where it is installed (tools/build/setup): src/sctp.c is compiled and the
+//! flag `sctp` is set. Without it the programs have Unix sockets alone.
 use std::path::Path;
 use std::process::Command;
 

@@ -1,4 +1,5 @@
-//! Finds libm2ua.a: in M2UA_LIB_DIR, where tools/build/library puts it in this repository, or where pkg-config knows of m2ua.
+//! Finds libm2ua.a: in M2UA_LIB_DIR, where tools/build/library puts it in this repository, or where
+//! pkg-config knows of m2ua.
 use std::path::{Path, PathBuf};
 use std::process::Command;
 

@@ -1,6 +1,7 @@
-/* Counts the copies that m2ua_event and m2ua_handle make: the calls of memcpy and memmove (linked with --wrap) of the state's size or more, and of bytes of
- * the state, of which there may be those of a column. What this file's own code copies is left out: it stands in a section of its own. `copies-check size`
- * prints the state's size. */
+/* Counts the copies that m2ua_event and m2ua_handle make: the calls of memcpy and memmove (linked with
+ * --wrap) of the state's size or more, and of bytes of the state, of which there may be those of a column.
+ * What this file's own code copies is left out: it stands in a section of its own. `copies-check size` prints
+ * the state's size. */
 #include <stdio.h>
 #include <string.h>
 #include "m2ua.h"
@@ -35,7 +36,8 @@ void *__wrap_memmove(void *to, const void *from, size_t bytes) {
     return __real_memmove(to, from, bytes);
 }
 
-/* An event by both calls, accepted or refused: no copy of the state; by the event alone none of a column, with its messages those of the units' columns. */
+/* An event by both calls, accepted or refused: no copy of the state; by the event alone none of a column,
+ * with its messages those of the units' columns. */
 HOST static void event(const char *what, uint32_t kind, const uint8_t *msg, size_t len, uint32_t refusal, size_t bytes, size_t words) {
     static uint8_t kept[M2UA_HOLD_BYTES];
     const uint8_t none = 0;

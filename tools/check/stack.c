@@ -1,4 +1,5 @@
-/* How deep the stack goes in each entry: it runs on a painted stack of its own, and the deepest byte that lost its paint is counted from the caller's. */
+/* How deep the stack goes in each entry: it runs on a painted stack of its own, and the deepest byte that
+ * lost its paint is counted from the caller's. */
 #include <stdio.h>
 #include <stdlib.h>
 #include <string.h>
@@ -87,7 +88,8 @@ static void measure_event(const char *what) {
     }
 }
 
-/* 16 ASPs, members of 16 ASes in broadcast, with 8 links each: an Active where every AS holds 8 units, and which names all links and one that there is not, has the most orders. */
+/* 16 ASPs, members of 16 ASes in broadcast, with 8 links each: an Active where every AS holds 8 units, and
+ * which names all links and one that there is not, has the most orders. */
 static size_t full_plan(uint8_t *file) {
     const uint8_t head[24] = {0, 0, 0, 24, 0, 0, 0, 16, 0, 0, 0, 152, 0, 0, 0, 16, 0, 0, 0, 216, 0, 0, 0, 128};
     memset(file, 0, M2UA_MAX_PLAN);
@@ -104,7 +106,8 @@ static size_t full_plan(uint8_t *file) {
     return M2UA_MAX_PLAN;
 }
 
-/* ASP 0 becomes inactive everywhere, so that all ASes are pending; each gets the longest unit on each of its links. */
+/* ASP 0 becomes inactive everywhere, so that all ASes are pending; each gets the longest unit on each of its
+ * links. */
 static void pend(void) {
     static const uint8_t inactive[8] = {1, 0, 4, 2, 0, 0, 0, 8};
     static uint8_t data[304] = {1, 0, 6, 1, 0, 0, 1, 0x30, 0, 1, 0, 8, 0, 0, 0, 0, 0, 0x13, 0, 8, 0, 0, 0, 5, 3, 0, 1, 0x15};

@@ -1,6 +1,7 @@
-/* Random events on random states, some of them damaged, through the library of version 0.5.0 (ABI 4; its entries are
- * called old_m2ua_..) and this one: the orders of an event that is not kept, the event alone, and the event with its
- * bytes by one call; with short lists and holds of another length. against-old EVENTS SEED */
+/* Random events on random states, some of them damaged, through the library of version 0.5.0 (ABI 4; its
+ * entries are called old_m2ua_..) and this one: the orders of an event that is not kept, the event alone, and
+ * the event with its bytes by one call; with short lists and holds of another length. against-old EVENTS
+ * SEED */
 #include <stdio.h>
 #include <stdlib.h>
 #include <string.h>
@@ -134,7 +135,8 @@ static event some_event(void) {
     return e;
 }
 
-/* What both sides are lent: the old library's, and this one's twice, for the event alone and with its bytes. */
+/* What both sides are lent: the old library's, and this one's twice, for the event alone and with its
+ * bytes. */
 enum { HOLD = M2UA_HOLD_BYTES + 64, BYTES = 65536 };
 static uint8_t hold[HOLD], hold_alone[HOLD], hold_handled[HOLD], out[BYTES], out_here[BYTES];
 static uint32_t words[M2UA_LIST_WORDS], words_here[M2UA_LIST_WORDS], lens[M2UA_MAX_ORDERS], lens_here[M2UA_MAX_ORDERS];

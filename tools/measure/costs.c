@@ -1,6 +1,7 @@
-/* What the most expensive messages cost a host: events on a full plan (16 ASPs in 16 ASes, 128 links), best of many calls, with the orders that they give: the event alone,
- * and with the bytes of all its orders by one call. Where units are held, all ASes hold 8 of the longest. The last lines have another message at each call, so that the
- * processor cannot learn it: the median of these. */
+/* What the most expensive messages cost a host: events on a full plan (16 ASPs in 16 ASes, 128 links), best
+ * of many calls, with the orders that they give: the event alone, and with the bytes of all its orders by one
+ * call. Where units are held, all ASes hold 8 of the longest. The last lines have another message at each
+ * call, so that the processor cannot learn it: the median of these. */
 #include <stdio.h>
 #include <stdlib.h>
 #include <string.h>
@@ -181,7 +182,8 @@ int main(void) {
     cost("Active of 254 ranges from a link to beyond the last one", g, M2UA_MESSAGE, msg, active(msg, 8, 508, gaps));
     cost("Active of 254 ranges over all numbers", g, M2UA_MESSAGE, msg, active(msg, 8, 508, wide));
     cost("the same on an AS that is active: identifiers mixed", on, M2UA_MESSAGE, msg, active(msg, 1, 509, mixed));
-    /* 510 empty info strings would be 19; the longest walk of an accepted message has many short ids parameters */
+    /* 510 empty info strings would be 19; the longest walk of an accepted message has many short ids
+     * parameters */
     size_t n = 8;
     memcpy(msg, (const uint8_t[]){1, 0, 4, 1, 0, 0, 8, 0}, 8);
     for (; n + 8 <= sizeof msg; n += 8) put32(msg + n, 0x00010008), put32(msg + n + 4, mixed(n));

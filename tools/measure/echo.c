@@ -1,6 +1,8 @@
-/* The bare echo that tools/measure/daemon-times measures the daemon against: it takes a message and sends it back, and does nothing else.
+/* The bare echo that tools/measure/daemon-times measures the daemon against: it takes a message and sends it
+ * back, and does nothing else.
  *     echo unix PATH           a Unix socket of type SOCK_SEQPACKET
- *     echo sctp UDP-PORT       SCTP by libusrsctp inside UDP, port 2904 of 127.0.0.1 (compiled with -DSCTP) */
+ *     echo sctp UDP-PORT       SCTP by libusrsctp inside UDP, port 2904 of 127.0.0.1 (compiled with
+ *                              -DSCTP) */
 #include <stdio.h>
 #include <stdlib.h>
 #include <string.h>

@@ -1,5 +1,6 @@
-/* The reader and the writer beside libosmo-sigtran's, which parses a message into a list and builds it from one (xua_from_msg, xua_to_msg) and judges neither class, type, tags,
- * lengths nor values: nanoseconds of one call, best of 101 rounds, both in each round. */
+/* The reader and the writer beside libosmo-sigtran's, which parses a message into a list and builds it from
+ * one (xua_from_msg, xua_to_msg) and judges neither class, type, tags, lengths nor values: nanoseconds of one
+ * call, best of 101 rounds, both in each round. */
 #include <stdio.h>
 #include <string.h>
 #include <time.h>

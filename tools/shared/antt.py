@@ -1,4 +1,5 @@
-"""Files of definitions (.antt) and of code (.rt) as items with the names that they use. Nothing here knows of M2UA."""
+"""Files of definitions (.antt) and of code (.rt) as items with the names that they use. Nothing here knows of
+M2UA."""
 import pathlib
 import re
 
@@ -17,7 +18,8 @@ def uses_word(name, found):
 
 
 class Item:
-    """A declaration with its comment. `names` are all that it declares: itself, or a type with its constructors."""
+    """A declaration with its comment. `names` are all that it declares: itself, or a type with its
+    constructors."""
 
     def __init__(self, lines, header=""):
         self.lines, self.header = lines, header
@@ -46,7 +48,8 @@ class Item:
 
 
 def chunks(lines):
-    """Runs of lines; a new one starts at a line at the margin after a blank line, and around a line of infix."""
+    """Runs of lines; a new one starts at a line at the margin after a blank line, and around a line of
+    infix."""
     out, cur, blank = [], [], True
     for line in lines:
         margin = line[:1] not in ("", " ")
@@ -65,7 +68,8 @@ def chunks(lines):
 
 
 class Antt:
-    """One file: its comment, its `use` lines, its items; an item of a section has the section's line as header."""
+    """One file: its comment, its `use` lines, its items; an item of a section has the section's line as
+    header."""
 
     def __init__(self, path, crate, module):
         self.path, self.crate, self.module = path, crate, module

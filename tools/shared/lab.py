@@ -1,7 +1,9 @@
-"""A lab for the tools around the daemon: it starts m2ua-gateway and controllers, and compares what went to and fro with what `replay` says.
+"""A lab for the tools around the daemon: it starts m2ua-gateway and controllers, and compares what went to
+and fro with what `replay` says.
 
-What is compared: the daemon's journal has each event in its sequence. `replay`, which is proved, says the orders of each, as words and as bytes. So of each
-association it is known what has to come out of it; the controllers' records say what did."""
+What is compared: the daemon's journal has each event in its sequence. `replay`, which is proved, says the
+orders of each, as words and as bytes. So of each association it is known what has to come out of it; the
+controllers' records say what did."""
 import os
 import pathlib
 import random
@@ -121,7 +123,8 @@ class Lab:
         made = Controller(self, name, options, sctp=self.sctp)
         self.controllers.append(made)
         if self.sctp:
-            # SCTP makes an association before the daemon has heard of it: one that ends until then it never has
+            # SCTP makes an association before the daemon has heard of it: one that ends until then it never
+            # has
             until(lambda: f" {name}: association (" in self.text(start), f"the association of {name} begins")
         return made
 
@@ -159,7 +162,8 @@ class Lab:
 
 
 class Relay(threading.Thread):
-    """A bad network for SCTP inside UDP, on a port of its own: of what goes through it some packets are lost, some come twice, some late."""
+    """A bad network for SCTP inside UDP, on a port of its own: of what goes through it some packets are lost,
+    some come twice, some late."""
 
     def __init__(self, port, seed, lost=0.02, doubled=0.01, late=0.02):
         super().__init__(daemon=True)
@@ -248,7 +252,8 @@ class Controller:
             self.join()
 
     def fails(self, command):
-        """Gives a command that cannot succeed: what is said of it. The process may have ended before, for the same reason."""
+        """Gives a command that cannot succeed: what is said of it. The process may have ended before, for the
+        same reason."""
         try:
             self.start(command)
         except BrokenPipeError:
@@ -295,7 +300,8 @@ class Controller:
         self.process.stderr.close()
 
     def segments(self):
-        """Of each association what was sent and what was received, as lists of hex. Of a message that is too long the gateway sees the first 2,049 bytes."""
+        """Of each association what was sent and what was received, as lists of hex. Of a message that is too
+        long the gateway sees the first 2,049 bytes."""
         made = []
         # the last line of a process that was killed may be cut off
         for line in self.record.read_text().split("\n")[:-1]:
@@ -327,7 +333,8 @@ def written(kind, *pars):
 
 
 def to_link_side(order, event):
-    """The message of an order to the link side: what its words say, and of the ASP's message the unit or the sequence number."""
+    """The message of an order to the link side: what its words say, and of the ASP's message the unit or the
+    sequence number."""
     _, kind, subject, value = order
     kind -= 6 * 256
     said = dict(parameters(event.split()[-1]))
@@ -354,8 +361,8 @@ def replayed(script, to):
 
 
 class Tape:
-    """What a peer has recorded, association by association, against what the journal says. SCTP keeps the sequence within a stream alone: there the messages of each stream are compared
-    among themselves."""
+    """What a peer has recorded, association by association, against what the journal says. SCTP keeps the
+    sequence within a stream alone: there the messages of each stream are compared among themselves."""
 
     def __init__(self, name, streams):
         self.name, self.counted, self.number = name, 0, 0
@@ -406,7 +413,8 @@ class Tape:
             self.counted += 1
 
     def end(self):
-        """The association is over: nothing may be left that was received and not due; of one that was not killed nothing is missing."""
+        """The association is over: nothing may be left that was received and not due; of one that was not
+        killed nothing is missing."""
         if not self.open:
             return
         self.open = False
@@ -506,7 +514,8 @@ def is_data(line):
 
 
 def scripted(journal, answers, states, out):
-    """A script that asks for the bytes of each order to an ASP, then runs the event, and asks for the state where it is wanted."""
+    """A script that asks for the bytes of each order to an ASP, then runs the event, and asks for the state
+    where it is wanted."""
     events = (line for line in journal if not line.startswith("#"))
     run, number = 0, 0
     for line, answer in zip(events, answers):

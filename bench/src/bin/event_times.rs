@@ -1,6 +1,7 @@
-//! Times events of the proved library against the hand-written second program, both in this one run, on the state where it lies. Each call is first
-//! checked to give the same on both sides: refusal, count, state, the whole list of words and the whole hold. Where an event changes the state and none
-//! of the same line changes it back, both sides also put it back, which takes some 40 ns: those lines have a star.
+//! Times events of the proved library against the hand-written second program, both in this one run, on the
+//! state where it lies. Each call is first checked to give the same on both sides: refusal, count, state, the
+//! whole list of words and the whole hold. Where an event changes the state and none of the same line changes
+//! it back, both sides also put it back, which takes some 40 ns: those lines have a star.
 use bench::holds::{full_hold, held_on_plan_s};
 use bench::lines::What;
 use bench::messages::{
@@ -149,7 +150,8 @@ fn with_units() {
     );
 }
 
-/// On the full plan with identifiers 0 to 127: every Active names all 16 ASes, with 254 ranges or 509 identifiers, the most that a message has.
+/// On the full plan with identifiers 0 to 127: every Active names all 16 ASes, with 254 ranges or 509
+/// identifiers, the most that a message has.
 fn with_ranges() {
     let up = message(3, 1, &[]);
     let ups: Vec<(u32, &[u8])> = (0..16).map(|p| (p, &up[..])).collect();
@@ -174,8 +176,9 @@ fn with_ranges() {
     messages("509 ids in no order", &[(idle, 0, &mixed)], 257);
 }
 
-/// On the same plan: lists of 500 identifiers and of 250 ranges of which a part succeeds. What is bad is missing, or of AS 15, where ASP 0 is no member; or the list is taken
-/// whole, and its last identifier is the bad one.
+/// On the same plan: lists of 500 identifiers and of 250 ranges of which a part succeeds. What is bad is
+/// missing, or of AS 15, where ASP 0 is no member; or the list is taken whole, and its last identifier is the
+/// bad one.
 fn in_part() {
     let up = message(3, 1, &[]);
     let ups: Vec<(u32, &[u8])> = (0..16).map(|p| (p, &up[..])).collect();
@@ -240,7 +243,8 @@ fn ranges_in_part(all: Gateway, some: Gateway) {
     ranges("250 ranges of all numbers", all, 258, |_| (0, u32::MAX));
 }
 
-/// The highest sequence number: for a high-speed link it goes to the link side, for a plain one it is Error 17.
+/// The highest sequence number: for a high-speed link it goes to the link side, for a plain one it is
+/// Error 17.
 fn with_sequence_numbers() {
     let (up, m) = (message(3, 1, &[]), sample_m());
     let fresh = load(&plan_s_with(HIGH_SPEED)).gateway;

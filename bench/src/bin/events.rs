@@ -1,6 +1,8 @@
-//! Generated histories of events, call by call through the proved library and through the second program: refusal, count, next state, the whole list
-//! of words and the whole hold must be the same, and a hold of another length must stay. So must all that is read of each event's message, and the
-//! state that each plan file gives, of the histories and of other generated plans. `events SEED LINES [KIND]`; KIND: event (where none is given), bytes, ranges, partly.
+//! Generated histories of events, call by call through the proved library and through the second program:
+//! refusal, count, next state, the whole list of words and the whole hold must be the same, and a hold of
+//! another length must stay. So must all that is read of each event's message, and the state that each plan
+//! file gives, of the histories and of other generated plans. `events SEED LINES [KIND]`; KIND: event (where
+//! none is given), bytes, ranges, partly.
 use bench::lines::{asked, generated_of, Call, Hold, Line};
 use bench::proved;
 use second::generate::Kind;
@@ -37,7 +39,8 @@ impl Tried {
         loaded.gateway
     }
 
-    /// An event, lent one hold by the proved library and the other by the second program; gives the next state.
+    /// An event, lent one hold by the proved library and the other by the second program; gives the next
+    /// state.
     fn call(&mut self, call: &Call, state: &Gateway, v: &mut Hold, w: &mut Hold) -> Gateway {
         let message = &call.message[..];
         self.expect(

@@ -1,7 +1,8 @@
-//! Times actions as bytes, of the proved library against the hand-written second program, both in this one run: one action and many of an event that is
-//! not kept, where the state is only read; and an event on the state where it lies with all its bytes, by one call. Each call is first checked to give the
-//! same on both sides: result, state, words, lengths and all bytes. A star as in event_times. With an older library linked (tools/measure/bench --old) the one
-//! call is timed against that one's two calls too, and a Beat alone.
+//! Times actions as bytes, of the proved library against the hand-written second program, both in this one
+//! run: one action and many of an event that is not kept, where the state is only read; and an event on the
+//! state where it lies with all its bytes, by one call. Each call is first checked to give the same on both
+//! sides: result, state, words, lengths and all bytes. A star as in event_times. With an older library linked
+//! (tools/measure/bench --old) the one call is timed against that one's two calls too, and a Beat alone.
 use bench::holds::{full_hold, held_on_plan_s};
 use bench::lines::{Call, What};
 use bench::messages::{
@@ -132,7 +133,8 @@ fn main() {
     timing::end();
 }
 
-/// Lists that succeed in part: their Acks, which list the 128 good ones, and from the message to the bytes of all answers, beside lists that are good.
+/// Lists that succeed in part: their Acks, which list the 128 good ones, and from the message to the bytes of
+/// all answers, beside lists that are good.
 fn in_part(ups: &[Call]) {
     let idle = after(load(&full_plan_of(128, 1)).gateway, ups);
     let met = (&idle, &EMPTY[..]);
@@ -248,7 +250,8 @@ fn whole(name: &str, hold: &[u8], calls: &[(Gateway, Call)], orders: u32) {
     against_old(name, &turns, v, w);
 }
 
-/// The same against the older version's two calls, which gives the same: the next state takes the place of the one before.
+/// The same against the older version's two calls, which gives the same: the next state takes the place of
+/// the one before.
 #[cfg(old)]
 fn against_old(name: &str, turns: &Turns, mut v: Lent, mut w: Lent) {
     use bench::old;

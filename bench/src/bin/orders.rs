@@ -1,8 +1,11 @@
-//! Actions as bytes, call by call through the proved library and through the second program. Of each event of generated histories every place is
-//! tried, with buffers of the message's length, one short, longer and of no byte, and so is the batch form from random places, with random lists and buffers,
-//! also against the single form. Then the event with all its bytes by one call, against the event and the batch, and against the second program's; and the same with a room that is short,
-//! which is refused (103) and changes nothing. Results and all bytes and lengths, with guards around what is lent, must be the same. `orders SEED LINES [KIND]`; KIND: event, bytes (where none is given, half of the
-//! lines are of each), ranges, partly.
+//! Actions as bytes, call by call through the proved library and through the second program. Of each event of
+//! generated histories every place is tried, with buffers of the message's length, one short, longer and of
+//! no byte, and so is the batch form from random places, with random lists and buffers, also against the
+//! single form. Then the event with all its bytes by one call, against the event and the batch, and against
+//! the second program's; and the same with a room that is short, which is refused (103) and changes nothing.
+//! Results and all bytes and lengths, with guards around what is lent, must be the same.
+//! `orders SEED LINES [KIND]`; KIND: event, bytes (where none is given, half of the lines are of each),
+//! ranges, partly.
 use bench::lines::{asked, generated_of, Call, Hold, Line};
 use bench::proved::{self, Batch, Written};
 use second::bytes::{MAX_ORDERS, ROOM_BYTES};
@@ -189,7 +192,8 @@ impl Tried {
         self.expect(place == count, call, "host's last place", place, room);
     }
 
-    /// The event with all its bytes by one call: the state, the hold and the words of the event alone, and the bytes of the batch.
+    /// The event with all its bytes by one call: the state, the hold and the words of the event alone, and
+    /// the bytes of the batch.
     fn whole(
         &mut self,
         call: &Call,

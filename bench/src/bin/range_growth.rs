@@ -1,5 +1,6 @@
-//! How the time of an Active grows with the number of its ranges, with their width and with the links of the plan, by the proved library and by the second
-//! program. ASP 0 is active in all 16 ASes already, so that every message gives its Ack and changes nothing: what grows is reading it and finding the owners.
+//! How the time of an Active grows with the number of its ranges, with their width and with the links of the
+//! plan, by the proved library and by the second program. ASP 0 is active in all 16 ASes already, so that
+//! every message gives its Ack and changes nothing: what grows is reading it and finding the owners.
 use bench::messages::{active_of, active_of_ranges, message};
 use bench::plans::full_plan_of;
 use bench::{proved, timing};

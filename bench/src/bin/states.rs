@@ -1,5 +1,6 @@
-//! States that break one condition of soundness each, field by field: the proved library's verdict against the expected one; and every value that
-//! matters in every entry of every field, against the second program's verdict.
+//! States that break one condition of soundness each, field by field: the proved library's verdict against
+//! the expected one; and every value that matters in every entry of every field, against the second program's
+//! verdict.
 use bench::holds::full_hold;
 use bench::plans::{full_plan, plan_s};
 use bench::proved;
@@ -73,7 +74,8 @@ const KEEPS: &[Break] = &[
     ("an AS without members", |g| g.member[16 + 2] = 0),
 ];
 
-/// Each breaks one condition alone on that state with AS 1 waiting and two units of link 200, of which the second has a correlation id.
+/// Each breaks one condition alone on that state with AS 1 waiting and two units of link 200, of which the
+/// second has a correlation id.
 const HELD_BREAKS: &[Break] = &[
     ("units and not waiting", |g| g.waiting[1] = 0),
     ("a unit of an AS with an active member", |g| {

@@ -1,9 +1,11 @@
-//! Demand 3 as a run beside its proof: histories of the proved library with random allowed trades. Every event must hand back the same refusal, count and
-//! orders as before the trades, the last state must be the same in every field and the last hold in every byte, and what lies outside an event's reach must be as
-//! it was. Reach is the second program's. `trades SEED LINES [KIND] [second]`; KIND: event (where none is given), bytes, ranges, partly;
-//! with the last word, histories of the second program.
+//! Demand 3 as a run beside its proof: histories of the proved library with random allowed trades. Every
+//! event must hand back the same refusal, count and orders as before the trades, the last state must be the
+//! same in every field and the last hold in every byte, and what lies outside an event's reach must be as it
+//! was. Reach is the second program's. `trades SEED LINES [KIND] [second]`; KIND: event (where none is
+//! given), bytes, ranges, partly; with the last word, histories of the second program.
 //!
-//! Trades that are not allowed are made too, on copies, and counted where they change something: so the comparison is seen to fail where it should.
+//! Trades that are not allowed are made too, on copies, and counted where they change something: so the
+//! comparison is seen to fail where it should.
 use bench::lines::{asked, generated_of, Call, Line};
 use second::generate::{Kind, Rng};
 use second::{load, Gateway, HOLD_BYTES};
@@ -99,8 +101,8 @@ fn held_same(a: usize, x: &World, y: &World) -> bool {
         && x.hold[bytes.clone()] == y.hold[bytes]
 }
 
-/// What lies outside an event's reach is as it was: the plan, the other ASes with their links, what they hold and the up flags of their members, link places
-/// beyond the plan, other ASPs.
+/// What lies outside an event's reach is as it was: the plan, the other ASes with their links, what they hold
+/// and the up flags of their members, link places beyond the plan, other ASPs.
 fn untouched(call: &Call, old: &World, new: &World) -> bool {
     let (before, after) = (&old.state, &new.state);
     let reached = reach(call, before);

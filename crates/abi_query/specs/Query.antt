@@ -1,4 +1,5 @@
--- What a host asks beside the events: a parameter of a message, the state of an AS, the place of a link, and which recovery times to start and to stop.
+-- What a host asks beside the events: a parameter of a message, the state of an AS, the place of a link, and
+-- which recovery times to start and to stop.
 -- Assumes nothing.
 use Prim.Native.Nat.{ℕ}
 use mathlib.Core.Bool.{Bool, cond, not, _&&_}
@@ -42,6 +43,7 @@ linkPlace g x = cond (not (isSound g)) (unanswered 105) (cond (isKnown g x) (ans
 unfoldable pub newIn : List ℕ → List ℕ → List ℕ
 newIn x y = tabulate 16 (λ a. one (isSet x a && not (isSet y a)))
 
--- of the columns of waiting ASes before and after an event: those that wait after and not before, and those that waited before and no longer do (Rule 5.19)
+-- of the columns of waiting ASes before and after an event: those that wait after and not before, and those
+-- that waited before and no longer do (Rule 5.19)
 unfoldable pub waits : List ℕ → List ℕ → Waits
 waits before after = record { began = newIn after before; ended = newIn before after }

@@ -1,4 +1,5 @@
-// What a host asks beside the events, over the C ABI: a parameter of a message, the state of an AS, the place of a link, which recovery times to start and to stop.
+// What a host asks beside the events, over the C ABI: a parameter of a message, the state of an AS, the place
+// of a link, which recovery times to start and to stop.
 use codec_read::DataAt;
 use codec_wire::HEADER;
 ghost use mathlib.Core.Path.{_≡_};
@@ -14,7 +15,8 @@ const NOT_SOUND: u32 = 105;
 
 const NOT_IN_PLAN: u32 = 102;
 
-// Where a parameter's value lies: found is 1, its first byte and the number of its bytes; zeros where there is no such parameter.
+// Where a parameter's value lies: found is 1, its first byte and the number of its bytes; zeros where there
+// is no such parameter.
 #[repr(C)]
 pub struct ParamAt {
     pub found: u32,
@@ -36,7 +38,8 @@ pub struct Waits {
     pub ended: [u8; 16],
 }
 
-// The version of the entries that this library has: raised by each change of a struct, a limit or a signature (include/m2ua.h, M2UA_ABI).
+// The version of the entries that this library has: raised by each change of a struct, a limit or a signature
+// (include/m2ua.h, M2UA_ABI).
 #[no_mangle]
 pub extern "C" fn m2ua_abi() -> u32
     ensures { λ r. ⌜ r ≡ 5 ⌝ }

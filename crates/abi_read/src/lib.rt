@@ -1,7 +1,7 @@
-// The public entries for reading messages and loading plans over the C ABI, for hosts in C and Rust (include/m2ua.h). Thin: each calls the entry of its name
-// and promises the same. (The writer is exported by crate abi_write, the events by crate event_run: in one archive with them the reader would not be compiled
-// into its one caller.)
-// A slice is passed as a pointer and a length, a struct by value.
+// The public entries for reading messages and loading plans over the C ABI, for hosts in C and Rust
+// (include/m2ua.h). Thin: each calls the entry of its name and promises the same. (The writer is exported by
+// crate abi_write, the events by crate event_run: in one archive with them the reader would not be compiled
+// into its one caller.) A slice is passed as a pointer and a length, a struct by value.
 use codec_read::Reading;
 use state_plan::Loaded;
 ghost use mathlib.Core.Path.{_≡_};

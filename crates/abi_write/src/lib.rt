@@ -1,9 +1,11 @@
-// The writer over the C ABI, for hosts in C and Rust (include/m2ua.h): it calls the entry of its name and promises the same. It has an archive of its own:
-// in one with the reader, which asks the same of each parameter, that question would not be compiled into the reader.
+// The writer over the C ABI, for hosts in C and Rust (include/m2ua.h): it calls the entry of its name and
+// promises the same. It has an archive of its own: in one with the reader, which asks the same of each
+// parameter, that question would not be compiled into the reader.
 use codec_write::Written;
 ghost use Rattle.codec_write.specs.Write.{Writes};
 
-// Writes the message of a class, a type and a list of tags and values: the tags, the lengths of the values, and the values one after the other.
+// Writes the message of a class, a type and a list of tags and values: the tags, the lengths of the values,
+// and the values one after the other.
 #[no_mangle]
 pub extern "C" fn m2ua_write(
     class: u8,

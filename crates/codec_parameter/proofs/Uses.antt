@@ -13,7 +13,8 @@ use Rattle.codec_parameter.specs.Inner.Slot.{usageOf}
 use Rattle.codec_parameter.specs.Value.{oneId, idCode}
 use Rattle.codec_parameter.specs.Check.{textCode, onceCode, tagCode, allowedCode}
 
--- what is said of a usage can be asked of its number, if it is so of the numbers 0, 2 and 3, and of all others as of an optional tag
+-- what is said of a usage can be asked of its number, if it is so of the numbers 0, 2 and 3, and of all
+-- others as of an optional tag
 by-number : {X : Type 0} (f : Usage → X) (g : ℕ → X) → f forbidden ≡ g 0 → f mandatory ≡ g 2 → f repeated ≡ g 3
     → (u : ℕ) → ((u ≡ 0 → ⊥) → (u ≡ 2 → ⊥) → (u ≡ 3 → ⊥) → f optional ≡ g u) → f (usageOf u) ≡ g u
 unfolding usageOf

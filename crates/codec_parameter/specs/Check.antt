@@ -8,14 +8,16 @@ use Rattle.laws.specs.Choice.{_orElse_}
 use Rattle.codec_parameter.specs.Table.{Usage, forbidden, optional, mandatory, repeated}
 use Rattle.codec_parameter.specs.Value.{bodyCode}
 
--- a text identifier (Rule 2.13), where identifiers stand in the message as said: among ids 8; in class 6, 8 at the first place alone; else 19
+-- a text identifier (Rule 2.13), where identifiers stand in the message as said: among ids 8; in class 6, 8
+-- at the first place alone; else 19
 unfoldable pub textCode : Usage → Bool → ℕ
 textCode forbidden first = 19
 textCode optional first = 19
 textCode mandatory first = cond first 8 19
 textCode repeated first = 8
 
--- a tag that comes once (Rule 2.14): `again` says that it was there before. 0x1 only as the first parameter (Rule 2.12)
+-- a tag that comes once (Rule 2.14): `again` says that it was there before. 0x1 only as the first parameter
+-- (Rule 2.12)
 abbrev pub onceCode : Bool → Bool → ℕ → ℕ
 onceCode first again t = cond again 19 (cond (eqb t 0x1) (cond first 0 19) 0)
 

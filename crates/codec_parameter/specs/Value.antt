@@ -10,7 +10,8 @@ use Rattle.codec_wire.specs.Number.{be}
 use Rattle.codec_parameter.specs.Table.{Usage, forbidden, optional, mandatory, repeated}
 use Rattle.codec_parameter.specs.declared.Limits.{Limits}
 
--- The lengths are those of the length field, which counts tag and length too; the limits are those of the value.
+-- The lengths are those of the length field, which counts tag and length too; the limits are those of the
+-- value.
 abbrev pub bytesOf : ℕ → ℕ → Limits
 bytesOf a b = record { least = a - 4; most = b - 4; word = false; low = 0; high = 0 }
 

@@ -44,7 +44,8 @@ pub struct Limits {
     pub high: u32,
 }
 
-// A row of the table, packed: two bits for each slot say how its tag may stand; three slots of five bits each are the mandatory ones.
+// A row of the table, packed: two bits for each slot say how its tag may stand; three slots of five bits each
+// are the mandatory ones.
 pub struct RowInfo {
     pub uses: u64,
     pub musts: u32,
@@ -63,7 +64,8 @@ pub fn class_ok(c: u8) -> bool
     }
 }
 
-// The row of a type in a class: four bits for each type are its place among the class's rows, 15 for none; base is the class's first row.
+// The row of a type in a class: four bits for each type are its place among the class's rows, 15 for none;
+// base is the class's first row.
 fn row_in(rows: u64, base: usize, t: u8) -> usize
     requires { ⌜ base < 17 ⌝ }
     ensures { λ r. ⌜ r ≡ rowBits rows base t ⌝ }
@@ -318,7 +320,8 @@ fn text_code(u: u64, first: bool) -> u32
     UNEXPECTED_PARAMETER
 }
 
-// May a parameter stand there (Rules 2.12 to 2.14)? u1 is how identifiers stand in the message, u how this tag does.
+// May a parameter stand there (Rules 2.12 to 2.14)? u1 is how identifiers stand in the message, u how this
+// tag does.
 fn allowed_code(u1: u64, u: u64, first: bool, again: bool, t: u16) -> u32
     ensures { λ r. ⌜ r ≡ allowedCode (usageOf u1) (usageOf u) first again t ⌝ }
 {
@@ -353,7 +356,8 @@ fn par_code(allowed: u32, u: u64, t: u16, v: &[u8]) -> u32
     allowed
 }
 
-// One parameter of a message of a row whose uses are packed: the first or not, its tag seen before or not, its slot, tag and value.
+// One parameter of a message of a row whose uses are packed: the first or not, its tag seen before or not,
+// its slot, tag and value.
 pub fn par_at(uses: u64, first: bool, again: bool, k: usize, t: u16, v: &[u8]) -> u32
     requires { ⌜ k < 32 ⌝ }
     ensures { λ r. ⌜ r ≡ parCode (packedUse uses 1) (packedUse uses k) first again t (now (v .entry)) ⌝ }

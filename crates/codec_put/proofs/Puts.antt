@@ -10,7 +10,8 @@ use Rattle.codec_put.specs.Bytes.{overlay, parSize, parBytes, parsBytes,
 use Rattle.codec_put.proofs.Round.{length-par}
 use Rattle.codec_put.proofs.Sets.{over-two, length-over}
 
--- what is known at the loop's head: out has the bytes written from a position on, and with those of the parameters left they are all
+-- what is known at the loop's head: out has the bytes written from a position on, and with those of the
+-- parameters left they are all
 pub record Puts (all : List Par) (out₀ : List ℕ) (from : ℕ) (out : List ℕ) (at : ℕ) (ps : List Par) : Type 0 where
   pub written : List ℕ
   pub out-is : out ≡ overlay out₀ from written

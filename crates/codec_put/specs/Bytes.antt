@@ -43,7 +43,8 @@ parsBytes (p ∷ ps) = parBytes p ++ parsBytes ps
 abbrev pub headBytes : ℕ → ℕ → ℕ → List ℕ
 headBytes c t n = 1 ∷ 0 ∷ c ∷ t ∷ bytes32 n
 
--- a parameter of the tag t and the value v is written over out at a position: the position after it, and the whole buffer
+-- a parameter of the tag t and the value v is written over out at a position: the position after it, and the
+-- whole buffer
 pub record PutAt (out : List ℕ) (at t : ℕ) (v : List ℕ) (r : ℕ) (out′ : List ℕ) : Type 0 where
   pub next : r ≡ at + parSize (length v)
   pub bytes : out′ ≡ overlay out at (parBytes (par t v))

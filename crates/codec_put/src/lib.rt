@@ -1,4 +1,5 @@
-// Writes numbers, one parameter and the message header into a buffer. Each promise is an equation on the whole buffer.
+// Writes numbers, one parameter and the message header into a buffer. Each promise is an equation on the
+// whole buffer.
 ghost use mathlib.Core.Path.{_≡_};
 ghost use mathlib.Core.List.{_++_};
 ghost use Prim.Native.Nat.{_+_, _≤_, _<_};
@@ -23,8 +24,8 @@ pub fn put32(out: &mut [u8], at: usize, n: u32)
     put16(out, at + 2, (n % 65536) as u16);
 }
 
-// At most 2,048 bytes, written from a position on. They go through a block, which no other bytes overlap: so the compiler makes one move of the
-// two loops, and no block.
+// At most 2,048 bytes, written from a position on. They go through a block, which no other bytes overlap: so
+// the compiler makes one move of the two loops, and no block.
 fn put_block(out: &mut [u8], at: usize, v: &[u8])
     requires { ⌜ (length (now v) ≤ 2048) × (at + length (now v) ≤ length (now out)) ⌝ }
     ensures { λ _. ⌜ now (out .exit) ≡ overlay (now (out .entry)) at (now (v .entry)) ⌝ }
@@ -54,7 +55,8 @@ fn put_each(out: &mut [u8], at: usize, v: &[u8])
     }
 }
 
-// Four bytes, written from a position on: most values are one number. All are read before one is written, so that the compiler moves them at once.
+// Four bytes, written from a position on: most values are one number. All are read before one is written, so
+// that the compiler moves them at once.
 fn put_four(out: &mut [u8], at: usize, v: &[u8])
     requires { ⌜ (length (now v) ≡ 4) × (at + length (now v) ≤ length (now out)) ⌝ }
     ensures { λ _. ⌜ now (out .exit) ≡ overlay (now (out .entry)) at (now (v .entry)) ⌝ }

@@ -1,4 +1,5 @@
--- A Data message that reads has protocol data that is good to hold. And a correlation id stands only where one is marked.
+-- A Data message that reads has protocol data that is good to hold. And a correlation id stands only where
+-- one is marked.
 -- Assumes nothing.
 use mathlib.Core.Path.{_≡_, refl, sym, ap, _∙_}
 use mathlib.Core.Bool.{Bool, true, false, cond, _||_, false≢true}

@@ -1,4 +1,5 @@
--- A message without parameters is refused exactly where its row has a mandatory one, so those of the classes 3 and 4 are accepted.
+-- A message without parameters is refused exactly where its row has a mandatory one, so those of the classes
+-- 3 and 4 are accepted.
 -- Assumes nothing.
 use mathlib.Core.Path.{_≡_, refl, sym, ap, _∙_}
 use mathlib.Core.Bool.{Bool, Bool·beq, true, false, cond, not, _&&_, _||_, false≢true}

@@ -46,7 +46,8 @@ forbidden-again : (u₁ u : Usage) (first a b : Bool) (t : ℕ) → u ≡ forbid
 unfolding allowedCode
 forbidden-again u₁ u first a b t e = rw e refl
 
--- a parameter is checked by its slot: where the tag may not stand, it does not matter whether it was there before
+-- a parameter is checked by its slot: where the tag may not stand, it does not matter whether it was there
+-- before
 pub check-slot : (i t : ℕ) (first : Bool) (ps : List Par) (v : List ℕ)
     → parCode (usage i 0x1) (usage i t) first (has t ps) t v ≡ parCode (usage i 0x1) (usage i t) first (there (slot t) ps) t v
 unfolding parCode

@@ -1,4 +1,5 @@
--- A turn of a loop over parameters, for the reader's walk and for the writer's list: from the parameters passed to one more, to a refusal, and to the end.
+-- A turn of a loop over parameters, for the reader's walk and for the writer's list: from the parameters
+-- passed to one more, to a refusal, and to the end.
 -- Assumes nothing.
 use mathlib.Core.Path.{_≡_, refl, sym, ap, _∙_}
 use mathlib.Core.Bool.{Bool, true, false, cond}
@@ -31,8 +32,8 @@ unfolding isNone
 is-none-last [] p = refl
 is-none-last (q ∷ ps) p = refl
 
--- What is known at the loop's head, in a message whose row is i and whose parameters are all: ps are those left, the tables say what those
--- passed are, and the rest decides as the whole.
+-- What is known at the loop's head, in a message whose row is i and whose parameters are all: ps are those
+-- left, the tables say what those passed are, and the rest decides as the whole.
 pub record Head (i : ℕ) (all : List Par) (met : List Bool) (words : List ℕ) (first : Bool) (ps : List Par) : Type 0 where
   pub passed : List Par
   pub seen : Seen met words passed
@@ -118,7 +119,8 @@ or-zero (suc a) b ne e = omega arith
 abbrev pub rowOf : List ℕ → ℕ
 rowOf s = rowIn table (getD s 2 0) (getD s 3 0)
 
--- The reader's loop, at a position of the message s: the parameters left are those that the walk finds from there on.
+-- The reader's loop, at a position of the message s: the parameters left are those that the walk finds from
+-- there on.
 pub record Walked (s : List ℕ) (met : List Bool) (words : List ℕ) (first : Bool) (at : ℕ) : Type 0 where
   pub here : Head (rowOf s) (walk s 8 .pars) met words first (walk s at .pars)
   pub same-code : walk s at .code ≡ walk s 8 .code

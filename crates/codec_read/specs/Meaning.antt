@@ -63,7 +63,8 @@ outcome n s = cond (eqb n 0) (meaning (getD s 2 0) (getD s 3 0) (walk s 8 .pars)
 unfoldable pub readingOf : List ℕ → Reading
 readingOf s = outcome (verdict s) s
 
--- The sequence number that reading gives: only a Retrieval Request and a Retrieval Confirm have one, within its limits (Rules 2.16, 2.17); where none is given it is 0.
+-- The sequence number that reading gives: only a Retrieval Request and a Retrieval Confirm have one, within
+-- its limits (Rules 2.16, 2.17); where none is given it is 0.
 pub record SequenceNumber (r : Reading) : Type 0 where
   pub only : r .sequenced ≡ 1 → (isRetrievalRequest (r .class) (r .msgtype) || isRetrievalConfirm (r .class) (r .msgtype)) ≡ true
   pub most : r .sequence ≤ limitsOf 0x307 .high
@@ -77,8 +78,8 @@ unfoldable pub bodyIn : ℕ → List Par → List ℕ
 bodyIn t [] = []
 bodyIn t (p ∷ ps) = cond (eqb (key (p .tag)) (key t)) (p .body) (bodyIn t ps)
 
--- the first parameter that has one of two tags, if the first of all stands at a position: that there is one, its tag,
--- and where its value lies
+-- the first parameter that has one of two tags, if the first of all stands at a position: that there is one,
+-- its tag, and where its value lies
 unfoldable pub foundIn : ℕ → ℕ → ℕ → List Par → Found
 foundIn t u at [] = record { found = 0; tag = 0; start = 0; length = 0 }
 foundIn t u at (p ∷ ps) =

@@ -1,4 +1,5 @@
--- The reader's samples that are proved (Rule 11.3), as one claim. It is a part of the claim on all proved samples, in the crate rules_event.
+-- The reader's samples that are proved (Rule 11.3), as one claim. It is a part of the claim on all proved
+-- samples, in the crate rules_event.
 -- Assumes nothing.
 use mathlib.Core.Path.{_≡_}
 use mathlib.Core.List.{List, [], _∷_}

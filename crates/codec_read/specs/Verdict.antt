@@ -1,4 +1,5 @@
--- The verdict on a message: the checks of Rules 2.1 to 2.8 in this order. A check gives its number, or 0 where it finds nothing.
+-- The verdict on a message: the checks of Rules 2.1 to 2.8 in this order. A check gives its number, or 0
+-- where it finds nothing.
 -- Assumes nothing.
 use Prim.Native.Nat.{ℕ, zero, suc, _+_, _%_}
 use mathlib.Core.Bool.{Bool, true, false, cond, not, _&&_, _||_}

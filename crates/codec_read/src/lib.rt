@@ -148,8 +148,9 @@ fn sequence_code(c: u8, t: u8, retrieval: u32, result: u32, given: bool) -> u32
     0
 }
 
-// The meaning of an accepted message, from the slots met and the numbers seen. The state is read ahead of the branches (finish): read here, the
-// compiler would load it together with the correlation id, across two stores, which takes 5 ns.
+// The meaning of an accepted message, from the slots met and the numbers seen. The state is read ahead of the
+// branches (finish): read here, the compiler would load it together with the correlation id, across two
+// stores, which takes 5 ns.
 fn meaning_at(c: u8, t: u8, state: u32, met: &[bool; 32], words: &[u32; 32]) -> Reading
     requires { ⌜ state ≡ getD (now words) (slot 0x302) 0 ⌝ }
     ensures { λ r. ⌜ r ≡ meaningAt c t (now (met .entry)) (now (words .entry)) ⌝ }
@@ -310,7 +311,8 @@ fn row_code(listed: bool, row: usize, n: u32, len: usize) -> u32
     0
 }
 
-// The checks 3 to 8, of what the checks 3 to 5 gave and the row. (One refusal for the three: so the message's fields stay in registers.)
+// The checks 3 to 8, of what the checks 3 to 5 gave and the row. (One refusal for the three: so the message's
+// fields stay in registers.)
 fn read_row(code: u32, row: usize, s: &[u8]) -> Reading
     requires { ⌜ (8 ≤ length (now s)) × ((code ≡ 0 → row < 17) × (row ≡ rowIn table (getD (now s) 2 0) (getD (now s) 3 0))) ⌝ }
     ensures { λ r. ⌜ r ≡ rowOutcome code (now (s .entry)) ⌝ }
@@ -381,8 +383,8 @@ fn bare(c: u8, t: u8) -> Reading
     r
 }
 
-// Reads a message: its verdict, and of an accepted one what it means. Up, Down, Active and Beat often have no parameter; asked for ahead of all checks, these
-// need few registers and no table.
+// Reads a message: its verdict, and of an accepted one what it means. Up, Down, Active and Beat often have no
+// parameter; asked for ahead of all checks, these need few registers and no table.
 pub fn read(s: &[u8]) -> Reading
     ensures { λ r. ⌜ r ≡ readingOf (now (s .entry)) ⌝ }
 {
@@ -392,14 +394,16 @@ pub fn read(s: &[u8]) -> Reading
     read_checks(s)
 }
 
-// Where the protocol data of a message lies: its first byte and the number of its bytes; both 0 where there is none.
+// Where the protocol data of a message lies: its first byte and the number of its bytes; both 0 where there
+// is none.
 #[repr(C)]
 pub struct DataAt {
     pub start: usize,
     pub length: usize,
 }
 
-// A parameter of a message: whether there is one, its tag, and where its value lies; all 0 where there is none.
+// A parameter of a message: whether there is one, its tag, and where its value lies; all 0 where there is
+// none.
 pub struct Found {
     pub found: u32,
     pub tag: u16,
@@ -436,7 +440,8 @@ pub fn find(s: &[u8], from: usize, t: u16, u: u16) -> Found
     }
 }
 
-// The protocol data of a message, the SS7 signalling unit: the value of the first 0x300 or 0x301 (Rule 1.7), and which of the two it is.
+// The protocol data of a message, the SS7 signalling unit: the value of the first 0x300 or 0x301 (Rule 1.7),
+// and which of the two it is.
 pub fn data_unit(s: &[u8]) -> Found
     ensures { λ r. ⌜ (r .tag ≡ dataTag (now (s .entry))) × (r .start ≡ dataAt (now (s .entry)) .start) × (r .length ≡ dataAt (now (s .entry)) .length) ⌝ }
 {

@@ -1,7 +1,8 @@
 -- A reading place taken apart: what the proofs of its functions share.
 --     B         the struct's type, over the signature's lifetimes
 --     Own, Msg  what the place d owns, and what its message owns
---     opened    The struct is Copy: what it owns is had twice. One copy is kept whole, and of the other what the message owns is left.
+--     opened    The struct is Copy: what it owns is had twice. One copy is kept whole, and of the other what
+--               the message owns is left.
 -- `opened` takes `Given`. The rest assumes nothing.
 use mathlib.Core.Path.{_≡_}
 use mathlib.Core.List.{[], _∷_}

@@ -13,7 +13,8 @@ use Rattle.codec_wire.specs.declared.Step.the-variants.{Param, End, Faul
 abbrev pub padded : ℕ → ℕ
 padded n = (n + 3) / 4 * 4
 
--- What stands at a position (Rules 1.3 and 1.5): the end, a fault, or a parameter with its tag, its length field and the position behind its padding.
+-- What stands at a position (Rules 1.3 and 1.5): the end, a fault, or a parameter with its tag, its length
+-- field and the position behind its padding.
 unfoldable pub stepAt : List ℕ → ℕ → Step
 stepAt s at =
     cond (leb (length s) at) End
@@ -39,7 +40,8 @@ pub record Walk : Type 0 where
   pub pars : List Par
   pub code : ℕ
 
--- one reading, and the walk from the next position on. A value lies behind tag and length, without the padding (Rule 1.6).
+-- one reading, and the walk from the next position on. A value lies behind tag and length, without the
+-- padding (Rule 1.6).
 abbrev pub onStep : List ℕ → ℕ → Step → (ℕ → Walk) → Walk
 onStep s at (Param t l n) rest =
     record { pars = record { tag = t; body = take (l - 4) (drop (at + 4) s) } ∷ rest n .pars; code = rest n .code }
@@ -55,7 +57,8 @@ walkF (suc f) s at = onStep s at (stepAt s at) (walkF f s)
 unfoldable pub walk : List ℕ → ℕ → Walk
 walk s at = walkF (suc (length s - at)) s at
 
--- the value of the parameter at a position, whose length field is len; nothing where it does not lie within the message (Rule 1.6)
+-- the value of the parameter at a position, whose length field is len; nothing where it does not lie within
+-- the message (Rule 1.6)
 unfoldable pub partOf : List ℕ → ℕ → ℕ → List ℕ
 partOf s at len =
     cond (ltb len 4) []

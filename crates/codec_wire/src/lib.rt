@@ -31,7 +31,8 @@ pub const UNEXPECTED_PARAMETER: u32 = 19;
 
 pub const MISSING_PARAMETER: u32 = 22;
 
-// What stands at a position of a message: a parameter with the position after its padding, the end, or a fault.
+// What stands at a position of a message: a parameter with the position after its padding, the end, or a
+// fault.
 pub enum Step {
     Param { tag: u16, len: u16, next: usize },
     End,
@@ -116,7 +117,8 @@ pub fn walk_code(s: &[u8], from: usize) -> u32
     }
 }
 
-// The value of the parameter at a position whose length field is len, as a part of the message; nothing where it is not there.
+// The value of the parameter at a position whose length field is len, as a part of the message; nothing where
+// it is not there.
 pub fn part_at(s: &[u8], at: usize, len: usize) -> &[u8]
     ensures { λ r. ⌜ now r ≡ partOf (now (s .entry)) at len ⌝ }
 {
@@ -132,7 +134,8 @@ pub fn part_at(s: &[u8], at: usize, len: usize) -> &[u8]
     &s[at + 4..at + len]
 }
 
-// A reading place: the message and the position in it, together. The functions over it are thin: they take it apart and call those above.
+// A reading place: the message and the position in it, together. The functions over it are thin: they take it
+// apart and call those above.
 pub struct Place<'a> {
     pub msg: &'a [u8],
     pub at: usize,
@@ -152,7 +155,8 @@ pub fn reading<'a>(p: Place<'a>) -> Step
     step_at(p.msg, p.at)
 }
 
-// The value of the parameter at the place, whose length field is len, as a part of the message; nothing where it is not there.
+// The value of the parameter at the place, whose length field is len, as a part of the message; nothing where
+// it is not there.
 pub fn value<'a>(p: Place<'a>, len: usize) -> &'a [u8]
     ensures { λ r. ⌜ now r ≡ partOf (now (p .entry .msg)) (p .entry .at) len ⌝ }
 {

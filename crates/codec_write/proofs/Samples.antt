@@ -16,7 +16,8 @@ sample-m : encode 4 1 (parsIn (0xb ∷ 0x8 ∷ []) (4 ∷ 8 ∷ []) (0 ∷ 0 ∷
 unfolding encode sizeOf parsIn parsBytes parBytes
 sample-m = refl
 
--- an Up with a spare byte of 0xee, an info string of one byte whose padding is 0xaa, 0xbb, 0xcc, and an ASP identifier behind it
+-- an Up with a spare byte of 0xee, an info string of one byte whose padding is 0xaa, 0xbb, 0xcc, and an ASP
+-- identifier behind it
 sample-plain : plain (1 ∷ 0xee ∷ 3 ∷ 1 ∷ 0 ∷ 0 ∷ 0 ∷ 0x18 ∷ 0 ∷ 4 ∷ 0 ∷ 5 ∷ 0x41 ∷ 0xaa ∷ 0xbb ∷ 0xcc ∷ 0 ∷ 0x11 ∷ 0 ∷ 8 ∷ 9 ∷ 9 ∷ 9 ∷ 9 ∷ [])
     ≡ 1 ∷ 0 ∷ 3 ∷ 1 ∷ 0 ∷ 0 ∷ 0 ∷ 0x18 ∷ 0 ∷ 4 ∷ 0 ∷ 5 ∷ 0x41 ∷ 0 ∷ 0 ∷ 0 ∷ 0 ∷ 0x11 ∷ 0 ∷ 8 ∷ 9 ∷ 9 ∷ 9 ∷ 9 ∷ []
 unfolding plain isPadding tabulate walk walkF stepAt be

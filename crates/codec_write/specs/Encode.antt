@@ -12,8 +12,8 @@ use Rattle.codec_put.specs.Bytes.{par, headBytes, parsBytes}
 unfoldable pub sizeOf : List Par → ℕ
 sizeOf ps = 8 + length (parsBytes ps)
 
--- The message of a class, a type and a list (Rule 3.1). It is defined for every list: one with a value that a length of 16 bits cannot say is refused
--- for its size (Rule 3.4).
+-- The message of a class, a type and a list (Rule 3.1). It is defined for every list: one with a value that a
+-- length of 16 bits cannot say is refused for its size (Rule 3.4).
 unfoldable pub encode : ℕ → ℕ → List Par → List ℕ
 encode c t ps = headBytes c t (sizeOf ps) ++ parsBytes ps
 

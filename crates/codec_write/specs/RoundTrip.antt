@@ -15,7 +15,8 @@ use Rattle.codec_write.specs.Encode.{encode, parsIn, whole, tagsOf, lens
 use Rattle.codec_write.specs.Write.{Writes}
 use Rattle.codec_write.specs.declared.Written.{Written}
 
--- a message s reads as the list ps (Rule 3.6): the walk finds ps and no fault, the verdict is 0, and the meaning is that of ps
+-- a message s reads as the list ps (Rule 3.6): the walk finds ps and no fault, the verdict is 0, and the
+-- meaning is that of ps
 pub record ReadsBack (c t : ℕ) (ps : List Par) (s : List ℕ) : Type 0 where
   pub walked : walk s 8 ≡ record { pars = ps; code = 0 }
   pub accepted : verdict s ≡ 0
@@ -23,8 +24,8 @@ pub record ReadsBack (c t : ℕ) (ps : List Par) (s : List ℕ) : Type 0 where
 
 -- ---- a message with zeros where the reader does not look (Rule 3.7)
 
--- the position i is padding of one of the parameters ps, which stand one after the other from the position `at` on: it lies behind the parameter's
--- length and before its padded end
+-- the position i is padding of one of the parameters ps, which stand one after the other from the position
+-- `at` on: it lies behind the parameter's length and before its padded end
 unfoldable pub isPadding : ℕ → List Par → ℕ → Bool
 isPadding at [] i = false
 isPadding at (p ∷ ps) i =
@@ -39,8 +40,8 @@ plain s = tabulate (length s) (λ i. cond (eqb i 1 || isPadding 8 (walk s 8 .par
 pub record Bytes (s : List ℕ) : Type 0 where
   pub below : (i : ℕ) → i < length s → getD s i 0 < 256
 
--- of a message s that was read: the encoding of its class, type and parameters is s with spare and padding zeroed; the two have the same length, and
--- the encoding is accepted too
+-- of a message s that was read: the encoding of its class, type and parameters is s with spare and padding
+-- zeroed; the two have the same length, and the encoding is accepted too
 pub record WritesBack (s : List ℕ) : Type 0 where
   pub same : encode (getD s 2 0) (getD s 3 0) (walk s 8 .pars) ≡ plain s
   pub same-length : length (encode (getD s 2 0) (getD s 3 0) (walk s 8 .pars)) ≡ length s
@@ -68,8 +69,8 @@ ReadingGivesList =
 abbrev pub WritingGivesBytes : Type 0
 WritingGivesBytes = (s : List ℕ) → Bytes s → verdict s ≡ 0 → WritesBack s
 
--- The same of `write`: it is given the class and type of a message s that reads, a whole list of the parameters that the walk over s finds, and a
--- buffer that is not shorter than s.
+-- The same of `write`: it is given the class and type of a message s that reads, a whole list of the
+-- parameters that the walk over s finds, and a buffer that is not shorter than s.
 abbrev pub WriteGivesBytes : Type 0
 WriteGivesBytes =
     (s ts ns vs out : List ℕ) (r : Written) (out′ : List ℕ) → Bytes s → verdict s ≡ 0 → whole ts ns vs ≡ true → parsIn ts ns vs ≡ walk s 8 .pars → length s ≤ length out

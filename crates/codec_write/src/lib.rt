@@ -28,7 +28,8 @@ pub struct Written {
     pub length: usize,
 }
 
-// The length of the message of a whole list; 0 where the list is not whole or the message is over 2,048 bytes.
+// The length of the message of a whole list; 0 where the list is not whole or the message is over 2,048
+// bytes.
 fn size_of(tags: usize, lens: &[u32], values: usize) -> usize
     ensures { λ r. ⌜ r ≡ sizeIf tags (now (lens .entry)) values ⌝ }
 {
@@ -211,8 +212,8 @@ fn code_of(size: usize, class: u8, msgtype: u8, tags: &[u16], lens: &[u32], valu
     )
 }
 
-// Writes the message of a class, a type and a list of tags and values at the start of a buffer. The list is lent as the tags, the lengths of the
-// values, and the values one after the other.
+// Writes the message of a class, a type and a list of tags and values at the start of a buffer. The list is
+// lent as the tags, the lengths of the values, and the values one after the other.
 pub fn write(
     class: u8,
     msgtype: u8,

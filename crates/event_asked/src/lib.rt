@@ -1,4 +1,5 @@
-// What an event asks of the gateway, its message read, and whether it is refused: for the events and for reach alike.
+// What an event asks of the gateway, its message read, and whether it is refused: for the events and for
+// reach alike.
 use codec_read::Reading;
 use rules_event::Link;
 ghost use mathlib.Core.Path.{_≡_};
@@ -147,7 +148,8 @@ fn is_known(ask: Ask, asps: usize, ases: usize, there: bool, k: Link) -> bool
     }
 }
 
-// The refusal of an event, or 0: `sound` says that the state is, `hold` and `room` are the lengths of what is lent.
+// The refusal of an event, or 0: `sound` says that the state is, `hold` and `room` are the lengths of what is
+// lent.
 pub fn refused(
     sound: bool,
     asps: u8,
@@ -188,7 +190,8 @@ fn ask_of(p: usize, t: u32, error: bool, read: Reading) -> Ask
     Ask::Other(p, read, error)
 }
 
-// An event that has a message: of ASP p, or of the link side. Read in this one place, the reader is compiled into it.
+// An event that has a message: of ASP p, or of the link side. Read in this one place, the reader is compiled
+// into it.
 fn ask_message(kind: u32, p: usize, msg: &[u8]) -> Ask
     requires { ⌜ (eqb kind 0 || eqb kind 5) ≡ true ⌝ }
     ensures { λ r. ⌜ Asks kind p (now (msg .entry)) r ⌝ }

@@ -33,7 +33,8 @@ const PLAIN_MOST: u32 = 127;
 
 // ---- records (Rule 5.27)
 
-// The link at l of a whole state, for who does not hold it for an event. (Who does reads the places itself: a state that is passed is copied.)
+// The link at l of a whole state, for who does not hold it for an event. (Who does reads the places itself: a
+// state that is passed is copied.)
 pub fn link_at(g: Gateway, l: usize) -> Link
     requires { ⌜ l < 128 ⌝ }
     ensures { λ r. ⌜ r ≡ linkAt g l ⌝ }
@@ -162,7 +163,8 @@ fn link_work(p: usize, x: u32, l: usize, k: Link, r: Reading) -> Decision
     event_decision::nothing()
 }
 
-// A message of class 6 that ASPs send: the questions of Rule 7.14, of the link that it names; there says that there is such a link.
+// A message of class 6 that ASPs send: the questions of Rule 7.14, of the link that it names; there says that
+// there is such a link.
 pub fn class_six(there: bool, p: usize, l: usize, k: Link, s: Sender, r: Reading) -> Decision
     requires { ⌜ (p < 16) × (l < 128) ⌝ }
     ensures { λ w. ⌜ Decides w (classSixOn there p l k s r) ⌝ }
@@ -260,7 +262,8 @@ fn from_link(k: u32) -> bool
     (((k == 1) | (k == 8)) | (k == 9)) | ((11 <= k) & (k <= 14))
 }
 
-// A message of the link side that is not refused with 102 (Rule 6.5); there says that there is a link with its identifier, which is k.
+// A message of the link side that is not refused with 102 (Rule 6.5); there says that there is a link with
+// its identifier, which is k.
 pub fn passes(there: bool, k: Link, r: Reading) -> bool
     ensures { λ t. ⌜ t ≡ passesIn there k r ⌝ }
 {

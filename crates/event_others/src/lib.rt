@@ -1,4 +1,5 @@
-// What a message of an ASP is, and what those do that are not of the ASP itself: Beat, Beat Ack, class 6, and any other.
+// What a message of an ASP is, and what those do that are not of the ASP itself: Beat, Beat Ack, class 6, and
+// any other.
 use codec_read::Reading;
 use rules_event::Decision;
 use rules_event::Link;
@@ -27,7 +28,8 @@ fn from_asp(k: u32) -> bool
     (((((k == 1) | (k == 2)) | (k == 4)) | (k == 7)) | (k == 10)) | (k == 15)
 }
 
-// Beat, Beat Ack, class 6 and any other (Rules 7.7, 7.14, 7.23), by class and type; six says that the type is one of class 6 that ASPs send.
+// Beat, Beat Ack, class 6 and any other (Rules 7.7, 7.14, 7.23), by class and type; six says that the type is
+// one of class 6 that ASPs send.
 fn other_tree(
     there: bool,
     p: usize,
@@ -56,8 +58,8 @@ fn other_tree(
     event_decision::error(p, 6)
 }
 
-// What a message of ASP p does that is neither Up, Down, Active nor Inactive: error says that it is an Error. One of class 6 names the link k at l, or none
-// where there says so; s is what the link's owner has of p.
+// What a message of ASP p does that is neither Up, Down, Active nor Inactive: error says that it is an Error.
+// One of class 6 names the link k at l, or none where there says so; s is what the link's owner has of p.
 pub fn other_work(
     there: bool,
     p: usize,

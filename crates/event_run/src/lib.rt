@@ -27,8 +27,8 @@ ghost use Rattle.event_run.specs.Inner.Decision.{firstOf, Changed, linkA
 
 // ---- what is done
 
-// What the event does (Rule 7.1), decided. `at` is the place of the link that it names, k that link, o the AS that owns it. Lent are only the columns that are searched
-// for more than one place.
+// What the event does (Rule 7.1), decided. `at` is the place of the link that it names, k that link, o the AS
+// that owns it. Lent are only the columns that are searched for more than one place.
 fn decided<'a>(
     ask: Ask,
     msg: &[u8],
@@ -158,7 +158,8 @@ fn settle(w: Decision, state: &mut [u8; 128])
 
 // ---- the hold
 
-// The bytes of a unit that comes in, laid over its place; `size` is the length of the hold, and where it is not lent whole nothing is written.
+// The bytes of a unit that comes in, laid over its place; `size` is the length of the hold, and where it is
+// not lent whole nothing is written.
 fn lay(msg: &[u8], start: usize, n: usize, hold: &mut [u8], size: usize, at: usize)
     requires { ⌜ (start + n ≤ length (now msg)) × (at + n ≤ size) ⌝ }
     ensures { λ _. ⌜ now (hold .exit) ≡ cond (eqb (length (now (hold .entry))) size) (overlay (now (hold .entry)) at (take n (drop start (now (msg .entry))))) (now (hold .entry)) ⌝ }
@@ -177,8 +178,9 @@ fn held_by(count: &[u8; 16], a: usize) -> usize
     state_tables::wide(count[a])
 }
 
-// Where a unit that comes in goes: its index among the units, its tag, length and mark as the columns keep them, where its bytes begin in the message and how many they are,
-// where they go in the hold, and how many units its AS has then.
+// Where a unit that comes in goes: its index among the units, its tag, length and mark as the columns keep
+// them, where its bytes begin in the message and how many they are, where they go in the hold, and how many
+// units its AS has then.
 struct Put {
     at: usize,
     tag: u16,

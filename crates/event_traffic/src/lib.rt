@@ -104,7 +104,8 @@ fn active_at(p: usize, other: bool, bad: Refused, named: [bool; 16]) -> Decision
     )
 }
 
-// Active where on holds, else Inactive, in the ASes named; `bad` is the first identifier that was refused, if one was.
+// Active where on holds, else Inactive, in the ASes named; `bad` is the first identifier that was refused, if
+// one was.
 fn act_in(on: bool, mode: &[u8; 16], p: usize, m: u32, bad: Refused, named: u32) -> Decision
     requires { ⌜ p < 16 ⌝ }
     ensures { λ w. ⌜ DecidesOn (λ g. g .mode ≡ now (mode .entry)) (λ g. act g p on m (told p bad) (flagsOf named)) w ⌝ }
@@ -122,7 +123,8 @@ fn act_in(on: bool, mode: &[u8; 16], p: usize, m: u32, bad: Refused, named: u32)
     )
 }
 
-// The answer to a message that does nothing: Error 2 for the identifier that was refused, and Error 6 where none was.
+// The answer to a message that does nothing: Error 2 for the identifier that was refused, and Error 6 where
+// none was.
 fn fails(p: usize, bad: Refused) -> Decision
     requires { ⌜ p < 16 ⌝ }
     ensures { λ w. ⌜ Decides w (send (cond (bad .found) (error2 p (bad .id)) (error p 6))) ⌝ }
@@ -133,16 +135,16 @@ fn fails(p: usize, bad: Refused) -> Decision
     event_decision::error(p, 6)
 }
 
-// Whether a message does nothing: with identifiers where one is refused, and the list is taken whole or has no good one (Rule 7.27); without any where p has
-// no AS.
+// Whether a message does nothing: with identifiers where one is refused, and the list is taken whole or has
+// no good one (Rule 7.27); without any where p has no AS.
 fn does_nothing(ids: bool, found: bool, whole: bool, none: bool) -> bool
     ensures { λ r. ⌜ r ≡ nothingDone ids found whole none ⌝ }
 {
     (ids & (found & (whole | none))) | (!ids & none)
 }
 
-// What a message names (Rule 7.8): by its identifiers the first that is refused, parameters in received order, and the ASes of p that own the others; and
-// without any all of p's ASes.
+// What a message names (Rule 7.8): by its identifiers the first that is refused, parameters in received
+// order, and the ASes of p that own the others; and without any all of p's ASes.
 fn aim<'a>(
     ids: bool,
     s: &[u8],

@@ -1,4 +1,5 @@
-// The columns of the units held (Rule 5.21), changed in place: what ASes that wait no longer leave of them, and one unit more.
+// The columns of the units held (Rule 5.21), changed in place: what ASes that wait no longer leave of them,
+// and one unit more.
 ghost use mathlib.Core.Path.{_≡_};
 ghost use mathlib.Core.Bool.{cond, _&&_};
 ghost use Prim.Native.Nat.{_/_, _<_};
@@ -10,7 +11,8 @@ ghost use Rattle.event_units.specs.Inner.Going.{going};
 
 // ---- units let go
 
-// The ASes that let their units go: they have some, the event names them, and they wait no longer. `waiting` is the column after the event.
+// The ASes that let their units go: they have some, the event names them, and they wait no longer. `waiting`
+// is the column after the event.
 pub fn goes<'a>(count: &'a [u8; 16], named: [bool; 16], waiting: &'a [u8; 16]) -> [bool; 16]
     ensures { λ r. ⌜ r ≡ going (now (count .entry)) named (now (waiting .entry)) ⌝ }
 {

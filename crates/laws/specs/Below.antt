@@ -1,5 +1,5 @@
--- Of the numbers below a count: whether some of them, whether all have a property, the first and the last that
--- has it, how many have it; and their lists, joined.
+-- Of the numbers below a count: whether some of them, whether all have a property, the first and the last
+-- that has it, how many have it; and their lists, joined.
 -- Assumes nothing.
 use Prim.Native.Nat.{ℕ, zero, suc, _+_}
 use mathlib.Core.Bool.{Bool, true, false, _||_, _&&_, cond}

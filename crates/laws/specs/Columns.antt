@@ -1,4 +1,5 @@
--- Columns, which are lists of numbers or of flags: what stands at a place, and a list by what stands at each place.
+-- Columns, which are lists of numbers or of flags: what stands at a place, and a list by what stands at each
+-- place.
 -- Assumes nothing.
 use Prim.Native.Nat.{ℕ, zero, suc}
 use mathlib.Core.Bool.{Bool, false}

@@ -65,8 +65,8 @@ fn take_block(
     t
 }
 
-// The blocks of the input, and the end that its last line may lack. Nothing says that the input ends, so the loop counts its blocks down, from more than any
-// input has.
+// The blocks of the input, and the end that its last line may lack. Nothing says that the input ends, so the
+// loop counts its blocks down, from more than any input has.
 fn take_input(
     line: &mut [u8; 65536],
     bytes: &mut [u8; 32768],

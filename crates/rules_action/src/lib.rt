@@ -49,12 +49,14 @@ pub const RETRIEVAL_REQUEST: u32 = 6 * 256 + 10;
 
 pub const DATA_ACK: u32 = 6 * 256 + 15;
 
-// The status of a Notify (Rule 8.5): the new state of an AS is type 1, and that another ASP has become active in one is type 2, information 2.
+// The status of a Notify (Rule 8.5): the new state of an AS is type 1, and that another ASP has become active
+// in one is type 2, information 2.
 pub const AS_STATE: u32 = 65536;
 
 pub const OTHER_ACTIVE: u32 = 2 * 65536 + 2;
 
-// To whom: the number of an ASP, or 255 for the link side. Which message: class * 256 + type. Its subject and its value.
+// To whom: the number of an ASP, or 255 for the link side. Which message: class * 256 + type. Its subject and
+// its value.
 pub struct Action {
     pub to: u32,
     pub classtype: u32,

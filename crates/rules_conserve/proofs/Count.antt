@@ -1,4 +1,5 @@
--- Sums over the numbers below a count, and how many of a list of actions are Data to an ASP about a link of AS a.
+-- Sums over the numbers below a count, and how many of a list of actions are Data to an ASP about a link of
+-- AS a.
 -- Assumes nothing.
 use mathlib.Core.Path.{_≡_, refl, ap, _∙_}
 use mathlib.Core.Bool.{Bool, true, false, cond, not, _&&_}

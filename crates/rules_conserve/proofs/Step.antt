@@ -28,7 +28,8 @@ use Rattle.rules_conserve.proofs.Count.{dataIn, data-append, and-yes, a
 use Rattle.rules_conserve.proofs.Held.{out, if-some, pending-is, has-waits, release}
 use Rattle.rules_conserve.proofs.Sends.{change-data}
 
--- From g to h: `came` says whether a unit came in for AS a, `over` whether its recovery time is over, `sent` how many went out. Units stay while it is pending.
+-- From g to h: `came` says whether a unit came in for AS a, `over` whether its recovery time is over, `sent`
+-- how many went out. Units stay while it is pending.
 pub record Step (g : Gateway) (a : ℕ) (came over : Bool) (sent : ℕ) (h : Gateway) : Type 0 where
   pub waits : came ≡ true → isPending h a ≡ true
   pub go : sent + cond over (holds g a) 0 ≡ cond (isPending h a) 0 (holds g a)

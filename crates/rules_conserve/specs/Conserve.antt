@@ -1,5 +1,6 @@
--- No unit is lost or doubled (Rule 10.8): what came in while an AS was pending has gone out, was discarded, was turned away, or is still held. Each is counted from the
--- history: from the events, and from the words that the calls handed back. What a state holds is read at the start and at the end alone.
+-- No unit is lost or doubled (Rule 10.8): what came in while an AS was pending has gone out, was discarded,
+-- was turned away, or is still held. Each is counted from the history: from the events, and from the words
+-- that the calls handed back. What a state holds is read at the start and at the end alone.
 -- Assumes nothing.
 use mathlib.Core.Path.{_≡_}
 use mathlib.Core.Bool.{Bool, true, false, cond, not, _&&_}
@@ -68,7 +69,8 @@ least x y = cond (ltb x y) x y
 unfoldable pub since : Gateway → Call → ℕ → ℕ → ℕ
 since g d a n = cond (isPending (d .outcome .gateway) a) (n + one (cameIn g d a)) 0
 
--- how many units came in, went out, were discarded as the recovery time was over, and were turned away, since 8 had come before them
+-- how many units came in, went out, were discarded as the recovery time was over, and were turned away, since
+-- 8 had come before them
 pub record Tally : Type 0 where
   pub came : ℕ
   pub sent : ℕ
@@ -110,7 +112,8 @@ sum t =
       turned = inAll (λ a. t a .turned);
     }
 
--- the units that came in, and those held at the start, are the ones sent out, discarded, turned away and held at the end
+-- the units that came in, and those held at the start, are the ones sent out, discarded, turned away and held
+-- at the end
 abbrev pub Balanced : ℕ → Tally → ℕ → Type 0
 Balanced start t end = t .came + start ≡ t .sent + t .discarded + t .turned + end
 

@@ -1,4 +1,5 @@
--- A history of plan S (Rule 11.1) in which all of it happens to units of AS 0: the statement is about something.
+-- A history of plan S (Rule 11.1) in which all of it happens to units of AS 0: the statement is about
+-- something.
 -- Assumes nothing.
 use mathlib.Core.Path.{_≡_}
 use mathlib.Core.List.{List, [], _∷_, _++_, map}
@@ -14,7 +15,8 @@ use Rattle.rules_conserve.specs.Conserve.{Tally, tally, holds, sum}
 unfoldable pub leaves : List EventKind
 leaves = message 0 (bare 4 1) ∷ message 0 (bare 4 2) ∷ []
 
--- ASP 0 comes up; nine units come in, the ninth is turned away, eight go out; one comes in and is discarded; one comes in and is held
+-- ASP 0 comes up; nine units come in, the ninth is turned away, eight go out; one comes in and is discarded;
+-- one comes in and is held
 unfoldable pub day : List EventKind
 day =
     message 0 (bare 3 1) ∷ leaves

@@ -25,7 +25,8 @@ asesOf g p = columnOf (g .member) p
 abbrev pub activeAses : Gateway → ℕ → List Bool
 activeAses g p = columnOf (g .active) p
 
--- Rule 7.4: an identifier of its own that is not the plan's is refused; an ASP that was active somewhere is told so by a second reply
+-- Rule 7.4: an identifier of its own that is not the plan's is refused; an ASP that was active somewhere is
+-- told so by a second reply
 unfoldable pub upEffect : Gateway → ℕ → Reading → Effect
 upEffect g p r =
     cond (eqb (r .identified) 1 && not (eqb (r .aspid) (numberAt (g .aspid) p))) (send (error p 15))
@@ -42,7 +43,8 @@ lostEffect g p = changeIn [] (AspDown p) (asesOf g p)
 unfoldable pub otherMode : Gateway → ℕ → List Bool → Bool
 otherMode g mode named = not (eqb mode 0) && anyBelow (λ a. flagAt named a && not (eqb (numberAt (g .mode) a) mode)) 16
 
--- Rules 7.9 and 7.10: an Ack, then what is told beside it, and p is active, or no longer active, in the ASes named
+-- Rules 7.9 and 7.10: an Ack, then what is told beside it, and p is active, or no longer active, in the ASes
+-- named
 unfoldable pub activeEffect : Gateway → ℕ → ℕ → List Action → List Bool → Effect
 activeEffect g p mode told named =
     cond (otherMode g mode named) (send (error p 5)) (changeIn (oneAction p aspActiveAck 0 0 ++ told) (Activate p) named)
@@ -50,12 +52,14 @@ activeEffect g p mode told named =
 unfoldable pub inactiveEffect : ℕ → List Action → List Bool → Effect
 inactiveEffect p told named = changeIn (oneAction p aspInactiveAck 0 0 ++ told) (Deactivate p) named
 
--- Rule 7.27, of a list of which an identifier is refused: Error 2 says the first such one. It stands alone where p's lists are taken whole, and where none is good; else
--- it is told beside what is done in the owners of the good ones.
+-- Rule 7.27, of a list of which an identifier is refused: Error 2 says the first such one. It stands alone
+-- where p's lists are taken whole, and where none is good; else it is told beside what is done in the owners
+-- of the good ones.
 unfoldable pub partEffect : Gateway → ℕ → ℕ → List Bool → (List Action → List Bool → Effect) → Effect
 partEffect g p first good act = cond (isSet (g .wholelists) p || not (some good)) (send (error2 p first)) (act (error2 p first) good)
 
--- Rule 7.8: the ASes that the message names, by identifiers or, without any, all of p's; what is done with them is given.
+-- Rule 7.8: the ASes that the message names, by identifiers or, without any, all of p's; what is done with
+-- them is given.
 unfoldable pub trafficEffect : Gateway → ℕ → Reading → List Par → (List Action → List Bool → Effect) → Effect
 trafficEffect g p r ps act =
     cond (not (isSet (g .up) p)) (send (error p 6))

@@ -23,8 +23,8 @@ pub record Board : Type 0 where
 abbrev pub nextBoard : Board → Event → Board
 nextBoard b e = record { gateway = next (b .gateway) e; hold = nextHold (b .gateway) e (b .hold) }
 
--- One call of an entry: its event, the lent list of words as it comes and as it is handed back, the lent hold as it comes and as it is handed back, and what is
--- returned.
+-- One call of an entry: its event, the lent list of words as it comes and as it is handed back, the lent hold
+-- as it comes and as it is handed back, and what is returned.
 pub record Call : Type 0 where
   pub event : Event
   pub lent : List ℕ
@@ -36,11 +36,13 @@ pub record Call : Type 0 where
 abbrev pub events : List Call → List Event
 events cs = map (λ (d : Call). d .event) cs
 
--- the hold that goes on: what a call hands back that was lent one of the right length; a call that was lent some other leaves it
+-- the hold that goes on: what a call hands back that was lent one of the right length; a call that was lent
+-- some other leaves it
 abbrev pub boardAfter : Board → Call → Board
 boardAfter b d = record { gateway = d .outcome .gateway; hold = cond (eqb (d .event .lent .hold) holdBytes) (d .held) (b .hold) }
 
--- A history of calls (Rule 10.2): each call keeps what the entries promise (`MeetsRules`), and the next one gets the state that it hands back, and the hold.
+-- A history of calls (Rule 10.2): each call keeps what the entries promise (`MeetsRules`), and the next one
+-- gets the state that it hands back, and the hold.
 pub data Calls : Board → List Call → Board → Type 0 where
   none : {b : Board} → Calls b [] b
   call : {b c : Board} {d : Call} {ds : List Call}

@@ -48,7 +48,8 @@ holdBytes = 34944
 abbrev pub holdAt : ℕ → ℕ → ℕ
 holdAt a k = a * 2184 + k * 273
 
--- a unit that comes in is laid over its place, from the message s; all else stays, also what is left of a place and a place that becomes free
+-- a unit that comes in is laid over its place, from the message s; all else stays, also what is left of a
+-- place and a place that becomes free
 abbrev pub holdAfter : Gateway → List ℕ → Effect → List ℕ → List ℕ
 holdAfter g s (send os) h = h
 holdAfter g s (setLink l v os) h = h

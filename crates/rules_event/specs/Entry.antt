@@ -25,8 +25,9 @@ next g e = cond (eqb (refusal g e) 0) (stateAfter g (effectOf g (e .kind))) g
 unfoldable pub nextHold : Gateway → Event → List ℕ → List ℕ
 nextHold g e h = cond (eqb (refusal g e) 0) (holdAfter g (messageOf (e .kind)) (effectOf g (e .kind)) h) h
 
--- What every entry promises of the event e on the state g: `lent` is the list of words as it comes, `left` as it is handed back; `hold` and `held` are the hold's bytes
--- before and after. Words behind the actions' words stay as they came (Rule 8.6).
+-- What every entry promises of the event e on the state g: `lent` is the list of words as it comes, `left` as
+-- it is handed back; `hold` and `held` are the hold's bytes before and after. Words behind the actions' words
+-- stay as they came (Rule 8.6).
 pub record MeetsRules (g : Gateway) (e : Event) (lent left hold held : List ℕ) (r : Outcome) : Type 0 where
   pub room : length lent ≡ e .lent .room
   pub lends : length hold ≡ e .lent .hold
@@ -38,8 +39,9 @@ pub record MeetsRules (g : Gateway) (e : Event) (lent left hold held : List ℕ)
   pub bytes : held ≡ nextHold g e hold
   pub words : left ≡ wordsOf (actions g e) ++ drop (4 * length (actions g e)) lent
 
--- What the one function of all events promises, which may be lent less than the hold, as where only the actions are wanted: e .lent .hold is the hold's length. All that
--- `MeetsRules` says of a hold of that length; and the bytes are written where it is lent whole.
+-- What the one function of all events promises, which may be lent less than the hold, as where only the
+-- actions are wanted: e .lent .hold is the hold's length. All that `MeetsRules` says of a hold of that
+-- length; and the bytes are written where it is lent whole.
 pub record Runs (g : Gateway) (e : Event) (lent left part part′ : List ℕ) (r : Outcome) : Type 0 where
   pub meets : (hold : List ℕ) → length hold ≡ e .lent .hold → MeetsRules g e lent left hold (nextHold g e hold) r
   pub bytes : part′ ≡ cond (eqb (length part) (e .lent .hold)) (nextHold g e part) part

@@ -26,7 +26,8 @@ isMember g a p = isSet (g .member) (pair a p)
 abbrev pub isIds : ℕ → Bool
 isIds t = eqb t 0x1 || eqb t 0x8
 
--- An identifier is refused to ASP p where it is unknown, or p is no member of the AS that owns it; any other is good.
+-- An identifier is refused to ASP p where it is unknown, or p is no member of the AS that owns it; any other
+-- is good.
 
 -- the first that is refused: parameters as received, in each its entries, in each range upwards
 unfoldable pub firstRefused : Gateway → ℕ → List Par → Refused

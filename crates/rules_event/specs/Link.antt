@@ -1,5 +1,5 @@
--- The links: class 6 messages of an ASP, link up, link down, messages of the link side (Rules 7.14 to 7.24). Each rule
--- is said of records: k is the link, at the place l, o the AS that owns it, s the sender.
+-- The links: class 6 messages of an ASP, link up, link down, messages of the link side (Rules 7.14 to 7.24).
+-- Each rule is said of records: k is the link, at the place l, o the AS that owns it, s the sender.
 -- Assumes nothing.
 use Prim.Native.Nat.{ℕ, _+_, _*_}
 use mathlib.Core.Bool.{Bool, true, false, cond, not, _&&_, _||_}
@@ -38,14 +38,16 @@ stopping = 3
 
 -- ---- class 6 of an ASP: p is the ASP, x the identifier that its message names
 
--- Rule 7.15: confirmed at once where the link is in service; an idle or stopping one starts, and the link side is told
+-- Rule 7.15: confirmed at once where the link is in service; an idle or stopping one starts, and the link
+-- side is told
 unfoldable pub establish : ℕ → ℕ → ℕ → Link → Effect
 establish p x l k =
     cond (eqb (k .state) inService) (send (oneAction p establishConfirm x 0))
     (cond (eqb (k .state) starting) (send [])
     (setLink l starting (oneAction linkSide establishRequest x 0)))
 
--- Rule 7.16: confirmed at once where the link is idle; a starting one, or one in service, stops, and the link side is told
+-- Rule 7.16: confirmed at once where the link is idle; a starting one, or one in service, stops, and the link
+-- side is told
 unfoldable pub release : ℕ → ℕ → ℕ → Link → Effect
 release p x l k =
     cond (eqb (k .state) idle) (send (oneAction p releaseConfirm x 0))
@@ -59,7 +61,8 @@ dataEffect p x k r =
     (send (oneAction linkSide userData x 0 ++ cond (eqb (r .correlated) 1) (oneAction p dataAck x (r .correlation)) []))
     (send (error p 6))
 
--- by the type of the message; 6.7 and 6.10 pass their state or action on, 6.15 does nothing (Rules 7.18, 7.19)
+-- by the type of the message; 6.7 and 6.10 pass their state or action on, 6.15 does nothing (Rules 7.18,
+-- 7.19)
 unfoldable pub linkEffect : ℕ → ℕ → ℕ → Link → Reading → Effect
 linkEffect p x l k r =
     cond (eqb (r .msgtype) 1) (dataEffect p x k r)
@@ -77,8 +80,9 @@ plainMost = 127
 unfoldable pub canHave : Link → ℕ → Bool
 canHave k n = eqb (k .highspeed) 1 || leb n plainMost
 
--- Rule 7.14: what p must be before a message of class 6 is looked at: up, a member of the owner, active there; and a
--- sequence number must be one that the link can have (only 6.10 has one). `there` says that a link has the identifier.
+-- Rule 7.14: what p must be before a message of class 6 is looked at: up, a member of the owner, active
+-- there; and a sequence number must be one that the link can have (only 6.10 has one). `there` says that a
+-- link has the identifier.
 unfoldable pub classSixOn : Bool → ℕ → ℕ → Link → Sender → Reading → Effect
 classSixOn there p l k s r =
     cond (not (eqb (s .up) 1)) (send (error p 6))

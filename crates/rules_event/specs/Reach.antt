@@ -18,7 +18,8 @@ use Rattle.rules_event.specs.Rules.{isError, classTypeOf, refusal}
 unfoldable pub ownsId : Gateway → ℕ → ℕ → Bool
 ownsId g x a = isKnown g x && eqb (ownerAt g (linkOf g x)) a
 
--- Rule 9.2, of a message that reads: all ASes of p, the owners of the good identifiers named, the owner of the one identifier, or none
+-- Rule 9.2, of a message that reads: all ASes of p, the owners of the good identifiers named, the owner of
+-- the one identifier, or none
 unfoldable pub readReach : Gateway → ℕ → List ℕ → Reading → ℕ → Bool
 readReach g p s r a =
     cond (eqb (classTypeOf r) aspUp || eqb (classTypeOf r) aspDown) (isMember g a p)
@@ -42,7 +43,8 @@ kindReach g (linkMessage s) a = ownsId g (readingOf s .id) a
 unfoldable pub reach : Gateway → Event → ℕ → Bool
 reach g e a = eqb (refusal g e) 0 && (ltb a (g .ases) && kindReach g (e .kind) a)
 
--- the ASP whose event it is: a message and the loss of its association; the other kinds are nobody's (Rule 10.1)
+-- the ASP whose event it is: a message and the loss of its association; the other kinds are nobody's
+-- (Rule 10.1)
 abbrev pub fromController : EventKind → ℕ → Bool
 fromController (message p s) q = eqb p q
 fromController (lost p) q = eqb p q

@@ -36,7 +36,8 @@ classTypeOf r = r .class * 256 + r .msgtype
 unfoldable pub fromAsp : ℕ → Bool
 fromAsp k = eqb k 1 || eqb k 2 || eqb k 4 || eqb k 7 || eqb k 10 || eqb k 15
 
--- a readable message, by class and type: Up, Down, Beat, Beat Ack, Active, Inactive, class 6; any other is Error 6 (Rules 7.4 to 7.23)
+-- a readable message, by class and type: Up, Down, Beat, Beat Ack, Active, Inactive, class 6; any other is
+-- Error 6 (Rules 7.4 to 7.23)
 unfoldable pub readEffect : Gateway → ℕ → List ℕ → Reading → Effect
 readEffect g p s r =
     cond (eqb (classTypeOf r) aspUp) (upEffect g p r)
@@ -72,8 +73,8 @@ effectOf g (linkMessage s) = linkMessageEffect g s (readingOf s)
 unfoldable pub fromLink : ℕ → Bool
 fromLink k = eqb k 1 || eqb k 8 || eqb k 9 || (leb 11 k && leb k 14)
 
--- what is not refused with 102: an ASP, AS or link of the plan; a message of the link side that reads, of such a type, of a known identifier, and with no sequence number
--- that its link cannot have (Rule 6.5)
+-- what is not refused with 102: an ASP, AS or link of the plan; a message of the link side that reads, of
+-- such a type, of a known identifier, and with no sequence number that its link cannot have (Rule 6.5)
 abbrev pub inPlan : Gateway → EventKind → Bool
 inPlan g (message p s) = ltb p (g .asps)
 inPlan g (lost p) = ltb p (g .asps)

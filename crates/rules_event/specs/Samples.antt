@@ -17,7 +17,8 @@ use Rattle.rules_event.specs.Rules.{leastRoom, refusal}
 
 -- ---- plan S (Rule 11.1)
 
--- a row of the ASPs: identifier, mask, rule for lists; of the ASes: traffic mode; of the links: identifier, kind, owner (Rule 4.2)
+-- a row of the ASPs: identifier, mask, rule for lists; of the ASes: traffic mode; of the links: identifier,
+-- kind, owner (Rule 4.2)
 abbrev pub aspRow : ℕ → ℕ → ℕ → List ℕ
 aspRow id mask list = bytes32 id ++ (bytes16 mask ++ bytes16 list)
 
@@ -74,7 +75,8 @@ unit = 1 ∷ 0 ∷ 6 ∷ 1 ∷ 0 ∷ 0 ∷ 0 ∷ 24 ∷ 0 ∷ 1 ∷ 0 ∷ 8 ∷ 
 unfoldable pub g₆ : Gateway
 g₆ = next g₅ (sampleEvent (linkMessage unit))
 
--- Retrieval Request for the messages behind number n, and Retrieval Confirm with n as the number of the last one received: of the link with identifier 100, a plain one
+-- Retrieval Request for the messages behind number n, and Retrieval Confirm with n as the number of the last
+-- one received: of the link with identifier 100, a plain one
 unfoldable pub retrieval : ℕ → List ℕ
 retrieval n =
     1 ∷ 0 ∷ 6 ∷ 10 ∷ 0 ∷ 0 ∷ 0 ∷ 32 ∷ 0 ∷ 1 ∷ 0 ∷ 8 ∷ 0 ∷ 0 ∷ 0 ∷ 100 ∷ 3 ∷ 6 ∷ 0 ∷ 8 ∷ 0 ∷ 0 ∷ 0 ∷ 2 ∷ 3 ∷ 7 ∷ 0 ∷ 8 ∷ 0 ∷ 0 ∷ 0 ∷ n ∷ []
@@ -96,7 +98,8 @@ pub record Samples : Type 0 where
   pub reader : ReaderSamples
   -- M of ASP 0: an Active Ack, and AS 0 is active
   pub takes-over : actions g₁ (sampleEvent (message 0 m)) ≡ action 0 1027 0 0 ∷ action 0 1 0 65539 ∷ []
-  -- M up to 116: an Ack, Error 2 for 116, and AS 0 is active all the same; where ASP 0's lists are taken whole, the Error alone
+  -- M up to 116: an Ack, Error 2 for 116, and AS 0 is active all the same; where ASP 0's lists are taken
+  -- whole, the Error alone
   pub in-part : actions g₁ (sampleEvent (message 0 m116)) ≡ action 0 1027 0 0 ∷ action 0 0 116 2 ∷ action 0 1 0 65539 ∷ []
   pub whole : actions g₇ (sampleEvent (message 0 m116)) ≡ action 0 0 116 2 ∷ []
   -- Active of ASP 1: an Ack, and ASP 0 is overtaken

@@ -1,4 +1,5 @@
--- The actions of an event, place by place, and the unit held that each Data to an ASP sends (Rules 8.15, 8.18).
+-- The actions of an event, place by place, and the unit held that each Data to an ASP sends (Rules 8.15,
+-- 8.18).
 -- Assumes nothing.
 use mathlib.Core.Bool.{Bool, true, false, _&&_, not}
 use mathlib.Core.List.{List}
@@ -27,7 +28,8 @@ actionAt os n = getD os n (action linkSide 0 0 0)
 unfoldable pub isSent : List Action → ℕ → Bool
 isSent os n = ltb n (length os) && not (eqb (actionAt os n .to) linkSide)
 
--- the indices of the units that are gone from a state g to a state c, AS by AS, the oldest first: an AS lets all of them go, or none
+-- the indices of the units that are gone from a state g to a state c, AS by AS, the oldest first: an AS lets
+-- all of them go, or none
 unfoldable pub gone : Gateway → Gateway → List ℕ
 gone g c = concatBelow (λ i. when (ltb (i % 8) (numberAt (g .held .count) (i / 8)) && eqb (numberAt (c .held .count) (i / 8)) 0) i) 128
 

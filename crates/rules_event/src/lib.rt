@@ -11,8 +11,8 @@ pub struct Outcome {
     pub gateway: Gateway,
 }
 
-// ---- records: what the rules of links are said of (Rule 5.27). A new column of links is a field here, and is read
-// from the state in one place (`linkAt`).
+// ---- records: what the rules of links are said of (Rule 5.27). A new column of links is a field here, and
+// is read from the state in one place (`linkAt`).
 
 // What is kept of a link: a row of the links' columns.
 pub struct Link {
@@ -22,7 +22,8 @@ pub struct Link {
     pub highspeed: u8,
 }
 
-// What the events of a link ask of the AS that owns it: its traffic mode, whether it waits, how many units it holds.
+// What the events of a link ask of the AS that owns it: its traffic mode, whether it waits, how many units it
+// holds.
 pub struct Owner {
     pub mode: u8,
     pub waiting: u8,
@@ -36,8 +37,8 @@ pub struct Sender {
     pub active: u8,
 }
 
-// What an accepted event does, as the code decides it before it does it (the definitions' Effect, by `effectIn`). The large fields come first: so the
-// compiler moves them whole.
+// What an accepted event does, as the code decides it before it does it (the definitions' Effect, by
+// `effectIn`). The large fields come first: so the compiler moves them whole.
 pub struct Decision {
     // the ASes of the change, or the ASPs that get `first`
     pub who: [bool; 16],
@@ -48,8 +49,10 @@ pub struct Decision {
     // at most 2
     pub count: usize,
     pub link: usize,
-    // 0 actions alone, 1 a link comes to a state, 2 a change in ASes, 3 an action to each ASP of `who`, 4 that with a link's state, 5 a unit comes in for the AS
-    // of index `link`: `first` has its tag, its length, its link's identifier and its correlation id, `state` whether it has one, `second.to` where its bytes begin
+    // 0 actions alone, 1 a link comes to a state, 2 a change in ASes, 3 an action to each ASP of `who`, 4
+    // that with a link's state, 5 a unit comes in for the AS of index `link`: `first` has its tag, its
+    // length, its link's identifier and its correlation id, `state` whether it has one, `second.to` where its
+    // bytes begin
     pub what: u8,
     pub state: u8,
 }

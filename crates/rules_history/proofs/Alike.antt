@@ -1,5 +1,6 @@
--- What an accepted event does hangs on what it reads alone: the plan, its own controller's up flag, and the records, link states and units of
--- the ASes that it reaches. Kind by kind: g with the contents of g′, which are alike there.
+-- What an accepted event does hangs on what it reads alone: the plan, its own controller's up flag, and the
+-- records, link states and units of the ASes that it reaches. Kind by kind: g with the contents of g′, which
+-- are alike there.
 -- Assumes nothing.
 use mathlib.Core.Path.{_≡_, refl, sym, ap, _∙_}
 use mathlib.Core.Bool.{Bool, true, false, _&&_, _||_, not, cond}

@@ -1,5 +1,5 @@
--- The same of the state with its hold: an event writes the part of the hold of the AS that takes a unit in, and no other. So two events that are free to trade
--- places commute.
+-- The same of the state with its hold: an event writes the part of the hold of the AS that takes a unit in,
+-- and no other. So two events that are free to trade places commute.
 -- Assumes nothing.
 use mathlib.Core.Path.{_≡_, refl, sym, ap, _∙_}
 use mathlib.Core.Bool.{Bool, true, false}

@@ -1,5 +1,5 @@
--- Every event is local: it reads the plan, its own controller's up flag, and the records, link states and units of the ASes that it reaches, and writes
--- only those.
+-- Every event is local: it reads the plan, its own controller's up flag, and the records, link states and
+-- units of the ASes that it reaches, and writes only those.
 -- Assumes nothing.
 use mathlib.Core.Path.{_≡_, refl, sym, ap, _∙_}
 use mathlib.Core.Bool.{Bool, true, false, _&&_, _||_, cond}
@@ -96,7 +96,8 @@ get g (up q b) = numberAt (g .up) q
 get g (act a q b c) = numberAt (g .active) (pair a q)
 get g (wait a b) = numberAt (g .waiting) a
 
--- the tables of up flags, of activity and of waiting marks may come with other lengths than 16, 256 and 16: a change brings them to these
+-- the tables of up flags, of activity and of waiting marks may come with other lengths than 16, 256 and 16: a
+-- change brings them to these
 pub record Shape : Type 0 where
   pub ups : ℕ
   pub afterUps : List ℕ

@@ -1,4 +1,5 @@
--- The six columns of the units held, alike: whose AS a place is, and what a change and a unit that comes in do there.
+-- The six columns of the units held, alike: whose AS a place is, and what a change and a unit that comes in
+-- do there.
 -- Assumes nothing.
 use mathlib.Core.Path.{_≡_, refl, ap, _∙_}
 use mathlib.Core.Bool.{Bool, true, false, _&&_, cond, not}

@@ -1,5 +1,5 @@
--- What an accepted event may do lies within its reach: the ASes that its change names, the link that it turns, the AS that takes its unit in. Kind by
--- kind.
+-- What an accepted event may do lies within its reach: the ASes that its change names, the link that it
+-- turns, the AS that takes its unit in. Kind by kind.
 -- Assumes nothing.
 use mathlib.Core.Path.{_≡_, refl, sym, _∙_}
 use mathlib.Core.Bool.{Bool, true, false, _&&_, _||_, not}
@@ -41,8 +41,9 @@ use Rattle.rules_event.specs.Inner.TakeIn.{Takes, link-cases, taken-in}
 use Rattle.rules_keeps.proofs.Next.{known-below}
 use Rattle.rules_history.proofs.Bits.{or-left, or-right}
 
--- A change in the ASes named, by an event that reaches the ASes of R and is of the controllers of `own`: it names only what it reaches; whom it
--- sets up or down is its own controller, and all ASes of that one are named.
+-- A change in the ASes named, by an event that reaches the ASes of R and is of the controllers of `own`: it
+-- names only what it reaches; whom it sets up or down is its own controller, and all ASes of that one are
+-- named.
 pub record In (g : Gateway) (R own : ℕ → Bool) (k : Change) (named : List Bool) : Type 0 where
   pub reached : (a : ℕ) → a < 16 → flagAt named a ≡ true → R a ≡ true
   pub mine : (q : ℕ) → moves k q ≡ true → own q ≡ true

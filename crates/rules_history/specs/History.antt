@@ -25,7 +25,8 @@ use Rattle.rules_history.specs.Trade.{swaps, Trades, outs, last}
 abbrev pub reachesLink : Gateway → Event → ℕ → Bool
 reachesLink g e l = ltb l (g .links) && reach g e (numberAt (g .owner) l)
 
--- Rule 10.4: two neighbours may trade places if they are not both of one controller (ASP), and no server (AS) is reached by both.
+-- Rule 10.4: two neighbours may trade places if they are not both of one controller (ASP), and no server (AS)
+-- is reached by both.
 pub record Independent (b : Board) (e f : Event) : Type 0 where
   pub controllers : (q : ℕ) → fromController (e .kind) q ≡ true → fromController (f .kind) q ≡ true → ⊥
   pub servers : (a : ℕ) → reach (b .gateway) e a ≡ true → reach (b .gateway) f a ≡ true → ⊥
@@ -60,8 +61,8 @@ planOf g =
       wholelists = g .wholelists;
     }
 
--- What an event leaves as it was, number by number (Rules 9.5, 10.5): the plan; the waiting mark and the activity of an
--- AS out of reach; the state of a link out of reach.
+-- What an event leaves as it was, number by number (Rules 9.5, 10.5): the plan; the waiting mark and the
+-- activity of an AS out of reach; the state of a link out of reach.
 pub record Untouched (g : Gateway) (e : Event) (c : Gateway) : Type 0 where
   pub plan : planOf c ≡ planOf g
   pub waiting : (a : ℕ) → a < 16 → reach g e a ≡ false → numberAt (c .waiting) a ≡ numberAt (g .waiting) a
@@ -76,7 +77,8 @@ pub record Untouched (g : Gateway) (e : Event) (c : Gateway) : Type 0 where
 abbrev pub SameUnits : Gateway → Event → List ℕ → List ℕ → Type 0
 SameUnits g e x y = (a k : ℕ) → a < 16 → k < 8 → reach g e a ≡ false → numberAt x (unitIndex a k) ≡ numberAt y (unitIndex a k)
 
--- the units and the part of the hold of an AS out of reach: how many it has, what is kept of each, and every byte
+-- the units and the part of the hold of an AS out of reach: how many it has, what is kept of each, and every
+-- byte
 pub record UnitsStay (b : Board) (e : Event) (c : Board) : Type 0 where
   pub count : (a : ℕ) → a < 16 → reach (b .gateway) e a ≡ false → numberAt (c .gateway .held .count) a ≡ numberAt (b .gateway .held .count) a
   pub tag : SameUnits (b .gateway) e (c .gateway .held .tag) (b .gateway .held .tag)
@@ -91,7 +93,8 @@ abbrev pub Outside : Board → List Call → Type 0
 Outside b [] = Unit {0}
 Outside b (d ∷ ds) = Untouched (b .gateway) (d .event) (d .outcome .gateway) × UnitsStay b (d .event) (boardAfter b d) × Outside (boardAfter b d) ds
 
--- The statement: a history cs from b to c, and the same events after the trades at the places ts, ds from b to c′.
+-- The statement: a history cs from b to c, and the same events after the trades at the places ts, ds from b
+-- to c′.
 pub record Demand3 (b : Board) (cs ds : List Call) (c c′ : Board) (ts : List ℕ) : Type 0 where
   -- what the calls hand back is what the rules give, run from the first state on the events alone
   pub by-rules : map answer cs ≡ outs rulesAnswer nextBoard b (events cs)
@@ -102,7 +105,8 @@ pub record Demand3 (b : Board) (cs ds : List Call) (c c′ : Board) (ts : List �
   pub same-state : c′ ≡ c
   pub outside : Outside b cs
 
--- For every first state, sound or not, every hold, all calls, and any number of allowed trades one after the other.
+-- For every first state, sound or not, every hold, all calls, and any number of allowed trades one after the
+-- other.
 abbrev pub Statement : Type 0
 Statement = (b c c′ : Board) (cs ds : List Call) (ts : List ℕ) → Calls b cs c → Calls b ds c′
     → Trades nextBoard Independent b (events cs) ts → events ds ≡ swaps ts (events cs) → Demand3 b cs ds c c′ ts
@@ -126,7 +130,8 @@ Rooms (e ∷ h) (l ∷ ls) = (length l ≡ e .lent .room) × Rooms h ls
 abbrev pub blanks : List Event → List (List ℕ)
 blanks h = map (λ (e : Event). replicate (e .lent .room) 0) h
 
--- Such calls exist for every first state with a hold of the right length, every list of events and all lent lists of their lengths: the statement is about something.
+-- Such calls exist for every first state with a hold of the right length, every list of events and all lent
+-- lists of their lengths: the statement is about something.
 pub record Made (b : Board) (h : List Event) (ls : List (List ℕ)) : Type 0 where
   pub list : List Call
   pub end : Board
@@ -138,7 +143,8 @@ pub record Made (b : Board) (h : List Event) (ls : List (List ℕ)) : Type 0 whe
 abbrev pub sampleBoard : Gateway → Board
 sampleBoard g = record { gateway = g; hold = replicate holdBytes 0 }
 
--- everything that the statement asks for is there in a history of two events of plan S, which trade places; each reaches an AS
+-- everything that the statement asks for is there in a history of two events of plan S, which trade places;
+-- each reaches an AS
 pub record TradeExists (g : Gateway) (e f : Event) : Type 0 where
   pub calls : Made (sampleBoard g) (e ∷ f ∷ []) (replicate 1544 0 ∷ replicate 1544 0 ∷ [])
   pub traded : Made (sampleBoard g) (f ∷ e ∷ []) (replicate 1544 0 ∷ replicate 1544 0 ∷ [])

@@ -38,8 +38,8 @@ recordWith s ups acts =
       mode = s .mode;
     }
 
--- p comes up, active nowhere (Rule 7.4); p goes down (Rules 7.5, 7.6); p becomes inactive (Rule 7.10), or active
--- (Rule 7.9); the recovery time is over, and the AS waits no longer (Rule 7.13)
+-- p comes up, active nowhere (Rule 7.4); p goes down (Rules 7.5, 7.6); p becomes inactive (Rule 7.10), or
+-- active (Rule 7.9); the recovery time is over, and the AS waits no longer (Rule 7.13)
 abbrev pub after : Change → AsRecord → AsRecord
 after (AspUp p) s = recordWith s (joined (s .ups) p) (without (s .acts) p)
 after (AspDown p) s = recordWith s (without (s .ups) p) (without (s .acts) p)

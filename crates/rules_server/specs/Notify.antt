@@ -23,7 +23,8 @@ notify a value q = action q mgmtNotify a value
 unfoldable pub isNotified : AsRecord → AsRecord → Bool
 isNotified s t = not (eqb (stateIn t) 0) && not (eqb (stateIn s) (stateIn t))
 
--- what ASP q gets: where it is overtaken, that another is active (Rule 7.11); and where a state is told and it is up after the event, that state
+-- what ASP q gets: where it is overtaken, that another is active (Rule 7.11); and where a state is told and
+-- it is up after the event, that state
 unfoldable pub notifiesTo : List Bool → AsRecord → AsRecord → ℕ → ℕ → List Action
 notifiesTo lost s t a q = when (flagAt lost q) (notify a otherActive q) ++ when (isNotified s t && flagAt (t .ups) q) (notify a (asState (stateIn t)) q)
 
@@ -31,6 +32,7 @@ notifiesTo lost s t a q = when (flagAt lost q) (notify a otherActive q) ++ when 
 unfoldable pub notifies : List Bool → AsRecord → AsRecord → ℕ → List Action
 notifies lost s t a = concatBelow (notifiesTo lost s t a) 16
 
--- the actions in AS a, from its record before the event and the n units that it holds: its units, then its Notifies (Rule 8.3)
+-- the actions in AS a, from its record before the event and the n units that it holds: its units, then its
+-- Notifies (Rule 8.3)
 unfoldable pub actionsIn : Bool → Change → ℕ → AsRecord → ℕ → List ℕ → List Action
 actionsIn named k a s n id = cond named (letOut k n id a ++ notifies (overtakenIn k s) s (after k s) a) []

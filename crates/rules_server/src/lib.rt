@@ -1,4 +1,5 @@
-// The record of one AS (Rule 5.3), cut out of the gateway's columns: what an event does to it, and the Notifies that follow.
+// The record of one AS (Rule 5.3), cut out of the gateway's columns: what an event does to it, and the
+// Notifies that follow.
 use rules_action::Action;
 ghost use mathlib.Core.Path.{_≡_};
 ghost use mathlib.Core.Bool.{true};
@@ -23,8 +24,9 @@ pub struct AsRecord {
     pub mode: u8,
 }
 
-// What an event does in the ASes that it names. AspUp(p): ASP p is up, and active nowhere. AspDown(p): it is down. Deactivate(p): it becomes inactive.
-// Activate(p): it becomes active, in override alone. Recover: the recovery time is over.
+// What an event does in the ASes that it names. AspUp(p): ASP p is up, and active nowhere. AspDown(p): it is
+// down. Deactivate(p): it becomes inactive. Activate(p): it becomes active, in override alone. Recover: the
+// recovery time is over.
 pub enum Change {
     AspUp(usize),
     AspDown(usize),
@@ -131,7 +133,8 @@ fn alone(p: usize) -> [bool; 16]
     r
 }
 
-// The ASP of a change, as a flag: found once, for all ASes. (A test of each place against p is the slower by far.)
+// The ASP of a change, as a flag: found once, for all ASes. (A test of each place against p is the slower by
+// far.)
 pub fn flag_of(k: Change) -> [bool; 16]
     ensures { λ r. ⌜ r ≡ flagOf k ⌝ }
 {
@@ -307,7 +310,8 @@ pub fn speak(
 
 // ---- the units held
 
-// Each of AS a's n units to ASP p, the oldest first (Rule 7.25), from place m of the list on; and the next place.
+// Each of AS a's n units to ASP p, the oldest first (Rule 7.25), from place m of the list on; and the next
+// place.
 fn units_out(p: usize, n: u8, id: &[u32; 128], a: usize, words: &mut [u32], m: usize) -> usize
     requires { ⌜ (p < 16) × (a < 16) × (m * 4 + 32 ≤ length (now words)) ⌝ }
     ensures { λ r. ⌜ Written (now (words .entry)) m (unitsOut p n (now (id .entry)) a) (now (words .exit)) r ⌝ }

@@ -35,7 +35,8 @@ upAfter (Deactivate p) up = up
 upAfter (Activate p) up = up
 upAfter Recover up = up
 
--- place by place: the new record's where its AS is named, else as it was. `records` and the column are those before the event.
+-- place by place: the new record's where its AS is named, else as it was. `records` and the column are those
+-- before the event.
 unfoldable pub newActive : Change → List Bool → (ℕ → AsRecord) → List ℕ → ℕ → ℕ
 newActive k named records c i =
     cond (flagAt named (i / 16)) (one (flagAt (after k (records (i / 16)) .acts) (i % 16))) (numberAt c i)

@@ -1,4 +1,5 @@
-// An event in the ASes that it names: one loop that cuts each record out, changes it, writes the units and Notifies that go out, and puts it back.
+// An event in the ASes that it names: one loop that cuts each record out, changes it, writes the units and
+// Notifies that go out, and puts it back.
 ghost use mathlib.Core.Path.{_≡_};
 ghost use mathlib.Core.Bool.{true};
 ghost use Prim.Native.Nat.{_+_, _*_, _<_, _≤_};

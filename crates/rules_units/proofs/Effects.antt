@@ -1,4 +1,5 @@
--- The effect of every event but those of the link side: its own actions hold no Data to an ASP, and who becomes active is an ASP.
+-- The effect of every event but those of the link side: its own actions hold no Data to an ASP, and who
+-- becomes active is an ASP.
 -- Assumes nothing.
 use mathlib.Core.Path.{_≡_}
 use mathlib.Core.Bool.{Bool, true, false}

@@ -1,1 +1,2 @@
-// The unit held that each Data to an ASP sends: the theorem every-unit and its proof (specs/ and proofs/ alone).
+// The unit held that each Data to an ASP sends: the theorem every-unit and its proof (specs/ and proofs/
+// alone).

@@ -1,5 +1,5 @@
-// The good identifiers that a message names (Rule 8.11), as flags by the places of their links: so each stands there once, and they ascend. And a message
-// that names these alone.
+// The good identifiers that a message names (Rule 8.11), as flags by the places of their links: so each
+// stands there once, and they ascend. And a message that names these alone.
 use codec_select::Which;
 use codec_wire::HEADER;
 use codec_wire::Step;
@@ -45,8 +45,9 @@ fn is_up_to(iid: &[u32; 128], links: usize, l: usize, stop: u32) -> bool
 // A message up to this length names so few identifiers that guesses are not worth their time.
 const FEW: usize = 255;
 
-// For each number below 256 a place where a link stands whose identifier leaves that number over when divided by 256, if there is one: it is tried before a search, so
-// that most links are found at once in whatever order they are named. What does not stand there is searched for. `len` is the message's length.
+// For each number below 256 a place where a link stands whose identifier leaves that number over when divided
+// by 256, if there is one: it is tried before a search, so that most links are found at once in whatever
+// order they are named. What does not stand there is searched for. `len` is the message's length.
 fn guesses(guess: &mut [u8; 256], iid: &[u32; 128], links: usize, len: usize)
     requires { ⌜ links ≤ 128 ⌝ }
 {
@@ -93,8 +94,8 @@ fn past_near(
     state_ranges::past_of(iid, links, first, start, stop)
 }
 
-// Those of the identifiers from start to stop; the place behind them. `near` is where they may begin. Where none of them is known, the place where they
-// would begin says so, and the end is not searched for.
+// Those of the identifiers from start to stop; the place behind them. `near` is where they may begin. Where
+// none of them is known, the place where they would begin says so, and the end is not searched for.
 fn mark_range(
     until: &mut [u8; 128],
     iid: &[u32; 128],
@@ -160,7 +161,8 @@ fn past_if(named: bool, l: usize) -> usize
     if named { l + 1 } else { 0 }
 }
 
-// The same of many, in no order as a rule: by a table. What is unknown marks nothing, and no branch goes by it.
+// The same of many, in no order as a rule: by a table. What is unknown marks nothing, and no branch goes by
+// it.
 fn mark_many(until: &mut [u8; 128], value: &[u8], iid: &[u32; 128], links: usize)
     requires { ⌜ (length (now until) ≡ 128) × (links ≤ 128) × (ascends (now iid) links ≡ true) ⌝ }
     ensures { λ _. ⌜ Adds (now (until .entry)) (now (iid .entry)) links (λ x. someOf (eqb x) false (now (value .entry))) (now (until .exit)) ⌝ }
@@ -275,7 +277,8 @@ pub fn good_places<'a>(
 
 // ---- the message that names them alone
 
-// What it is made of: the traffic mode of the received one, and the identifiers of the links that a column marks with 1. Its type is that of an Active.
+// What it is made of: the traffic mode of the received one, and the identifiers of the links that a column
+// marks with 1. Its type is that of an Active.
 fn good_form() -> Form
     ensures { λ r. ⌜ r ≡ goodForm ⌝ }
 {

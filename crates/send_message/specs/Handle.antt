@@ -1,4 +1,5 @@
--- What the one call promises that runs an event on the state where it lies and writes the messages of all its actions (Rule 8.20).
+-- What the one call promises that runs an event on the state where it lies and writes the messages of all its
+-- actions (Rule 8.20).
 -- Assumes nothing.
 use mathlib.Core.Path.{_≡_}
 use Prim.Native.Nat.{ℕ, _*_}
@@ -19,7 +20,8 @@ use Rattle.rules_event.specs.Sent.{actionsOn}
 use Rattle.send_message.specs.Send.{parts, partLengths}
 use Rattle.send_message.specs.declared.Handled.{Handled}
 
--- the bytes that a buffer for them must have: 2,048 for each of 386 actions. No event gives more (crate send_reads, `fits-room`).
+-- the bytes that a buffer for them must have: 2,048 for each of 386 actions. No event gives more (crate
+-- send_reads, `fits-room`).
 abbrev pub roomBytes : ℕ
 roomBytes = 386 * 2048
 
@@ -31,8 +33,9 @@ handleCode g k size room =
     orElse 106 if not (eqb size holdBytes)
     orElse 103 if ltb room roomBytes
 
--- The promise, of the state g, the hold, the list of words, the list of lengths and the buffer before, and (with a prime) after. A refused call has no actions, so all of
--- these stay; else the state and the hold are those after the event, and there are all actions as words, and the messages of all of them.
+-- The promise, of the state g, the hold, the list of words, the list of lengths and the buffer before, and
+-- (with a prime) after. A refused call has no actions, so all of these stay; else the state and the hold are
+-- those after the event, and there are all actions as words, and the messages of all of them.
 pub record Handles (g : Gateway) (k : EventKind) (hold words lens out : List ℕ) (r : Handled) (g′ : Gateway) (hold′ words′ lens′ out′ : List ℕ) : Type 0 where
   pub refused : r .refusal ≡ handleCode g k (length hold) (length out)
   pub count : r .count ≡ cond (eqb (r .refusal) 0) (length (actionsOn g k)) 0

@@ -45,8 +45,8 @@ notifyPars g o = numberPar 0xd (o .value) ∷ idsPar g (o .subject)
 unfoldable pub goodIds : Gateway → ℕ → List Par → List ℕ
 goodIds g p ps = concatBelow (λ l. cond (isNamedGood g p ps l) (bytes32 (numberAt (g .iid) l)) []) (g .links)
 
--- Rule 8.11: the Acks of class 4 repeat the traffic mode, then what names identifiers; where one of these was refused, the good ones in one parameter instead.
--- ps are the parameters of the message of p that they answer
+-- Rule 8.11: the Acks of class 4 repeat the traffic mode, then what names identifiers; where one of these was
+-- refused, the good ones in one parameter instead. ps are the parameters of the message of p that they answer
 unfoldable pub trafficAckPars : Gateway → ℕ → List Par → List Par
 trafficAckPars g p ps = only (λ t. eqb t 0xb) ps ++ cond (firstRefused g p ps .found) (listPar (goodIds g p ps)) (only isIds ps)
 
@@ -58,7 +58,8 @@ beatAckPars ps = only (λ t. eqb t 0x9) ps
 unfoldable pub linkPars : Action → List Par
 linkPars o = numberPar 0x1 (o .subject) ∷ cond (eqb (o .classtype) dataAck) (numberPar 0x13 (o .value) ∷ []) []
 
--- Rule 8.18: a unit that was held says its interface identifier, its data with the body from the hold h, and its correlation id where it has one; i is its index
+-- Rule 8.18: a unit that was held says its interface identifier, its data with the body from the hold h, and
+-- its correlation id where it has one; i is its index
 unfoldable pub heldBody : Gateway → List ℕ → ℕ → List ℕ
 heldBody g h i = take (numberAt (g .held .length) i - 4) (drop (holdAt (i / 8) (i % 8)) h)
 
@@ -78,7 +79,8 @@ replyPars g h ps i o =
     (cond (eqb (o .classtype) userData) (unitPars g h i o)
     (linkPars o))))))
 
--- Rule 8.14: what the link side sends is passed on with all that it has. An event without a message has no parameters to repeat.
+-- Rule 8.14: what the link side sends is passed on with all that it has. An event without a message has no
+-- parameters to repeat.
 abbrev pub sentPars : Gateway → List ℕ → EventKind → ℕ → Action → List Par
 sentPars g h (message p s) i o = replyPars g h (walk s 8 .pars) i o
 sentPars g h (lost p) i o = replyPars g h [] i o

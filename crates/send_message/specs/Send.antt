@@ -1,4 +1,5 @@
--- What the entries promise that write actions as bytes: one action (Rule 8.15), and as many as go into a buffer (Rule 8.16).
+-- What the entries promise that write actions as bytes: one action (Rule 8.15), and as many as go into a
+-- buffer (Rule 8.16).
 -- Assumes nothing.
 use mathlib.Core.Path.{_≡_}
 use Prim.Native.Nat.{ℕ, _+_}
@@ -54,7 +55,8 @@ parts g h k n m = concatBelow (λ j. partAt g h k (n + j)) m
 unfoldable pub partLengths : Gateway → List ℕ → EventKind → ℕ → ℕ → List ℕ
 partLengths g h k n m = tabulate m (λ j. length (partAt g h k (n + j)))
 
--- there is no further action behind m of them, or no further length in a list of `slots`, or its message does not go into a buffer of `room` bytes
+-- there is no further action behind m of them, or no further length in a list of `slots`, or its message does
+-- not go into a buffer of `room` bytes
 unfoldable pub endsAt : Gateway → List ℕ → EventKind → ℕ → ℕ → ℕ → ℕ → Bool
 endsAt g h k n slots room m = leb (length (actionsOn g k)) (n + m) || (leb slots m || ltb room (length (parts g h k n (m + 1))))
 
@@ -71,7 +73,8 @@ batchCode g h k n slots room =
     orElse 104 if leb (length (actionsOn g k)) n
     orElse 103 if eqb (fitting g h k n slots room) 0
 
--- the promise, of the list of lengths and the buffer before and after; a refused call sends none, so all of both stays
+-- the promise, of the list of lengths and the buffer before and after; a refused call sends none, so all of
+-- both stays
 pub record SendsMany (g : Gateway) (h : List ℕ) (k : EventKind) (n : ℕ) (lens out : List ℕ) (r : Batch) (lens′ out′ : List ℕ) : Type 0 where
   pub code-is : r .code ≡ batchCode g h k n (length lens) (length out)
   pub count-is : r .count ≡ cond (eqb (r .code) 0) (fitting g h k n (length lens) (length out)) 0

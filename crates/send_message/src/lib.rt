@@ -24,7 +24,8 @@ ghost use Rattle.codec_select.specs.Inner.Picks.{PutBytes, PutPars};
 ghost use Rattle.send_message.specs.Message.{numberPar};
 ghost use Rattle.send_message.specs.Inner.Form.{owns, idsIn, heldPars, saidPars, listedPars, copiedPars, formPars, dataSize, listedSize, FormFits, numbered, saying, releasing, listing, copying, formOf};
 
-// What a call did that writes many actions: 0, how many actions it went through, and the bytes of their messages; or the number of the refusal and zeros.
+// What a call did that writes many actions: 0, how many actions it went through, and the bytes of their
+// messages; or the number of the refusal and zeros.
 #[repr(C)]
 pub struct Batch {
     pub code: u32,
@@ -53,15 +54,16 @@ const CORRELATION: u16 = 0x13;
 // The code of an Error that says which identifier was refused (Rule 8.9).
 const REFUSED_IDENTIFIER: u32 = 2;
 
-// A unit that was held, but for its bytes: the tag of its data, and its correlation id where it is marked (Rule 5.21).
+// A unit that was held, but for its bytes: the tag of its data, and its correlation id where it is marked
+// (Rule 5.21).
 pub struct Unit {
     pub tag: u16,
     pub marked: bool,
     pub correlation: u32,
 }
 
-// What the message of an action is made of: a parameter of one number, the data of a unit, another number, the identifiers of an AS, and the received parameters
-// of two selections, each of them or not.
+// What the message of an action is made of: a parameter of one number, the data of a unit, another number,
+// the identifiers of an AS, and the received parameters of two selections, each of them or not.
 pub struct Form {
     pub class: u8,
     pub msgtype: u8,
@@ -126,7 +128,8 @@ fn list(classtype: u32, tag: u16, number: u32, owned: u32) -> Form
     numbers(classtype, tag, number, false, 0, 0, true, owned as usize)
 }
 
-// The identifier of a link, a unit of that link that was held, and its correlation id where it has one (Rule 8.18).
+// The identifier of a link, a unit of that link that was held, and its correlation id where it has one
+// (Rule 8.18).
 fn release(classtype: u32, link: u32, u: Unit) -> Form
     ensures { λ r. ⌜ r ≡ releasing classtype link u ⌝ }
 {
@@ -170,7 +173,8 @@ fn copy(classtype: u32, first: Which, after: Which) -> Form
     }
 }
 
-// The form of an action that passes a message on, or of one that the gateway makes; u is the unit that it sends, if it sends one.
+// The form of an action that passes a message on, or of one that the gateway makes; u is the unit that it
+// sends, if it sends one.
 pub fn form_of(passed: bool, o: Action, u: Unit) -> Form
     ensures { λ r. ⌜ r ≡ formOf passed o u ⌝ }
 {
@@ -438,8 +442,8 @@ fn put_pars<'a>(
     put_rest(out, next, msg, iid, owner, links, f)
 }
 
-// The message of a form, whose length the caller has, written at a position; the position after it. `msg` is the received message whose parameters it repeats,
-// `body` the data of the unit that it sends.
+// The message of a form, whose length the caller has, written at a position; the position after it. `msg` is
+// the received message whose parameters it repeats, `body` the data of the unit that it sends.
 pub fn put_form<'a>(
     f: Form,
     size: usize,

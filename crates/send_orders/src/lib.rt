@@ -1,4 +1,5 @@
-// Actions as bytes (Rules 8.15, 8.16 and 8.18): the event is run, and the message of the action at a place written, or those of as many actions as go in.
+// Actions as bytes (Rules 8.15, 8.16 and 8.18): the event is run, and the message of the action at a place
+// written, or those of as many actions as go in.
 use codec_write::Written;
 use rules_action::ASP_ACTIVE_ACK;
 use rules_action::ASP_INACTIVE_ACK;
@@ -56,7 +57,8 @@ fn received(kind: u32, msg: &[u8]) -> &[u8]
     &msg[..0]
 }
 
-// Whether identifiers of a message were refused beside others that were not: an Error stands behind the Ack of an Active or Inactive.
+// Whether identifiers of a message were refused beside others that were not: an Error stands behind the Ack
+// of an Active or Inactive.
 fn in_part(words: &[u32; 1544], count: usize) -> bool
     ensures { λ r. ⌜ r ≡ isPartIn (now (words .entry)) count ⌝ }
 {
@@ -65,7 +67,8 @@ fn in_part(words: &[u32; 1544], count: usize) -> bool
         & (words[5] == MGMT_ERROR)
 }
 
-// Then the Ack repeats the good ones alone: a message that names these is written into a block; its length, and else 0.
+// Then the Ack repeats the good ones alone: a message that names these is written into a block; its length,
+// and else 0.
 fn good_if<'a>(
     part: bool,
     block: &mut [u8; 544],
@@ -129,7 +132,8 @@ fn part_size<'a>(
     )
 }
 
-// An action whose message is made: its unit's index, whether it passes the received message on, how many links there are, and where it goes.
+// An action whose message is made: its unit's index, whether it passes the received message on, how many
+// links there are, and where it goes.
 pub struct Turn {
     pub o: Action,
     pub index: usize,
@@ -176,7 +180,8 @@ struct Reached {
     length: usize,
 }
 
-// What a batch goes through: so many actions, from a place on, whether they pass the received message on, and how many links there are.
+// What a batch goes through: so many actions, from a place on, whether they pass the received message on, and
+// how many links there are.
 pub struct Run {
     pub count: usize,
     pub place: usize,
@@ -184,7 +189,8 @@ pub struct Run {
     pub links: usize,
 }
 
-// Whether two actions have the same message: both go to an ASP, nothing but the ASP differs, and neither sends a unit.
+// Whether two actions have the same message: both go to an ASP, nothing but the ASP differs, and neither
+// sends a unit.
 fn alike(o: Action, last: Action, passed: bool) -> bool
     ensures { λ r. ⌜ r ≡ areAlike passed o last ⌝ }
 {
@@ -211,7 +217,8 @@ fn repeats(words: &[u32; 1544], place: usize, n: usize, passed: bool) -> bool
     )
 }
 
-// The size bytes before a position, at most 2,048, written from there on again. They go through a block, as in put_block of crate codec_put.
+// The size bytes before a position, at most 2,048, written from there on again. They go through a block, as
+// in put_block of crate codec_put.
 fn again(out: &mut [u8], at: usize, size: usize)
     requires { ⌜ (size ≤ 2048) × (size ≤ at) × (at + size ≤ length (now out)) ⌝ }
     ensures { λ _. ⌜ now (out .exit) ≡ overlay (now (out .entry)) at (take size (drop (at - size) (now (out .entry)))) ⌝ }
@@ -242,9 +249,10 @@ fn put_again(out: &mut [u8], at: usize, size: usize) -> usize
     size
 }
 
-// From a place on what is written for each action, one behind the other, and its length: up to the last action, the last length of the list, or the first message
-// that does not go in. Where an action differs from the one before it in the ASP alone, the bytes are copied and not made anew. `list` has the indices of the units
-// that go out, of which d are out.
+// From a place on what is written for each action, one behind the other, and its length: up to the last
+// action, the last length of the list, or the first message that does not go in. Where an action differs from
+// the one before it in the ASP alone, the bytes are copied and not made anew. `list` has the indices of the
+// units that go out, of which d are out.
 fn put_many<'a, 'b>(
     run: Run,
     words: &[u32; 1544],

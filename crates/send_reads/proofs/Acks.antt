@@ -1,4 +1,5 @@
--- The lists of parameters of the Acks that repeat some of what they answer: the reader accepts their messages where it accepted what they answer.
+-- The lists of parameters of the Acks that repeat some of what they answer: the reader accepts their messages
+-- where it accepted what they answer.
 -- Assumes nothing.
 use mathlib.Core.Path.{_≡_, refl, sym, _∙_}
 use mathlib.Core.Bool.{Bool, true, false, cond, _||_, false≢true}

@@ -1,5 +1,6 @@
--- How the actions of an ASP's message begin: where an Ack of class 4 is among them it is the first, and an Error stands behind it just where identifiers were refused.
--- So what is lent to the writer stands for the received parameters.
+-- How the actions of an ASP's message begin: where an Ack of class 4 is among them it is the first, and an
+-- Error stands behind it just where identifiers were refused. So what is lent to the writer stands for the
+-- received parameters.
 -- Assumes nothing.
 use mathlib.Core.Path.{_≡_, refl, sym, _∙_}
 use mathlib.Core.Bool.{Bool, true, false, cond, _&&_}
@@ -70,7 +71,8 @@ plain =
 abbrev Short : List Par → Type 0
 Short ps = length (parsBytes (only isMode ps)) ≤ 8
 
--- of a message of p with the parameters ps: no such Ack; such an Ack, where none of its identifiers is refused; or such an Ack and an Error, where one is
+-- of a message of p with the parameters ps: no such Ack; such an Ack, where none of its identifiers is
+-- refused; or such an Ack and an Error, where one is
 data Begins (g : Gateway) (p : ℕ) (ps : List Par) : List Action → Type 0 where
   no-ack : {os : List Action} → Each Plain os → Begins g p ps os
   acked : {k : ℕ} {os : List Action} → isTrafficAck k ≡ true → firstRefused g p ps .found ≡ false → Each Quiet os → Begins g p ps (action p k 0 0 ∷ os)

@@ -1,4 +1,5 @@
--- A property of every action of an effect, by the ways in which the rules make effects (compare the laws on how many there are, of crate rules_event).
+-- A property of every action of an effect, by the ways in which the rules make effects (compare the laws on
+-- how many there are, of crate rules_event).
 -- Assumes nothing.
 use mathlib.Core.Path.{_≡_}
 use mathlib.Core.Bool.{Bool, false, _&&_}

@@ -1,4 +1,5 @@
--- The actions that the rules name, kind by kind: each goes to the link side, or sends a unit held, or goes out as a message that the reader accepts.
+-- The actions that the rules name, kind by kind: each goes to the link side, or sends a unit held, or goes
+-- out as a message that the reader accepts.
 -- Assumes nothing.
 use mathlib.Core.Path.{_≡_, refl}
 use mathlib.Core.Bool.{Bool, true, false, cond}
@@ -26,7 +27,8 @@ use Rattle.send_reads.proofs.Lists.{error-list, notify-none, notify-ids
 use Rattle.send_reads.proofs.Effects.{Holds}
 use Rattle.send_reads.proofs.Acks.{beat-list, active-list, inactive-list}
 
--- an action whose parameters q gives: it goes to the link side, or is Data to an ASP, whose unit is looked at elsewhere, or its message is accepted
+-- an action whose parameters q gives: it goes to the link side, or is Data to an ASP, whose unit is looked at
+-- elsewhere, or its message is accepted
 unfoldable pub Good : (Action → List Par) → Action → Type 0
 Good q o = (o .to ≡ linkSide) ⊎ ((isData o ≡ true) ⊎ (listCode (o .classtype / 256) (o .classtype % 256) (q o) ≡ 0))
 

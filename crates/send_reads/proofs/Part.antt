@@ -1,4 +1,5 @@
--- Some of the parameters of a message that reads: the checks find nothing in them either, and they take no more bytes.
+-- Some of the parameters of a message that reads: the checks find nothing in them either, and they take no
+-- more bytes.
 -- Assumes nothing.
 use mathlib.Core.Path.{_≡_, refl, sym, _∙_}
 use mathlib.Core.Bool.{Bool, true, false, cond, _||_, false≢true}

@@ -80,7 +80,8 @@ data-pars : (P : ℕ → ℕ → List Par → Type 0) (g : Gateway) (h : List �
 unfolding isData replyPars unitPars
 data-pars P g h ps i o d x = let e = eqb-true (o .classtype) userData (and-left _ _ d) in rw e x
 
--- whatever P says of the class, the type and the parameters of a message, it holds of every action to an ASP, if it holds of a list that is accepted and of a unit held
+-- whatever P says of the class, the type and the parameters of a message, it holds of every action to an ASP,
+-- if it holds of a list that is accepted and of a unit held
 module _ (P : ℕ → ℕ → List Par → Type 0) (list : (c t : ℕ) (ps : List Par) → listCode c t ps ≡ 0 → P c t ps) (g : Gateway) (h : List ℕ) (n : ℕ) (sound : isSound g ≡ true) where
   abbrev at : EventKind → Action
   at k = actionAt (actionsOn g k) n
@@ -119,7 +120,8 @@ every-reads g h k n c e i s =
     reads g h k (unitFor g k n) (actionAt (actionsOn g k) n)
     (every (λ c t ps. listCode c t ps ≡ 0) (λ c t ps z. z) g h n c k i s (λ d u. accepts g c (unitFor g k n) (u .place) (u .held) h e (actionAt (actionsOn g k) n)))
 
--- a message is not too long, and its class is one of the table: for this it does not matter what the hold and the correlation id are
+-- a message is not too long, and its class is one of the table: for this it does not matter what the hold and
+-- the correlation id are
 pub every-short : (g : Gateway) (h : List ℕ) (k : EventKind) (n : ℕ) → isSound g ≡ true → inPlan g k ≡ true → isSent (actionsOn g k) n ≡ true
     → (length (messageAt g h k n) ≤ most) × (hasClass table (actionAt (actionsOn g k) n .classtype / 256) ≡ true)
 unfolding messageAt sentBytes

@@ -18,7 +18,8 @@ use Rattle.rules_event.specs.Sent.{actionsOn, actionAt, isSent, unitFor}
 use Rattle.send_message.specs.Message.{sentPars}
 use Rattle.send_message.specs.Send.{messageAt, Sends}
 
--- the message of an action reads: no verdict but 0, the action's class and type, exactly the parameters that it is said to have; and it is no longer than a message may be
+-- the message of an action reads: no verdict but 0, the action's class and type, exactly the parameters that
+-- it is said to have; and it is no longer than a message may be
 pub record Reads (g : Gateway) (h : List ℕ) (k : EventKind) (i : ℕ) (o : Action) (s : List ℕ) : Type 0 where
   pub back : ReadsBack (o .classtype / 256) (o .classtype % 256) (sentPars g h k i o) s
   pub small : length s ≤ most

@@ -1,4 +1,5 @@
-// An action of an event, and what its message is made of: itself, the message that it passes on, or the unit that it sends (Rules 8.14 and 8.18).
+// An action of an event, and what its message is made of: itself, the message that it passes on, or the unit
+// that it sends (Rules 8.14 and 8.18).
 use rules_action::Action;
 use rules_action::USER_DATA;
 use send_message::Unit;
@@ -124,8 +125,8 @@ pub fn unit_for<'a>(
     0
 }
 
-// An action, and what its message is made of: whether it passes the received message on; and whether it sends a unit, from where to where that lies in the
-// hold, and the unit.
+// An action, and what its message is made of: whether it passes the received message on; and whether it sends
+// a unit, from where to where that lies in the hold, and the unit.
 pub struct Sent {
     pub o: Action,
     pub passed: bool,

@@ -1,4 +1,5 @@
-// Links by identifier, for a message that names many: a table made once, so that an identifier is found, or known to be none, without a search.
+// Links by identifier, for a message that names many: a table made once, so that an identifier is found, or
+// known to be none, without a search.
 ghost use mathlib.Core.Path.{_≡_};
 ghost use mathlib.Core.Bool.{true, cond};
 ghost use Prim.Native.Nat.{_+_, _-_, _<_, _≤_};
@@ -64,8 +65,8 @@ fn searched(iid: &[u32; 128], links: usize, x: u32) -> Found
     }
 }
 
-// Where identifier x stands. No branch goes by whether it is known, so that identifiers in no order cost no wrong guesses of the processor; a search is made
-// where several links fall on one spot.
+// Where identifier x stands. No branch goes by whether it is known, so that identifiers in no order cost no
+// wrong guesses of the processor; a search is made where several links fall on one spot.
 pub fn find<'a>(table: &'a [u8; 1024], iid: &'a [u32; 128], links: usize, x: u32) -> Found
     requires { ⌜ (links ≤ 128) × (ascends (now iid) links ≡ true) × Spots (now table) (now iid) links ⌝ }
     ensures { λ r. ⌜ Finds (now (iid .entry)) links x r ⌝ }

@@ -12,7 +12,8 @@ use Rattle.state_tables.specs.Sound.{pair, activeIn}
 unfoldable pub before : List ℕ → ℕ → ℕ → ℕ
 before active a q = countBelow (λ r. isSet active (pair a r)) q
 
--- Rule 5.15: the active members, and in load-share (mode 2) only the one that the number x chooses among them; x is the link's identifier.
+-- Rule 5.15: the active members, and in load-share (mode 2) only the one that the number x chooses among
+-- them; x is the link's identifier.
 unfoldable pub receives : List ℕ → ℕ → ℕ → ℕ → ℕ → Bool
 receives active mode a x q =
     isSet active (pair a q) && (not (eqb mode 2) || eqb (before active a q) (x % activeIn active a))

@@ -87,7 +87,8 @@ fn rest(x: u32, k: usize) -> usize
     n % k
 }
 
-// Who gets a message of a link of AS a: a flag for each ASP (Rule 5.15). x is the number that load-share goes by.
+// Who gets a message of a link of AS a: a flag for each ASP (Rule 5.15). x is the number that load-share goes
+// by.
 pub fn recipients(active: &[u8; 256], mode: u8, a: usize, x: u32) -> [bool; 16]
     requires { ⌜ a < 16 ⌝ }
     ensures { λ r. ⌜ r ≡ tabulate 16 (receives (now (active .entry)) mode a x) ⌝ }
@@ -143,7 +144,8 @@ fn eighths_below(iid: &[u32; 128], links: usize, x: u32) -> usize
     c as usize
 }
 
-// How many identifiers are below x: every eighth place is asked, then those of one eighth. (Of six searches timed, the fastest for identifiers in no order.)
+// How many identifiers are below x: every eighth place is asked, then those of one eighth. (Of six searches
+// timed, the fastest for identifiers in no order.)
 pub fn rank_of(iid: &[u32; 128], links: usize, x: u32) -> usize
     requires { ⌜ (links ≤ 128) × (ascends (now iid) links ≡ true) ⌝ }
     ensures { λ r. ⌜ (r ≡ rank (now (iid .entry)) links x) × (r ≤ links) ⌝ }

@@ -1,4 +1,5 @@
-// The identifiers that the value of a parameter names (Rule 2.11): the first that is refused, and the ASes that own the known ones.
+// The identifiers that the value of a parameter names (Rule 2.11): the first that is refused, and the ASes
+// that own the known ones.
 use state_index::Found;
 use state_ranges::Named;
 use state_ranges::Refused;
@@ -20,7 +21,8 @@ ghost use Rattle.state_names.specs.Inner.Found.{unlessGood};
 
 // ---- identifiers
 
-// How many identifiers are below x. They often come in order: so the place `near` is tried first. (500 in order take a quarter to a third of the time.)
+// How many identifiers are below x. They often come in order: so the place `near` is tried first. (500 in
+// order take a quarter to a third of the time.)
 pub fn rank_near(iid: &[u32; 128], links: usize, x: u32, near: usize) -> usize
     requires { ⌜ (links ≤ 128) × (ascends (now iid) links ≡ true) ⌝ }
     ensures { λ r. ⌜ (r ≡ rank (now (iid .entry)) links x) × (r ≤ links) ⌝ }
@@ -49,15 +51,17 @@ fn is_good_at<'a>(
     (iid[l] == x) & state_sets::has(mine, state_tables::wide(owner[l]))
 }
 
-// How far the identifiers of a value are looked at: the next entry, the place where its link may stand, and the owners so far.
+// How far the identifiers of a value are looked at: the next entry, the place where its link may stand, and
+// the owners so far.
 struct Run {
     i: usize,
     near: usize,
     set: u32,
 }
 
-// Where the last one stood where it was expected, the good ones that go on in order behind it: a loop with nothing in it but what these need. (With the
-// search in it too, 500 in order of 128 links take a fifth longer as an event.)
+// Where the last one stood where it was expected, the good ones that go on in order behind it: a loop with
+// nothing in it but what these need. (With the search in it too, 500 in order of 128 links take a fifth
+// longer as an event.)
 fn in_order<'a>(
     go: bool,
     from: Run,
@@ -116,7 +120,8 @@ fn first_unless(good: bool, old: Refused, x: u32) -> Refused
     }
 }
 
-// What was named before, with x, of which a table says where it stands. (A place that is not that of x may have any owner: so what is left over by 16.)
+// What was named before, with x, of which a table says where it stands. (A place that is not that of x may
+// have any owner: so what is left over by 16.)
 fn with_found<'a>(
     old: Named,
     iid: &'a [u32; 128],

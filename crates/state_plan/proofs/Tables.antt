@@ -25,7 +25,8 @@ bit-at mask a q h =
     let m : (a * 16 + q) % 16 ≡ q = omega arith in
     rw (d, m)
 
--- the places of row a, one after the other. (Said here, since a proof in the middle of a loop's body has too many facts to choose from.)
+-- the places of row a, one after the other. (Said here, since a proof in the middle of a loop's body has too
+-- many facts to choose from.)
 pub row-start : (a : ℕ) → a * 16 ≡ a * 16 + 0
 row-start a = omega arith
 

@@ -42,7 +42,8 @@ offset s i = be 4 s (i * 8)
 unfoldable pub count : List ℕ → ℕ → ℕ
 count s i = be 4 s (i * 8 + 4)
 
--- Each body starts where the one before it ends, and the last ends with the file: the bodies from number i on, the first of which starts at a position.
+-- Each body starts where the one before it ends, and the last ends with the file: the bodies from number i
+-- on, the first of which starts at a position.
 unfoldable pub follow : List Body → List ℕ → ℕ → ℕ → Bool
 follow [] s i at = eqb at (length s)
 follow (b ∷ bs) s i at =
@@ -57,7 +58,8 @@ layoutOk s = leb contents (length s) && follow bodies s 0 contents
 unfoldable pub column : ℕ → ℕ → (ℕ → ℕ) → List ℕ
 column places n f = tabulate places (λ i. cond (ltb i n) (f i) 0)
 
--- a word of each of n rows, which stands at a position in the first of them: of ASP rows, AS rows and link rows
+-- a word of each of n rows, which stands at a position in the first of them: of ASP rows, AS rows and link
+-- rows
 abbrev pub aspWords : List ℕ → ℕ → ℕ → List ℕ
 aspWords s at n = column 16 n (λ p. be 4 s (at + aspBody .row * p))
 
@@ -71,7 +73,8 @@ linkWords s at n = column 128 n (λ l. be 4 s (at + linkBody .row * l))
 unfoldable pub aspIds : List ℕ → List ℕ
 aspIds s = aspWords s (offset s 0) (count s 0)
 
--- the second word of an ASP's row: a mask of 16 bits, and the rule for its lists; that of a link's row: its kind, and its owner
+-- the second word of an ASP's row: a mask of 16 bits, and the rule for its lists; that of a link's row: its
+-- kind, and its owner
 abbrev pub high : ℕ → ℕ
 high x = x / 65536
 
@@ -149,7 +152,8 @@ linkKinds = 2
 abbrev pub listRules : ℕ
 listRules = 2
 
--- else 202 (Rule 4.5): besides, no two ASPs share an identifier, those of links ascend, and owners are the plan's
+-- else 202 (Rule 4.5): besides, no two ASPs share an identifier, those of links ascend, and owners are the
+-- plan's
 unfoldable pub rowsOk : Tables → Bool
 rowsOk t =
     (modesOk (t .mode) (t .ases) && (masksOk (t .mask) (t .asps) (t .ases) && allUnder (t .list) listRules (t .asps)))

@@ -148,8 +148,9 @@ fn long(x: u32) -> u64
     x as u64
 }
 
-// Identifiers that ascend, each at least one more than the one before it, owners and kinds: all of a row in one pass. The kinds are below 2 where their bits
-// together are: tested one by one, they would take 0.4 ns more for a link.
+// Identifiers that ascend, each at least one more than the one before it, owners and kinds: all of a row in
+// one pass. The kinds are below 2 where their bits together are: tested one by one, they would take 0.4 ns
+// more for a link.
 fn links_ok(s: &[u8], at: usize, links: usize, ases: u32) -> bool
     requires { ⌜ (links ≤ 128) × (at + 8 * links ≤ length (now s)) ⌝ }
     ensures { λ r. ⌜ r ≡ (allBelow (λ l. leb (floorOf (wordOf (now (s .entry)) at 8) l) (wordOf (now (s .entry)) at 8 l) && ltb (low (wordOf (now (s .entry)) (at + 4) 8 l)) ases) links && allBelow (λ l. ltb (high (wordOf (now (s .entry)) (at + 4) 8 l)) linkKinds) links) ⌝ }
@@ -232,7 +233,8 @@ fn bit_of(mask: u16, a: u16) -> u8
     ((mask >> a) % 2) as u8
 }
 
-// The masks of n rows: the upper halves of the words from a position on, in 16 bits, of which the table of members is made in fewer steps.
+// The masks of n rows: the upper halves of the words from a position on, in 16 bits, of which the table of
+// members is made in fewer steps.
 fn masks_of(s: &[u8], at: usize, n: usize) -> [u16; 16]
     requires { ⌜ (n ≤ 16) × RowsIn (length (now s)) at 8 n ⌝ }
     ensures { λ r. ⌜ r ≡ column 16 n (λ p. high (wordOf (now (s .entry)) at 8 p)) ⌝ }
@@ -274,8 +276,8 @@ fn taken(s: &[u8], code: u32) -> Places
     places_of(s)
 }
 
-// One way for accepted and refused files: where two ways build a state, the compiler makes it in a place of its own and copies it out by parts that do
-// not fit one another.
+// One way for accepted and refused files: where two ways build a state, the compiler makes it in a place of
+// its own and copies it out by parts that do not fit one another.
 fn build(s: &[u8], t: Places, code: u32) -> Loaded
     requires { ⌜ Inside t (length (now s)) × AllBytes (now s) t ⌝ }
     ensures { λ r. ⌜ r ≡ made code (stateAt (now (s .entry)) t) ⌝ }

@@ -1,4 +1,5 @@
--- The identifiers that a message names: which is refused first, and which ASes own the known ones (Rules 2.11, 5.16, 7.8).
+-- The identifiers that a message names: which is refused first, and which ASes own the known ones
+-- (Rules 2.11, 5.16, 7.8).
 -- Assumes nothing.
 use Prim.Native.Nat.{ℕ, zero, suc, _+_, _*_, _-_, _/_}
 use mathlib.Core.Bool.{Bool, true, false, _&&_, cond, not}

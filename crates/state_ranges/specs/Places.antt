@@ -1,4 +1,5 @@
--- The places of the ascending table of links that lie inside a range, and what they say of its identifiers (Rule 2.11).
+-- The places of the ascending table of links that lie inside a range, and what they say of its identifiers
+-- (Rule 2.11).
 -- Assumes nothing.
 use Prim.Native.Nat.{ℕ, _+_, _-_}
 use mathlib.Core.Path.{_≡_}
@@ -43,8 +44,9 @@ standsIn iid links start stop x =
 unfoldable pub allKnown : List ℕ → ℕ → ℕ → ℕ → Bool
 allKnown iid links start stop = allBelow (λ i. known iid links (start + i)) (span start stop)
 
--- What is known of a range stands at the places between its first and its last one, these two included, and nowhere else; without a place inside nothing of it is
--- known; and the whole range is known just where its places are as many as its identifiers.
+-- What is known of a range stands at the places between its first and its last one, these two included, and
+-- nowhere else; without a place inside nothing of it is known; and the whole range is known just where its
+-- places are as many as its identifiers.
 pub record RangeWalk (iid : List ℕ) (links start stop : ℕ) : Type 0 where
   pub exactly : (x : ℕ) → (isFrom start stop x && known iid links x) ≡ standsIn iid links start stop x
   pub none : firstPlace iid links start stop ≡ links → (x : ℕ) → (isFrom start stop x && known iid links x) ≡ false

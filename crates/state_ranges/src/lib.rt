@@ -1,4 +1,5 @@
-// The links inside a range of identifiers (Rule 2.11): from the first to the last of them, by the ascending order, so that a range costs a search and not a walk.
+// The links inside a range of identifiers (Rule 2.11): from the first to the last of them, by the ascending
+// order, so that a range costs a search and not a walk.
 ghost use mathlib.Core.Path.{_≡_};
 ghost use mathlib.Core.Bool.{true, cond, _&&_, _||_};
 ghost use Prim.Native.Nat.{_+_, _-_, _<_, _≤_};
@@ -89,8 +90,8 @@ fn ends_by(iid: &[u32; 128], links: usize, x: u32) -> bool
     false
 }
 
-// How many identifiers are below x. Links are often numbered one after the other: so the place as far from the first as x is above it is tried before the search;
-// and what is above the last needs none.
+// How many identifiers are below x. Links are often numbered one after the other: so the place as far from
+// the first as x is above it is tried before the search; and what is above the last needs none.
 pub fn rank_at(iid: &[u32; 128], links: usize, x: u32) -> usize
     requires { ⌜ (links ≤ 128) × (ascends (now iid) links ≡ true) ⌝ }
     ensures { λ r. ⌜ (r ≡ rank (now (iid .entry)) links x) × (r ≤ links) ⌝ }
@@ -109,8 +110,9 @@ pub fn rank_at(iid: &[u32; 128], links: usize, x: u32) -> usize
     state_lookup::rank_of(iid, links, x)
 }
 
-// Past the last place inside a range: as many links as have identifiers up to stop. All of the range is known where stop stands as many places after
-// the first as it is above start, so that place is tried before the search; and so is the last one, for a range that goes on beyond it.
+// Past the last place inside a range: as many links as have identifiers up to stop. All of the range is known
+// where stop stands as many places after the first as it is above start, so that place is tried before the
+// search; and so is the last one, for a range that goes on beyond it.
 pub fn past_of(iid: &[u32; 128], links: usize, first: usize, start: u32, stop: u32) -> usize
     requires { ⌜ (links ≤ 128) × (ascends (now iid) links ≡ true) × (first ≤ links) × (start ≤ stop) ⌝ }
     ensures { λ r. ⌜ (r ≡ rank (now (iid .entry)) links (stop + 1)) × (r ≤ links) ⌝ }
@@ -135,8 +137,9 @@ pub fn later(x: u8, y: u8) -> u8
     if x < y { y } else { x }
 }
 
-// The set, with the owners of the places from first on, before past. The owners of the places from l up to far[l] are in the set already: so a message has
-// each place looked at once, however many of its ranges hold it.
+// The set, with the owners of the places from first on, before past. The owners of the places from l up to
+// far[l] are in the set already: so a message has each place looked at once, however many of its ranges hold
+// it.
 fn owners_between(
     set: u32,
     far: &mut [u8; 128],
@@ -183,7 +186,8 @@ pub fn is_refused<'a>(
     (iid[l] != x) | !state_sets::has(mine, state_tables::wide(owner[l]))
 }
 
-// The first of a range that is refused; `first` is the place of start. A message has this walk once at most, for behind what it finds no other counts.
+// The first of a range that is refused; `first` is the place of start. A message has this walk once at most,
+// for behind what it finds no other counts.
 fn first_refused<'a>(
     iid: &'a [u32; 128],
     owner: &'a [u8; 128],
@@ -215,7 +219,8 @@ fn first_refused<'a>(
 
 // ---- a range, both ends meant
 
-// What the identifiers from start to stop name, beside the set: the first place inside, the last, as many as the range has identifiers, and the owners between.
+// What the identifiers from start to stop name, beside the set: the first place inside, the last, as many as
+// the range has identifiers, and the owners between.
 pub fn of_range<'a>(
     set: u32,
     far: &mut [u8; 128],

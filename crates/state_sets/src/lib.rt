@@ -1,4 +1,5 @@
-// A set of ASes, as the bits of a number: AS a is bit a. (A table of flags would be kept in sixteen registers, element by element.)
+// A set of ASes, as the bits of a number: AS a is bit a. (A table of flags would be kept in sixteen
+// registers, element by element.)
 ghost use mathlib.Core.Path.{_≡_};
 ghost use mathlib.Core.Bool.{true, cond, not, _||_, _&&_};
 ghost use lib.ListN.{set};
@@ -29,7 +30,8 @@ fn bit(t: bool) -> u32
     if t { 1 } else { 0 }
 }
 
-// The set, with AS a where t holds. (Without a branch: of many identifiers nobody can tell ahead which are known.)
+// The set, with AS a where t holds. (Without a branch: of many identifiers nobody can tell ahead which are
+// known.)
 pub fn with_if(bits: u32, a: usize, t: bool) -> u32
     requires { ⌜ a < 16 ⌝ }
     ensures { λ r. ⌜ flagsOf r ≡ cond t (set (flagsOf bits) a true) (flagsOf bits) ⌝ }

@@ -11,7 +11,8 @@ ghost use Rattle.state_tables.specs.State.{unitsOf};
 ghost use Rattle.state_lookup.specs.Links.{indexOf};
 ghost use Rattle.state_sound.specs.Inner.Sound.{isSoundOf, narrowBlank, wideBlank, blankPlaces, noneCounted, countsFit, dataFit, fieldsFit, idsFit, emptyFit, emptiesFit, rowFit, rowsFit};
 
-// n places of three columns, or of two, are zero. Columns of one width in one loop without a branch: so it becomes operations on 16 bytes.
+// n places of three columns, or of two, are zero. Columns of one width in one loop without a branch: so it
+// becomes operations on 16 bytes.
 fn narrow_blank<'a>(
     c: &'a [u16; 128],
     d: &'a [u16; 128],
@@ -288,7 +289,8 @@ pub fn units_ok<'a>(
     )
 }
 
-// The columns have their places. (They do by their type, so that nothing is left of this in the machine code.)
+// The columns have their places. (They do by their type, so that nothing is left of this in the machine
+// code.)
 fn bytes_in(c: &[u8]) -> usize
     ensures { λ r. ⌜ r ≡ length (now (c .entry)) ⌝ }
 {

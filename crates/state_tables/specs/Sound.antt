@@ -134,7 +134,8 @@ unitIndex a k = a * 8 + k
 unfoldable pub isLinkOf : List ℕ → List ℕ → ℕ → ℕ → ℕ → Bool
 isLinkOf iid owner links a x = anyBelow (λ l. eqb (numberAt iid l) x && eqb (numberAt owner l) a) links
 
--- a unit of AS a: the tag and the length of protocol data, a link of that AS, and a correlation id only where it is marked
+-- a unit of AS a: the tag and the length of protocol data, a link of that AS, and a correlation id only where
+-- it is marked
 unfoldable pub unitAt : Units → List ℕ → List ℕ → ℕ → ℕ → ℕ → Bool
 unitAt u iid owner links a i =
     ((eqb (numberAt (u .tag) i) 0x300 || eqb (numberAt (u .tag) i) 0x301)

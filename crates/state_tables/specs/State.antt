@@ -1,4 +1,5 @@
--- The state of lent columns: entries that work on the state where it lies are lent each column, and their promises speak of the state that these make up.
+-- The state of lent columns: entries that work on the state where it lies are lent each column, and their
+-- promises speak of the state that these make up.
 -- Assumes nothing.
 use Prim.Native.Nat.{ℕ}
 use mathlib.Core.List.{List}

@@ -1,4 +1,5 @@
-// The gateway's state (Rule 5.1), by value, as columns; and whether it is sound (Rule 5.4), asked group of columns by group of columns.
+// The gateway's state (Rule 5.1), by value, as columns; and whether it is sound (Rule 5.4), asked group of
+// columns by group of columns.
 ghost use mathlib.Core.Path.{_≡_};
 ghost use mathlib.Core.Bool.{true, cond, _&&_};
 ghost use Prim.Native.Nat.{_<_, _≤_};
@@ -11,11 +12,12 @@ ghost use Rattle.state_tables.specs.Inner.Rows.{rowFails, soundMarks};
 ghost use Rattle.state_tables.specs.Sound.{countsIn, blankFrom, flagWithin, differs, soundAsps, activeIn, modeAt, waitingAt, overrideAt, soundAses, ascends, allUnder, soundLinks, noUnits, zeros};
 ghost use Rattle.state_tables.specs.Inner.Sound.{soundTablesOf};
 
-// Index of a pair: as * 16 + asp. Flags are 0 or 1. Traffic modes: 1 override, 2 load-share, 3 broadcast. States of a link:
-// 0 idle, 1 starting, 2 in service, 3 stopping. `iid` is the interface identifier, `waiting` that the recovery time runs.
-// `spare` is 0 (Rule 5.20): it stands where padding would, which goes out as whatever the stack held.
-// `highspeed` is 1 for a link by Q.703 Annex A, whose sequence numbers have 12 bits, and 0 for a plain one. `wholelists` is 1 for an ASP whose lists of
-// identifiers are taken whole or not at all (Rule 7.8). `held` are the units held.
+// Index of a pair: as * 16 + asp. Flags are 0 or 1. Traffic modes: 1 override, 2 load-share, 3 broadcast.
+// States of a link: 0 idle, 1 starting, 2 in service, 3 stopping. `iid` is the interface identifier,
+// `waiting` that the recovery time runs. `spare` is 0 (Rule 5.20): it stands where padding would, which goes
+// out as whatever the stack held. `highspeed` is 1 for a link by Q.703 Annex A, whose sequence numbers have
+// 12 bits, and 0 for a plain one. `wholelists` is 1 for an ASP whose lists of identifiers are taken whole or
+// not at all (Rule 7.8). `held` are the units held.
 #[repr(C)]
 pub struct Gateway {
     pub asps: u8,
@@ -36,8 +38,9 @@ pub struct Gateway {
     pub held: Units,
 }
 
-// The units held for ASes that wait (Rule 5.21): how many each AS has, and of unit k of AS a, the oldest first, at index a * 8 + k its tag, the length
-// of that parameter, whether it has a correlation id, the identifier of its link, and that id. Its bytes lie in the hold (Rule 5.22).
+// The units held for ASes that wait (Rule 5.21): how many each AS has, and of unit k of AS a, the oldest
+// first, at index a * 8 + k its tag, the length of that parameter, whether it has a correlation id, the
+// identifier of its link, and that id. Its bytes lie in the hold (Rule 5.22).
 #[repr(C)]
 pub struct Units {
     pub count: [u8; 16],
@@ -88,8 +91,8 @@ fn limit(inside: bool, most: u8) -> u8
     if inside { most } else { 1 }
 }
 
-// Each place holds its index, so that 16 places are compared with a count at once. (More places than are read: of a shorter column the compiler
-// makes slower code.)
+// Each place holds its index, so that 16 places are compared with a count at once. (More places than are
+// read: of a shorter column the compiler makes slower code.)
 fn places() -> [u8; 128]
     ensures { λ r. ⌜ r ≡ places ⌝ }
 {
@@ -106,8 +109,8 @@ pub fn counts_ok(asps: u8, ases: u8, links: u8) -> bool
     (((1 <= asps) & (asps <= 16)) & ((1 <= ases) & (ases <= 16))) & (links <= 128)
 }
 
-// The places of two columns from n up to an end are zero. Two columns in one loop: the places that are left over by operations on 16 bytes
-// are passed one by one, and so once.
+// The places of two columns from n up to an end are zero. Two columns in one loop: the places that are left
+// over by operations on 16 bytes are passed one by one, and so once.
 fn blank<'a>(c: &'a [u8], d: &'a [u8], n: usize, end: usize) -> bool
     requires { ⌜ (n ≤ end) × (end ≤ length (now c)) × (end ≤ length (now d)) ⌝ }
     ensures { λ r. ⌜ r ≡ (blankFrom (now (c .entry)) n end && blankFrom (now (d .entry)) n end) ⌝ }
@@ -214,7 +217,8 @@ fn flags_within<'a>(place: &'a [u8; 128], c: &'a [u8], n: u8, end: usize) -> boo
     ok
 }
 
-// The groups of columns. Each answers for counts that are within the tables, and reads no place beyond them for any other.
+// The groups of columns. Each answers for counts that are within the tables, and reads no place beyond them
+// for any other.
 fn asps_ok<'a>(place: &'a [u8; 128], asps: u8, aspid: &'a [u32; 16], up: &'a [u8; 16]) -> bool
     requires { ⌜ now place ≡ places ⌝ }
     ensures { λ r. ⌜ (asps ≤ 16 → r ≡ soundAsps (now (aspid .entry)) (now (up .entry)) asps) ⌝ }
@@ -267,8 +271,9 @@ fn flags(c: &[u8; 16]) -> [u8; 16]
     r
 }
 
-// How many members of AS a are active, or 17 where a pair of its row is not as Rules 5.8 and 5.9 ask. The loop has no branch, so that it
-// becomes one operation on 16 bytes; and it sums bytes, for that is one operation too.
+// How many members of AS a are active, or 17 where a pair of its row is not as Rules 5.8 and 5.9 ask. The
+// loop has no branch, so that it becomes one operation on 16 bytes; and it sums bytes, for that is one
+// operation too.
 fn row_count<'a>(
     top: &'a [u8; 16],
     up: &'a [u8; 16],
@@ -333,7 +338,8 @@ fn marks_ok<'a>(
     ok
 }
 
-// The rows of the plan's ASes, and zeros beyond them. A row that fails ends the loop: without that exit the compiler makes slower code.
+// The rows of the plan's ASes, and zeros beyond them. A row that fails ends the loop: without that exit the
+// compiler makes slower code.
 fn ases_ok<'a>(
     place: &'a [u8; 128],
     asps: u8,

@@ -30,8 +30,9 @@ enum Named {
     NoEvent,
 }
 
-// What an event line says. The index is that of an ASP, an AS or a link place, and 0 for a message of the link side; a message stands in the first bytes of
-// the buffer, `size` of them; `words` is the length of the lent list as it is written.
+// What an event line says. The index is that of an ASP, an AS or a link place, and 0 for a message of the
+// link side; a message stands in the first bytes of the buffer, `size` of them; `words` is the length of the
+// lent list as it is written.
 pub struct Event {
     pub kind: EventKind,
     pub index: u32,

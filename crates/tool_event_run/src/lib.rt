@@ -1,4 +1,5 @@
-// The event that a script's line says: run by the entry of its kind, what it reaches, and its actions as bytes.
+// The event that a script's line says: run by the entry of its kind, what it reaches, and its actions as
+// bytes.
 use abi_node::Next;
 use abi_node::Node;
 use codec_write::Written;

@@ -53,7 +53,8 @@ answerText line = cond (ltb 65535 (length line)) badText (answerOf (commandIn (w
 unfoldable pub lineText : List ℕ → List ℕ
 lineText line = cond (eqb (length line) 0) [] (cond (eqb (getD line 0 0) 35) [] (answerText line ++ (10 ∷ [])))
 
--- A text stands in the output buffer after what was there, where the buffer for bytes has the room of its type; it is at most 17,001 characters long.
+-- A text stands in the output buffer after what was there, where the buffer for bytes has the room of its
+-- type; it is at most 17,001 characters long.
 pub record Answered (room before after : List ℕ) (used : ℕ) (text : List ℕ) (next : ℕ) : Type 0 where
   pub put : length room ≡ 32768 → Put before after used text next
   pub within : next ≤ used + 17001

@@ -1,4 +1,5 @@
-// Scripts: one line in, its answer out, put into `out` from `at` on; each function returns the place after it.
+// Scripts: one line in, its answer out, put into `out` from `at` on; each function returns the place after
+// it.
 //
 // A further command is a case of `Command`, a line of `command_of`, an arm of `answer` and a
 // function of its own.

@@ -28,7 +28,8 @@ ghost use mathlib.Core.Path.{_≡_};
 ghost use Prim.Native.Nat.{_+_, _*_, _≤_, _<_};
 ghost use lib.ListN.{length};
 
-// What goes from line to line: how much of the output buffer is filled, how many bytes of a hold are lent, and the gateway's state.
+// What goes from line to line: how much of the output buffer is filled, how many bytes of a hold are lent,
+// and the gateway's state.
 pub struct State {
     pub used: usize,
     pub lends: u32,

@@ -129,7 +129,8 @@ fn put_correlation(out: &mut [u8; 65536], at: usize, marked: bool, correlation: 
     put_byte(out, at, b'-')
 }
 
-// The unit at index i of the columns, where there is one: its AS is i / 8, and only the first places of an AS are in use.
+// The unit at index i of the columns, where there is one: its AS is i / 8, and only the first places of an AS
+// are in use.
 fn put_held(out: &mut [u8; 65536], start: usize, from: usize, u: Units, i: usize) -> usize
     requires { ⌜ (from + 55 ≤ 65536) × (i < 128) ⌝ }
     ensures { λ r. ⌜ r ≤ from + 55 ⌝ }

@@ -17,8 +17,8 @@ ghost use Prim.Native.Nat.{_+_, _*_, _≤_, _<_};
 ghost use lib.ListN.{length};
 ghost use Rattle.tool_write_line.specs.Inner.Items.{Room, Within};
 
-// As much of a list as is read: its items, and the bytes of their values. Of a list of more than 512 items the first 512 are kept,
-// and the values of all: it has more than 2,048 bytes either way.
+// As much of a list as is read: its items, and the bytes of their values. Of a list of more than 512 items
+// the first 512 are kept, and the values of all: it has more than 2,048 bytes either way.
 pub struct Items {
     pub count: usize,
     pub filled: usize,

@@ -62,7 +62,8 @@ impl Target {
 pub struct Controller {
     target: Target,
     timeout: Duration,
-    /// Every message, as a line: > and its bytes where it was sent, < where it was received. A line is written before its message is sent.
+    /// Every message, as a line: > and its bytes where it was sent, < where it was received. A line is
+    /// written before its message is sent.
     record: Option<File>,
     /// Each message in words on standard output.
     verbose: bool,
@@ -141,9 +142,11 @@ impl Controller {
         }
     }
 
-    /// More of standard input, added to what there is; `false` at its end. What the association brings meanwhile is taken in.
+    /// More of standard input, added to what there is; `false` at its end. What the association brings
+    /// meanwhile is taken in.
     pub fn more(&mut self, input: &mut Vec<u8>) -> Result<bool, String> {
-        // more than std keeps for standard input, so that nothing stays there, where no descriptor tells of it
+        // more than std keeps for standard input, so that nothing stays there, where no descriptor tells of
+        // it
         let mut bytes = [0; 1 << 16];
         loop {
             let stdin = std::io::stdin();
@@ -248,7 +251,8 @@ impl Controller {
         }
     }
 
-    /// Takes in what has come, and if there is nothing what comes within a time. The end of the association is a fault.
+    /// Takes in what has come, and if there is nothing what comes within a time. The end of the association
+    /// is a fault.
     fn take_in(&mut self, time: Duration) -> Result<(), String> {
         if self.taken()? {
             return Ok(());
@@ -340,7 +344,8 @@ impl Controller {
         Ok(())
     }
 
-    /// Round trips of Beats of `bytes` bytes, `window` of them under way at a time: the time of each in nanoseconds, and of all.
+    /// Round trips of Beats of `bytes` bytes, `window` of them under way at a time: the time of each in
+    /// nanoseconds, and of all.
     pub fn measure(
         &mut self,
         count: usize,

@@ -1,5 +1,6 @@
-//! The daemon: one loop that waits for sockets, signals and timers, makes an event of what has happened, and has the orders carried out. Events come one after the other, each with
-//! all of its orders, before anything more is read.
+//! The daemon: one loop that waits for sockets, signals and timers, makes an event of what has happened, and
+//! has the orders carried out. Events come one after the other, each with all of its orders, before anything
+//! more is read.
 use crate::arrivals::{self, Held};
 use crate::dump;
 use crate::engine::Engine;
@@ -563,7 +564,8 @@ impl Daemon {
         }
     }
 
-    /// Ends: no more is read, what waits is sent as far as it goes within a second, associations are closed in order.
+    /// Ends: no more is read, what waits is sent as far as it goes within a second, associations are closed
+    /// in order.
     fn finish(mut self) -> Result<()> {
         self.outside.log.line(
             Level::Faults,

@@ -1,4 +1,5 @@
-//! The state as text: for whoever asks with a signal, and for tests, which compare it with what `replay` says.
+//! The state as text: for whoever asks with a signal, and for tests, which compare it with what `replay`
+//! says.
 use crate::engine::Engine;
 use crate::log::Stamp;
 use crate::outside::Outside;

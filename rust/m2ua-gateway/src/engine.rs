@@ -1,4 +1,5 @@
-//! The gateway itself: the state, the hold that goes with it, and what the last event ordered, as words and as bytes. All that a host does with an event is in [`Engine::run`].
+//! The gateway itself: the state, the hold that goes with it, and what the last event ordered, as words and
+//! as bytes. All that a host does with an event is in [`Engine::run`].
 use m2ua::{Event, Gateway, Hold, Order, Orders, Refusal, Timers};
 
 pub struct Engine {
@@ -24,7 +25,8 @@ impl Engine {
         }
     }
 
-    /// Runs an event: the state becomes the next one, and the orders can be asked for. A refused one changes nothing and has no orders.
+    /// Runs an event: the state becomes the next one, and the orders can be asked for. A refused one changes
+    /// nothing and has no orders.
     pub fn run(&mut self, event: &Event<'_>) -> Result<(), Refusal> {
         self.before.clone_from(&self.state);
         self.state
@@ -39,7 +41,8 @@ impl Engine {
         self.orders.messages()
     }
 
-    /// The recovery timers to start and stop after the last event; `None` where no AS began or ceased to wait.
+    /// The recovery timers to start and stop after the last event; `None` where no AS began or ceased to
+    /// wait.
     pub fn timers(&self) -> Option<Timers> {
         let timers = *self.orders.timers();
         (!timers.is_empty()).then_some(timers)

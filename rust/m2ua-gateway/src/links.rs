@@ -1,5 +1,5 @@
-//! The link side: a process at a Unix socket that has the SS7 links, or one that is simulated here. It speaks M2UA's own messages of class 6, one to a packet, in the gateway's
-//! plain encoding:
+//! The link side: a process at a Unix socket that has the SS7 links, or one that is simulated here. It speaks
+//! M2UA's own messages of class 6, one to a packet, in the gateway's plain encoding:
 //!
 //! | from the gateway | an order to the link side: Data, Establish, Release, State, Data Retrieval Request |
 //! | to the gateway | Establish Confirm: the link is in service; Release Confirm, Release Indication: it is out of service; all else: a message for the ASPs |
@@ -9,7 +9,8 @@ use m2ua::{
 };
 use m2ua_trace::script::Happening;
 
-/// The message of an order to the link side. What the order's words do not say, a unit or a sequence number, stands in the ASP's message.
+/// The message of an order to the link side. What the order's words do not say, a unit or a sequence number,
+/// stands in the ASP's message.
 pub fn message_of(order: &Order, event: &Event<'_>) -> Result<Vec<u8>, Refusal> {
     let said = match event {
         Event::Message { message, .. } => message,
@@ -38,7 +39,8 @@ fn unit(message: &[u8]) -> Option<Parameter<'_>> {
     parameters(message).find(|p| p.tag == sys::TAG_DATA_1 || p.tag == sys::TAG_DATA_2)
 }
 
-/// The event that a message of the link side is; `None` where it tells of a link that the plan has not. What does not read, the gateway refuses.
+/// The event that a message of the link side is; `None` where it tells of a link that the plan has not. What
+/// does not read, the gateway refuses.
 pub fn event_of<'a>(message: &'a [u8], g: &Gateway) -> Option<Event<'a>> {
     let link = |id| g.link_place(id);
     match read(message).map(|r| (r.message, r.id)) {
@@ -76,7 +78,8 @@ const FOR_ASPS: [MessageType; 7] = [
     MessageType::CongestionIndication,
 ];
 
-/// The Error that the link side gets for a message that is no event; with the identifier where that is what is wrong.
+/// The Error that the link side gets for a message that is no event; with the identifier where that is what
+/// is wrong.
 pub fn error(code: u32, message: &[u8]) -> Vec<u8> {
     let (code, id) = (
         code.to_be_bytes(),
@@ -89,8 +92,8 @@ pub fn error(code: u32, message: &[u8]) -> Vec<u8> {
     write(MessageType::Error, &list).unwrap_or_default()
 }
 
-/// The simulated link side: links start and stop as soon as they are asked to, a unit comes back as if the other end had sent it, a state is confirmed, and there is never
-/// anything to retrieve.
+/// The simulated link side: links start and stop as soon as they are asked to, a unit comes back as if the
+/// other end had sent it, a state is confirmed, and there is never anything to retrieve.
 pub fn simulated(order: &Order, message: &[u8], g: &Gateway) -> Vec<Happening> {
     let id = order.subject.to_be_bytes();
     let link = Parameter::new(sys::TAG_INTERFACE_ID, &id);

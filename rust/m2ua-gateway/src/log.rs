@@ -1,4 +1,5 @@
-//! The log: lines with the time, to a file that never holds the daemon up. What cannot be written at once is kept up to a limit; lines beyond it are counted and left out.
+//! The log: lines with the time, to a file that never holds the daemon up. What cannot be written at once is
+//! kept up to a limit; lines beyond it are counted and left out.
 use crate::files;
 use crate::os;
 use std::fmt::{Arguments, Write as _};
@@ -79,7 +80,8 @@ impl<W: Write + AsRawFd> Log<W> {
         let _ = writeln!(self.text, "{} {words}", self.stamp);
     }
 
-    /// Writes what there is, as far as that takes no waiting. A file that cannot be written is nothing to fail for: there is nowhere to say it.
+    /// Writes what there is, as far as that takes no waiting. A file that cannot be written is nothing to
+    /// fail for: there is nowhere to say it.
     pub fn flush(&mut self) {
         let mut written = 0;
         while written < self.text.len()

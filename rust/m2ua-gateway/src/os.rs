@@ -43,7 +43,8 @@ struct PollFd {
     seen: i16,
 }
 
-/// What epoll tells of a descriptor: what has happened, and the number that it was watched under. (The kernel packs it on x86-64.)
+/// What epoll tells of a descriptor: what has happened, and the number that it was watched under. (The kernel
+/// packs it on x86-64.)
 #[derive(Clone, Copy)]
 #[cfg_attr(target_arch = "x86_64", repr(C, packed))]
 #[cfg_attr(not(target_arch = "x86_64"), repr(C))]
@@ -325,7 +326,8 @@ impl<const COUNT: usize, const SIZE: usize> Packets<COUNT, SIZE> {
             };
             (header.message.parts, header.message.part_count) = (part, 1);
         }
-        // Safety: each header has one part, which is one array of `bytes`; nobody else has them during the call.
+        // Safety: each header has one part, which is one array of `bytes`; nobody else has them during the
+        // call.
         let count = counted(unsafe {
             recvmmsg(
                 fd.as_raw_fd(),
@@ -409,7 +411,8 @@ pub fn transmit(fd: &OwnedFd, bytes: &[u8]) -> Result<()> {
     .map(|_| ())
 }
 
-/// Sends packets one by one, each whole, as far as there is room: how many. `WouldBlock` where there is none for the first.
+/// Sends packets one by one, each whole, as far as there is room: how many. `WouldBlock` where there is none
+/// for the first.
 pub fn transmit_all<'a>(fd: &OwnedFd, packets: impl Iterator<Item = &'a [u8]>) -> Result<usize> {
     const MOST: usize = 32;
     let mut parts = [Part::NONE; MOST];
@@ -537,7 +540,8 @@ impl Ready {
     }
 }
 
-/// Signals as a file that can be watched. From here on they do nothing else, in this thread and those that it starts.
+/// Signals as a file that can be watched. From here on they do nothing else, in this thread and those that it
+/// starts.
 pub struct Signals(OwnedFd);
 
 impl Signals {
@@ -557,7 +561,8 @@ impl Signals {
     /// The next signal that has come.
     pub fn next(&self) -> Option<i32> {
         let mut record = [0; 128];
-        // Safety: the slice is lent whole. The kernel writes records of 128 bytes that begin with the signal's number.
+        // Safety: the slice is lent whole. The kernel writes records of 128 bytes that begin with the
+        // signal's number.
         let count = unsafe { read(self.0.as_raw_fd(), record.as_mut_ptr(), record.len()) };
         (count == 128).then(|| i32::from_ne_bytes([record[0], record[1], record[2], record[3]]))
     }

@@ -1,4 +1,5 @@
-//! All that is around the gateway itself: the peers, and what is written down. It carries out orders, and remembers what these lead to.
+//! All that is around the gateway itself: the peers, and what is written down. It carries out orders, and
+//! remembers what these lead to.
 use crate::beats::Due;
 use crate::engine::Engine;
 use crate::links;
@@ -47,7 +48,8 @@ pub struct Outside {
 const COMPLAINTS: u64 = 10;
 /// So long units that are not delivered are summed up for one line.
 const LOSSES: Duration = Duration::from_secs(1);
-/// Where so much waits for an ASP, or so much of it for the link side, nothing is read of it until half has gone: a peer is held up by itself alone.
+/// Where so much waits for an ASP, or so much of it for the link side, nothing is read of it until half has
+/// gone: a peer is held up by itself alone.
 pub const FULL: usize = 32768;
 
 impl Outside {
@@ -94,7 +96,8 @@ impl Outside {
         }
     }
 
-    /// Whether so much waits that nothing more is to be read of a peer. One that is paused goes on when half has gone.
+    /// Whether so much waits that nothing more is to be read of a peer. One that is paused goes on when half
+    /// has gone.
     pub fn is_full(&self, p: usize) -> bool {
         let most = if self.peers[p].paused { FULL / 2 } else { FULL };
         let links = self.link_side();

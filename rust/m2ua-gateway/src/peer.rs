@@ -167,7 +167,8 @@ impl Peer {
         }
     }
 
-    /// What has come. To look for a second message where there is none costs as much as half a message: so that is done now and then, and as long as there is one.
+    /// What has come. To look for a second message where there is none costs as much as half a message: so
+    /// that is done now and then, and as long as there is one.
     pub fn receive(&mut self, batch: &mut Batch) {
         batch.clear();
         self.looks = self.looks.wrapping_add(1);

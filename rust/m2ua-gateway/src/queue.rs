@@ -1,7 +1,8 @@
 //! Messages that wait for a peer, oldest first, one behind the other in one buffer. Each has a mark.
 use std::collections::VecDeque;
 
-/// What a message costs beside its bytes: its entry, twice, since a list that grows has room for as much again.
+/// What a message costs beside its bytes: its entry, twice, since a list that grows has room for as much
+/// again.
 pub const ENTRY: usize = 64;
 
 /// What is known of a message beside its bytes.

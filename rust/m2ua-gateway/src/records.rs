@@ -1,4 +1,5 @@
-//! What the daemon writes down beside its log: the journal, in which each event is a line of a script (docs/SCRIPT.md), and the capture.
+//! What the daemon writes down beside its log: the journal, in which each event is a line of a script
+//! (docs/SCRIPT.md), and the capture.
 use crate::files;
 use crate::log::Stamp;
 use m2ua::Event;

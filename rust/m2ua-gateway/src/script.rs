@@ -2,7 +2,8 @@
 use m2ua::{parameters, read, sys, write, MessageType, Parameter};
 use m2ua_trace::script::bytes;
 
-/// A message as it is written in a script. As a pattern it fits every message of its type that has all of its parameters, with these values.
+/// A message as it is written in a script. As a pattern it fits every message of its type that has all of its
+/// parameters, with these values.
 #[derive(Clone, Debug, PartialEq, Eq)]
 pub struct Said {
     /// As it is written.
@@ -35,7 +36,8 @@ pub enum Command {
     Die,
 }
 
-/// The names of message types: those of the library in lower case, without "ASP" and "Data Retrieval ..", joined by minus.
+/// The names of message types: those of the library in lower case, without "ASP" and "Data Retrieval ..",
+/// joined by minus.
 pub fn name_of(message: MessageType) -> String {
     let text = message.to_string();
     let words = text.strip_prefix("ASP ").unwrap_or(&text).to_lowercase();

@@ -1,4 +1,5 @@
-//! Starting: the plan is read and loaded, sockets and files are opened. Whatever fails is said in one line or more, and nothing runs.
+//! Starting: the plan is read and loaded, sockets and files are opened. Whatever fails is said in one line or
+//! more, and nothing runs.
 use crate::beats::{self, Beats};
 use crate::daemon::{Daemon, Opened};
 use crate::engine::Engine;

@@ -1,4 +1,5 @@
-//! Why a plan file is refused: the row, and what is wrong with it. The library says only 201 or 202; that both agree is tested.
+//! Why a plan file is refused: the row, and what is wrong with it. The library says only 201 or 202; that
+//! both agree is tested.
 use m2ua::sys;
 use std::fmt;
 
@@ -25,7 +26,8 @@ const BODIES: [Body; 3] = [
 ];
 const CONTENTS: usize = 8 * BODIES.len();
 
-/// All faults of a file; `None` where this program finds none. Rows are looked at only where the layout is right.
+/// All faults of a file; `None` where this program finds none. Rows are looked at only where the layout is
+/// right.
 pub fn diagnose(file: &[u8]) -> Option<Vec<Fault>> {
     let layout = layout_faults(file);
     let faults = if layout.is_empty() {

@@ -1,4 +1,5 @@
-//! Plan files (docs/RULES.md, section 4) from text and as text. A file that this crate hands out has been loaded by the proved library.
+//! Plan files (docs/RULES.md, section 4) from text and as text. A file that this crate hands out has been
+//! loaded by the proved library.
 #![forbid(unsafe_code)]
 mod file;
 mod plan;

@@ -10,8 +10,8 @@ pub struct Asp {
     pub id: u32,
     /// Identifiers that it lists are taken all or none; else part of a list may succeed.
     pub whole_lists: bool,
-    /// Where its SCTP association comes from: each address that it may have. A plan file has no place for it: it is for the
-    /// host that reads the text, such as m2ua-gateway.
+    /// Where its SCTP association comes from: each address that it may have. A plan file has no place for it:
+    /// it is for the host that reads the text, such as m2ua-gateway.
     pub from: Vec<Origin>,
 }
 

@@ -9,8 +9,9 @@
 //! link 200 as east high-speed
 //! ```
 //!
-//! A statement is a word, its subject, and options in any order, each at most once. Names may be used before they are defined. What document 02 adds (fill numbers of
-//! links, options of ASPs and ASes, key rows) becomes an option of a statement, or a statement of its own: their words are reserved.
+//! A statement is a word, its subject, and options in any order, each at most once. Names may be used before
+//! they are defined. What document 02 adds (fill numbers of links, options of ASPs and ASes, key rows)
+//! becomes an option of a statement, or a statement of its own: their words are reserved.
 use crate::plan::{As, Asp, Link, Origin, Plan};
 use m2ua::{sys, TrafficMode};
 use std::fmt;

@@ -1,4 +1,5 @@
-//! Text to file and back; each refusal of section 4 of the rules, by row; and that this program's reasons agree with the proved loader.
+//! Text to file and back; each refusal of section 4 of the rules, by row; and that this program's reasons
+//! agree with the proved loader.
 use m2ua_plan::{compile, diagnose, parse, show};
 
 const TEXT: &str = "\

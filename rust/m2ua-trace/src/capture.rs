@@ -1,4 +1,5 @@
-//! What went over the associations as a capture file: IPv4 and SCTP, port 2904, payload protocol identifier 2. The gateway is 10.0.0.1, ASP p is 10.0.1.(p + 1); an event takes a second.
+//! What went over the associations as a capture file: IPv4 and SCTP, port 2904, payload protocol
+//! identifier 2. The gateway is 10.0.0.1, ASP p is 10.0.1.(p + 1); an event takes a second.
 use crate::trace::{Lane, Trace, What};
 use m2ua::sys;
 
@@ -105,8 +106,8 @@ pub fn pcap(trace: &Trace) -> Vec<u8> {
     out
 }
 
-/// The stream of a message (RFC 3331, 1.5.4.1 and 4.3.3): 1 for traffic, and for what makes an ASP active or inactive for it, so that an Ack stays before the units behind it; 0
-/// for management.
+/// The stream of a message (RFC 3331, 1.5.4.1 and 4.3.3): 1 for traffic, and for what makes an ASP active or
+/// inactive for it, so that an Ack stays before the units behind it; 0 for management.
 pub fn stream(message: &[u8]) -> u16 {
     let traffic = [sys::CLASS_ASPTM, sys::CLASS_MAUP];
     u16::from(message.get(2).is_some_and(|class| traffic.contains(class)))

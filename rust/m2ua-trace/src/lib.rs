@@ -1,4 +1,5 @@
-//! A script (docs/SCRIPT.md) run through the library, and what went to and fro: as a capture file, and as a message sequence chart in text and SVG.
+//! A script (docs/SCRIPT.md) run through the library, and what went to and fro: as a capture file, and as a
+//! message sequence chart in text and SVG.
 #![forbid(unsafe_code)]
 pub mod capture;
 pub mod chart;

@@ -1,4 +1,5 @@
-//! The lines of a script that load a plan, say an event or change what an event is lent; and an event as such a line.
+//! The lines of a script that load a plan, say an event or change what an event is lent; and an event as such
+//! a line.
 use m2ua::{sys, Event};
 use std::fmt;
 
@@ -80,7 +81,8 @@ impl fmt::Display for Hex<'_> {
     }
 }
 
-/// The commands of a script, or of a file of samples (`> ` before each command, `< ` before each answer). Commands that load nothing and say no event are passed over.
+/// The commands of a script, or of a file of samples (`> ` before each command, `< ` before each answer).
+/// Commands that load nothing and say no event are passed over.
 pub fn parse(source: &str) -> Result<Vec<Command>, String> {
     let samples = source.lines().any(|line| line.starts_with("> "));
     let mut commands = Vec::new();

@@ -216,7 +216,8 @@ impl Runner {
         }
     }
 
-    /// A unit that is kept, one that is turned away, and those that are discarded. (Those that go out are orders.)
+    /// A unit that is kept, one that is turned away, and those that are discarded. (Those that go out are
+    /// orders.)
     fn units(&mut self, event: &Event<'_>, before: &Gateway, after: &Gateway) {
         for a in 0..after.ases() {
             let (was, is) = (before.held(a).count(), after.held(a).count());

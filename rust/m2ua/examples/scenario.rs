@@ -1,7 +1,8 @@
-//! A small host: it loads a plan, lets two ASPs take turns, a link come up, units go both ways, an ASP fetch what a high-speed link has not sent, a list of links succeed in part,
-//! an association break, units wait until the other ASP takes over, and the recovery time run out. What a host sends, which units wait, and which timers it starts, is printed.
-//! (examples/c/scenario.c is the same in C; tools/try/hosts compares what both print.)
-//! Usage: scenario PLAN, with examples/plans/high-speed.txt compiled; or scenario words.
+//! A small host: it loads a plan, lets two ASPs take turns, a link come up, units go both ways, an ASP fetch
+//! what a high-speed link has not sent, a list of links succeed in part, an association break, units wait
+//! until the other ASP takes over, and the recovery time run out. What a host sends, which units wait, and
+//! which timers it starts, is printed. (examples/c/scenario.c is the same in C; tools/try/hosts compares what
+//! both print.) Usage: scenario PLAN, with examples/plans/high-speed.txt compiled; or scenario words.
 use m2ua::{
     parameter, protocol_data, read, sys, write, Addressee, Event, Gateway, Hold, MessageType,
     Order, Orders, Parameter, Refusal,
@@ -72,7 +73,8 @@ impl Host {
         }
     }
 
-    /// The units that an AS holds since an event, with their bytes in the hold; or how many it holds no longer.
+    /// The units that an AS holds since an event, with their bytes in the hold; or how many it holds no
+    /// longer.
     fn units(&self, before: &Gateway, a: usize) {
         let (was, is) = (before.held(a).count(), self.gateway.held(a).count());
         for (k, unit) in self.gateway.held(a).enumerate().skip(was) {
@@ -93,7 +95,8 @@ impl Host {
         }
     }
 
-    /// Asks a link for its BSN, or for the messages after a sequence number. Here it is printed; a host asks MTP2. The link can have the number: the event has seen to it.
+    /// Asks a link for its BSN, or for the messages after a sequence number. Here it is printed; a host asks
+    /// MTP2. The link can have the number: the event has seen to it.
     fn retrieve(&self, id: u32, message: &[u8]) -> Result<(), Refusal> {
         let kind = match self.gateway.is_high_speed(self.place_of(id)) {
             true => "high-speed",
@@ -260,7 +263,8 @@ fn retrieval(host: &mut Host, up: &[u8], active: &[u8]) -> Result<(), Refusal> {
     )
 }
 
-/// Links 114 to 116, of which the plan has two. Part of what left lists may succeed; what right lists is taken all or none.
+/// Links 114 to 116, of which the plan has two. Part of what left lists may succeed; what right lists is
+/// taken all or none.
 fn lists(host: &mut Host, active: &[u8]) -> Result<(), Refusal> {
     let three = [(
         sys::TAG_INTERFACE_ID_RANGE,

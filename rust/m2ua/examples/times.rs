@@ -1,4 +1,5 @@
-//! What the crate's calls cost beside the library's entries themselves: nanoseconds of one call, best of 101 rounds, and the median of the rounds' ratios. (tools/measure/bench times the entries against a
+//! What the crate's calls cost beside the library's entries themselves: nanoseconds of one call, best of 101
+//! rounds, and the median of the rounds' ratios. (tools/measure/bench times the entries against a
 //! hand-written program.) Nothing else should run on the machine.
 use m2ua::{sys, write, Event, Gateway, Hold, MessageType, Orders, Parameter};
 use std::hint::black_box;

@@ -33,7 +33,8 @@ pub enum Event<'a> {
         /// The link's place.
         link: usize,
     },
-    /// The link side has a message for the ASPs: 6.1, 6.8, 6.9 or 6.11 to 6.14, with the identifier of its link. A 6.11 has a sequence number that the link can have (Rule 5.23).
+    /// The link side has a message for the ASPs: 6.1, 6.8, 6.9 or 6.11 to 6.14, with the identifier of its
+    /// link. A 6.11 has a sequence number that the link can have (Rule 5.23).
     LinkMessage {
         /// The bytes.
         message: &'a [u8],

@@ -126,18 +126,20 @@ impl Timers {
     }
 }
 
-/// The gateway's state (Rule 5.1): the plan, and what events have made of it. It lives where the host keeps it, and events
-/// change it there. A clone is another gateway, with a hold of its own: clone the [`Hold`] with it.
+/// The gateway's state (Rule 5.1): the plan, and what events have made of it. It lives where the host keeps
+/// it, and events change it there. A clone is another gateway, with a hold of its own: clone the [`Hold`]
+/// with it.
 ///
-/// ASPs and ASes are named by number and links by place, all from 0 in the plan's order. What lies beyond the plan is
-/// `false`, 0 or `None`.
+/// ASPs and ASes are named by number and links by place, all from 0 in the plan's order. What lies beyond the
+/// plan is `false`, 0 or `None`.
 #[derive(Clone, PartialEq, Eq)]
 pub struct Gateway {
     pub(crate) state: sys::Gateway,
 }
 
 impl Gateway {
-    /// The fresh state of a plan file (section 4 of the rules), or 201 or 202. The program `m2ua-plan` makes such files from text.
+    /// The fresh state of a plan file (section 4 of the rules), or 201 or 202. The program `m2ua-plan` makes
+    /// such files from text.
     ///
     /// ```
     /// assert_eq!(m2ua::Gateway::load(b"no plan").unwrap_err().code(), 201);
@@ -150,7 +152,8 @@ impl Gateway {
         })
     }
 
-    /// A state that comes from elsewhere, as from another node: refused with 105 where it is not sound (Rule 5.4).
+    /// A state that comes from elsewhere, as from another node: refused with 105 where it is not sound
+    /// (Rule 5.4).
     pub fn from_raw(state: sys::Gateway) -> Result<Gateway, Refusal> {
         let code = if sys::is_sound(&state) {
             sys::OK
@@ -165,9 +168,9 @@ impl Gateway {
         &self.state
     }
 
-    /// An event: the state becomes the next one, and `orders` has all that is to be done: the orders, their messages, the
-    /// timers. `hold` is the one that goes with this state: Data for an AS that is pending is put there. Refused (102),
-    /// state and hold are as they were, and `orders` is empty.
+    /// An event: the state becomes the next one, and `orders` has all that is to be done: the orders, their
+    /// messages, the timers. `hold` is the one that goes with this state: Data for an AS that is pending is
+    /// put there. Refused (102), state and hold are as they were, and `orders` is empty.
     ///
     /// ```
     /// # use m2ua::{Addressee, Event, Gateway, Hold, Orders, Refusal};
@@ -209,7 +212,8 @@ impl Gateway {
         Refusal::check(handled.refusal)
     }
 
-    /// The recovery timers to start and to stop where this state was before an event, or before several, and `next` is after.
+    /// The recovery timers to start and to stop where this state was before an event, or before several, and
+    /// `next` is after.
     pub fn timers(&self, next: &Gateway) -> Timers {
         Timers {
             waits: sys::waits(&self.state.waiting, &next.state.waiting),
@@ -254,8 +258,9 @@ impl Gateway {
         (asp < self.asps()).then(|| self.state.aspid[asp])
     }
 
-    /// Whether identifiers that an ASP lists are taken all or none: an Active or Inactive with one that it cannot have is answered by Error 2 alone. Without that, part of a list
-    /// may succeed: the Ack says for which links, and Error 2 follows it with the first identifier that was bad (Rules 7.8, 8.11).
+    /// Whether identifiers that an ASP lists are taken all or none: an Active or Inactive with one that it
+    /// cannot have is answered by Error 2 alone. Without that, part of a list may succeed: the Ack says for
+    /// which links, and Error 2 follows it with the first identifier that was bad (Rules 7.8, 8.11).
     ///
     /// ```
     /// use m2ua::{sys, write, Event, Gateway, Hold, MessageType, Orders, Parameter};
@@ -297,8 +302,9 @@ impl Gateway {
         (link < self.links()).then(|| self.state.owner[link].into())
     }
 
-    /// Whether the link at a place is a high-speed one (ITU-T Q.703, Annex A), whose sequence numbers go up to 4,095. Those of a plain link go up to 127: a Retrieval Request
-    /// with a greater one is answered by Error 17, and a Retrieval Confirm of the link side refused with 102 (Rule 5.23).
+    /// Whether the link at a place is a high-speed one (ITU-T Q.703, Annex A), whose sequence numbers go up
+    /// to 4,095. Those of a plain link go up to 127: a Retrieval Request with a greater one is answered by
+    /// Error 17, and a Retrieval Confirm of the link side refused with 102 (Rule 5.23).
     ///
     /// ```
     /// use m2ua::{sys, write, Event, Gateway, Hold, MessageType, Orders, Parameter};

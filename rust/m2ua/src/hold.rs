@@ -3,8 +3,9 @@ use crate::gateway::Gateway;
 use crate::sys;
 use std::fmt;
 
-/// The hold (Rule 5.22): the bytes of the units that wait with a pending AS. Make one for each gateway, keep it beside the state, and lend it to
-/// every event. The state says which units there are, the hold has their bytes; so whoever copies or stores the one copies or stores the other.
+/// The hold (Rule 5.22): the bytes of the units that wait with a pending AS. Make one for each gateway, keep
+/// it beside the state, and lend it to every event. The state says which units there are, the hold has their
+/// bytes; so whoever copies or stores the one copies or stores the other.
 ///
 /// ```
 /// use m2ua::{sys, write, Event, Gateway, Hold, MessageType, Orders, Parameter};
@@ -52,7 +53,8 @@ impl Hold {
         }
     }
 
-    /// A hold that comes from elsewhere with its state, as from another node; `None` for another number of bytes than `sys::HOLD_BYTES`.
+    /// A hold that comes from elsewhere with its state, as from another node; `None` for another number of
+    /// bytes than `sys::HOLD_BYTES`.
     pub fn from_bytes(bytes: &[u8]) -> Option<Hold> {
         let mut hold = Hold::new();
         (bytes.len() == sys::HOLD_BYTES).then(|| {
@@ -61,7 +63,8 @@ impl Hold {
         })
     }
 
-    /// All its bytes: AS a has those from a * 2,184 on, in eight places of 273. What no unit has put there is whatever it was before.
+    /// All its bytes: AS a has those from a * 2,184 on, in eight places of 273. What no unit has put there is
+    /// whatever it was before.
     pub fn bytes(&self) -> &[u8; sys::HOLD_BYTES] {
         &self.bytes
     }

@@ -1,8 +1,10 @@
-//! The M2UA side (RFC 3331) of a signalling gateway: SS7 links come in, call controllers (ASPs) take them over by M2UA messages. This crate is a safe layer over the
-//! proved library `libm2ua.a`; it adds types, words and no rule of its own. The rules are in docs/RULES.md, the guide for hosts is docs/HOST.md.
+//! The M2UA side (RFC 3331) of a signalling gateway: SS7 links come in, call controllers (ASPs) take them
+//! over by M2UA messages. This crate is a safe layer over the proved library `libm2ua.a`; it adds types,
+//! words and no rule of its own. The rules are in docs/RULES.md, the guide for hosts is docs/HOST.md.
 //!
-//! A host has SCTP, timers and MTP2. It loads a [`Gateway`] from a plan file, makes a [`Hold`] to go with it and [`Orders`] to
-//! lend, and for each thing that happens it makes an [`Event`], calls [`Gateway::handle`] and carries out what the orders say:
+//! A host has SCTP, timers and MTP2. It loads a [`Gateway`] from a plan file, makes a [`Hold`] to go with it
+//! and [`Orders`] to lend, and for each thing that happens it makes an [`Event`], calls [`Gateway::handle`]
+//! and carries out what the orders say:
 //!
 //! ```
 //! use m2ua::{Addressee, Event, Gateway, Hold, MessageType, Orders};
@@ -25,8 +27,9 @@
 //! # Ok::<(), m2ua::Refusal>(())
 //! ```
 //!
-//! The state lives where the host keeps it, and an event changes it there; so does the hold, which has the bytes of the units
-//! that wait with a pending AS. One call gives everything that an event asks for, so no order can be lost between two calls.
+//! The state lives where the host keeps it, and an event changes it there; so does the hold, which has the
+//! bytes of the units that wait with a pending AS. One call gives everything that an event asks for, so no
+//! order can be lost between two calls.
 #![deny(unsafe_code)]
 #![warn(missing_docs)]
 

@@ -101,8 +101,9 @@ pub struct Reading {
     pub state: u32,
     /// The retrieval action of a Retrieval Request or Confirm, else 0.
     pub retrieval: u32,
-    /// The sequence number of a Retrieval Request or Confirm, where it has one: up to 4,095 (`sys::MAX_SEQUENCE`). A plain link has none above 127, which events see to
-    /// (see [`Gateway::is_high_speed`](crate::Gateway::is_high_speed)).
+    /// The sequence number of a Retrieval Request or Confirm, where it has one: up to 4,095
+    /// (`sys::MAX_SEQUENCE`). A plain link has none above 127, which events see to (see
+    /// [`Gateway::is_high_speed`](crate::Gateway::is_high_speed)).
     pub sequence: Option<u32>,
 }
 
@@ -183,7 +184,8 @@ impl fmt::Display for Parameter<'_> {
     }
 }
 
-/// The parameters of a message that [`read`] accepts, in their order. (This walk is the crate's own, in safe Rust, and not proved; it stops at the first byte that is no parameter.)
+/// The parameters of a message that [`read`] accepts, in their order. (This walk is the crate's own, in safe
+/// Rust, and not proved; it stops at the first byte that is no parameter.)
 pub fn parameters(message: &[u8]) -> Parameters<'_> {
     Parameters {
         rest: message.get(8..).unwrap_or(&[]),
@@ -209,7 +211,8 @@ impl<'a> Iterator for Parameters<'a> {
     }
 }
 
-/// The protocol data of a message, the SS7 unit: the value of its first 0x300 or 0x301; empty where there is none (Rule 1.7). It asks for no verdict: read the message first.
+/// The protocol data of a message, the SS7 unit: the value of its first 0x300 or 0x301; empty where there is
+/// none (Rule 1.7). It asks for no verdict: read the message first.
 ///
 /// ```
 /// use m2ua::{protocol_data, sys, write, MessageType, Parameter};
@@ -228,7 +231,8 @@ pub fn parameter(message: &[u8], tag: u16) -> Option<&[u8]> {
     (at.found == 1).then(|| &message[at.start..at.start + at.length])
 }
 
-/// Writes a message into a lent buffer, and hands back how many bytes it has. Refused as the reader would refuse the message; 103 where the buffer is short; the buffer is then unchanged.
+/// Writes a message into a lent buffer, and hands back how many bytes it has. Refused as the reader would
+/// refuse the message; 103 where the buffer is short; the buffer is then unchanged.
 pub fn write_into(
     message: MessageType,
     parameters: &[Parameter<'_>],
@@ -272,7 +276,8 @@ fn lend(
     let mut at = 0;
     for (i, p) in parameters.iter().enumerate() {
         tags[i] = p.tag;
-        // a value of 4 GB or more makes the list not whole, and any longer than 2,040 bytes is refused with the same number
+        // a value of 4 GB or more makes the list not whole, and any longer than 2,040 bytes is refused with
+        // the same number
         lens[i] = p.value.len().try_into().unwrap_or(u32::MAX);
         values[at..at + p.value.len()].copy_from_slice(p.value);
         at += p.value.len();

@@ -68,9 +68,11 @@ pub struct Order {
     pub to: Addressee,
     /// Which message it is.
     pub message: MessageType,
-    /// In class 6 the interface identifier, in a Notify the number of the AS, in an Error of code 2 the refused identifier, else 0.
+    /// In class 6 the interface identifier, in a Notify the number of the AS, in an Error of code 2 the
+    /// refused identifier, else 0.
     pub subject: u32,
-    /// Of an Error the code, of a Notify the status, of a Data Ack the correlation id, of State and Retrieval Requests what they ask for, else 0.
+    /// Of an Error the code, of a Notify the status, of a Data Ack the correlation id, of State and Retrieval
+    /// Requests what they ask for, else 0.
     pub value: u32,
 }
 
@@ -123,9 +125,10 @@ impl fmt::Display for Order {
     }
 }
 
-/// What a host lends to [`Gateway::handle`](crate::Gateway::handle), and what the last event that was handled with it
-/// asks for: its orders in their sequence, the message of each, and the recovery timers to start and to stop. Make one
-/// and use it for every event; it has room for all that an event can give, so nothing is ever left out.
+/// What a host lends to [`Gateway::handle`](crate::Gateway::handle), and what the last event that was handled
+/// with it asks for: its orders in their sequence, the message of each, and the recovery timers to start and
+/// to stop. Make one and use it for every event; it has room for all that an event can give, so nothing is
+/// ever left out.
 #[derive(Clone)]
 pub struct Orders {
     pub(crate) words: Box<[u32; sys::LIST_WORDS]>,
@@ -170,8 +173,8 @@ impl Orders {
         (0..self.count).filter_map(|place| self.get(place))
     }
 
-    /// The same, each with the message that goes to its ASP (Rules 8.8 to 8.18); one to the link side has none, which is no
-    /// byte.
+    /// The same, each with the message that goes to its ASP (Rules 8.8 to 8.18); one to the link side has
+    /// none, which is no byte.
     pub fn messages(&self) -> impl Iterator<Item = (Order, &[u8])> {
         let mut rest = &self.bytes[..];
         self.iter()

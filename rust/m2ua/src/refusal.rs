@@ -8,7 +8,8 @@ use std::fmt;
 pub struct Refusal(u32);
 
 impl Refusal {
-    /// The number: an Error code of RFC 3331 from the reader and the writer, 101 to 106 from events and orders, 201 or 202 from the loading of a plan.
+    /// The number: an Error code of RFC 3331 from the reader and the writer, 101 to 106 from events and
+    /// orders, 201 or 202 from the loading of a plan.
     pub fn code(self) -> u32 {
         self.0
     }

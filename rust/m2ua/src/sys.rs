@@ -1,5 +1,6 @@
-//! The library's entries, structs and numbers as include/m2ua.h has them, with that file's names without `m2ua_` and `M2UA_`. tools/check/header-check compares them with the
-//! proved sources. The one module with `unsafe`: each call lends whole slices, and the entries promise an answer to every value.
+//! The library's entries, structs and numbers as include/m2ua.h has them, with that file's names without
+//! `m2ua_` and `M2UA_`. tools/check/header-check compares them with the proved sources. The one module with
+//! `unsafe`: each call lends whole slices, and the entries promise an answer to every value.
 #![allow(unsafe_code)]
 use std::mem::{offset_of, size_of};
 
@@ -23,7 +24,8 @@ pub const HOLD_BYTES: usize = 34944;
 pub const ROOM_BYTES: usize = 790528;
 pub const STACK: usize = 32768;
 
-// The largest sequence number (0x307): of a high-speed link, which is the largest that reads, and of a plain one (Rule 5.23).
+// The largest sequence number (0x307): of a high-speed link, which is the largest that reads, and of a plain
+// one (Rule 5.23).
 pub const MAX_SEQUENCE: u32 = 4095;
 pub const MAX_SEQUENCE_PLAIN: u32 = 127;
 
@@ -45,7 +47,8 @@ pub const REFUSED_HOLD: u32 = 106;
 pub const REFUSED_LAYOUT: u32 = 201;
 pub const REFUSED_ROW: u32 = 202;
 
-// Error codes (RFC 3331, 3.3.3.1): the reader's verdicts (Rule 2.9), and the value of an Error order (Rule 8.4). The gateway gives those with a star.
+// Error codes (RFC 3331, 3.3.3.1): the reader's verdicts (Rule 2.9), and the value of an Error order
+// (Rule 8.4). The gateway gives those with a star.
 pub const ERROR_INVALID_VERSION: u32 = 1;
 pub const ERROR_INVALID_INTERFACE_ID: u32 = 2;
 pub const ERROR_UNSUPPORTED_CLASS: u32 = 3;
@@ -99,7 +102,8 @@ pub const TYPE_RETRIEVAL_COMPLETE: u8 = 13;
 pub const TYPE_CONGESTION_INDICATION: u8 = 14;
 pub const TYPE_DATA_ACK: u8 = 15;
 
-// The second word of an order (Rule 8.1): class * 256 + type. Orders to ASPs, orders to the link side, or both.
+// The second word of an order (Rule 8.1): class * 256 + type. Orders to ASPs, orders to the link side, or
+// both.
 pub const ORDER_ERROR: u32 = 0;
 pub const ORDER_NOTIFY: u32 = 1;
 pub const ORDER_UP_ACK: u32 = 772;
@@ -151,7 +155,8 @@ pub const TAG_RETRIEVAL_ACTION: u16 = 0x306;
 pub const TAG_SEQUENCE: u16 = 0x307;
 pub const TAG_RETRIEVAL_RESULT: u16 = 0x308;
 
-// State of an AS (Rule 5.2): active if a member is active; else pending while it waits; else inactive if a member is up; else down.
+// State of an AS (Rule 5.2): active if a member is active; else pending while it waits; else inactive if a
+// member is up; else down.
 pub const AS_DOWN: u32 = 0;
 pub const AS_INACTIVE: u32 = 2;
 pub const AS_ACTIVE: u32 = 3;
@@ -345,7 +350,8 @@ extern "C" {
     pub fn m2ua_load(file: *const u8, len: usize) -> Loaded;
 }
 
-/// An entry that takes the state as its columns, lent for reading or to an event: the one place that lists them.
+/// An entry that takes the state as its columns, lent for reading or to an event: the one place that lists
+/// them.
 macro_rules! entry {
     (read $name:ident($($p:ident: $t:ty),*) -> $result:ty) => {
         extern "C" {
@@ -416,8 +422,8 @@ entry!(written m2ua_handle_at(kind: u32, index: usize, msg: *const u8, msg_bytes
 /// A call of such an entry with the columns of a `&Gateway`, or of a `&mut Gateway`.
 macro_rules! call {
     ($name:ident, $g:ident, $as_ptr:ident, $($argument:expr),*) => {
-        // SAFETY: each column is that of one state, lent whole; each pointer and length are those of one slice; what is `&mut` overlaps
-        // nothing. Any bytes are a state, and every entry answers every value.
+        // SAFETY: each column is that of one state, lent whole; each pointer and length are those of one
+        // slice; what is `&mut` overlaps nothing. Any bytes are a state, and every entry answers every value.
         unsafe {
             $name(
                 $g.asps,
@@ -447,7 +453,8 @@ macro_rules! call {
     };
 }
 
-// The calls, over whole slices: a slice's pointer is never null, is aligned, and no two slices that are lent here overlap, since one is `&mut`.
+// The calls, over whole slices: a slice's pointer is never null, is aligned, and no two slices that are lent
+// here overlap, since one is `&mut`.
 
 #[inline(always)]
 pub fn read(msg: &[u8]) -> Reading {

@@ -19,7 +19,8 @@ fn all_up(mut g: Gateway, up: &[u8], hold: &mut Hold, orders: &mut Orders) -> Ga
     g
 }
 
-/// The event is done, its messages are those of its orders one by one and all at once, and the next state is handed back.
+/// The event is done, its messages are those of its orders one by one and all at once, and the next state is
+/// handed back.
 fn sent(g: &Gateway, event: &Event<'_>, hold: &mut Hold, orders: &mut Orders) -> Gateway {
     let (mut next, kept) = (g.clone(), hold.clone());
     next.handle(event, hold, orders).unwrap();
@@ -323,7 +324,8 @@ fn the_most_orders_and_the_most_bytes() {
     one_more_by_a_bad_one(&g, &mut kept, &messages);
 }
 
-/// The same state and an Active of all 128 links and one that there is not: beside the Ack, which lists the good ones, an Error, and that is the most that there is.
+/// The same state and an Active of all 128 links and one that there is not: beside the Ack, which lists the
+/// good ones, an Error, and that is the most that there is.
 fn one_more_by_a_bad_one(g: &Gateway, hold: &mut Hold, others: &[Vec<u8>]) {
     let range = [0, 0, 0, 0, 0, 0, 0, 128];
     let range = [Parameter::new(sys::TAG_INTERFACE_ID_RANGE, &range)];

@@ -8,7 +8,8 @@ const M: [u8; 28] = [
     1, 0, 4, 1, 0, 0, 0, 28, 0, 11, 0, 8, 0, 0, 0, 1, 0, 8, 0, 12, 0, 0, 0, 100, 0, 0, 0, 115,
 ];
 
-/// A plan file of ASPs (identifier, mask), modes, links (identifier, kind and owner in one word). Part of a list may succeed.
+/// A plan file of ASPs (identifier, mask), modes, links (identifier, kind and owner in one word). Part of a
+/// list may succeed.
 fn plan(asps: &[(u32, u16)], modes: &[u32], links: &[(u32, u32)]) -> Vec<u8> {
     let words = |&(id, mask): &(u32, u16)| (id, u32::from(mask) << 16);
     plan_of(&asps.iter().map(words).collect::<Vec<_>>(), modes, links)
@@ -904,7 +905,8 @@ fn kinds_of_links_in_plans_and_states() {
     }
 }
 
-/// ASPs 0 and 1 in AS 0 (override, links 100 to 102) and AS 1 (load-share, links 200 and 201), ASP 2 in AS 2 (broadcast, link 103); the lists of ASP 1 are taken whole. All are up.
+/// ASPs 0 and 1 in AS 0 (override, links 100 to 102) and AS 1 (load-share, links 200 and 201), ASP 2 in AS 2
+/// (broadcast, link 103); the lists of ASP 1 are taken whole. All are up.
 fn plan_with_whole_lists() -> (Gateway, Hold) {
     let asps = [(7, 3 << 16), (8, 3 << 16 | 1), (9, 4 << 16)];
     let links = [(100, 0), (101, 0), (102, 0), (103, 2), (200, 1), (201, 1)];
@@ -934,7 +936,8 @@ fn naming(message: MessageType, mode: u32, ids: &[u32], ranges: &[(u32, u32)]) -
     write(message, &all).unwrap()
 }
 
-/// Lists of which a part is good for ASPs 0 and 1: identifiers, ranges, mode; the good ones; the first bad one.
+/// Lists of which a part is good for ASPs 0 and 1: identifiers, ranges, mode; the good ones; the first bad
+/// one.
 type Part = (
     &'static [u32],
     &'static [(u32, u32)],
@@ -952,7 +955,8 @@ const PARTS: [Part; 5] = [
     (&[201], &[(0, u32::MAX)], 0, ALL, 0),
 ];
 
-/// An Active, or an Inactive of an ASP that is active everywhere, of such a list: the Ack and the Error as bytes, and the orders. Gives the state after it.
+/// An Active, or an Inactive of an ASP that is active everywhere, of such a list: the Ack and the Error as
+/// bytes, and the orders. Gives the state after it.
 fn in_part(g: &Gateway, hold: &mut Hold, kind: MessageType, part: &Part) -> Gateway {
     let (ids, ranges, mode, good, bad) = *part;
     let (ack, mode, told) = match kind {

@@ -16,7 +16,8 @@ slot t = cond (ltb t 20) t (cond (ltb t 0x300) 31 (cond (ltb 0x308 t) 31 (cond (
 unfoldable pub tagAt : ℕ → ℕ
 tagAt k = cond (ltb k 20) k (k + 748)
 
--- ---- a row of the table, packed: two bits for each slot say how its tag stands, and three slots, of five bits each, are the mandatory ones
+-- ---- a row of the table, packed: two bits for each slot say how its tag stands, and three slots, of five
+-- bits each, are the mandatory ones
 
 abbrev pub info : ℕ → ℕ → RowInfo
 info u m = record { uses = u; musts = m }

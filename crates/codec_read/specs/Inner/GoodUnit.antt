@@ -15,7 +15,8 @@ unfoldable pub tagIn : ℕ → List Par → ℕ
 tagIn t [] = 0
 tagIn t (p ∷ ps) = cond (eqb (key (p .tag)) (key t)) (p .tag) (tagIn t ps)
 
--- its tag, its length within the limits of Rule 2.15, and that it lies in the message, behind a tag and a length field
+-- its tag, its length within the limits of Rule 2.15, and that it lies in the message, behind a tag and a
+-- length field
 pub record GoodUnit (s : List ℕ) : Type 0 where
   pub tagged : (eqb (dataTag s) 0x300 || eqb (dataTag s) 0x301) ≡ true
   pub least : 1 ≤ dataAt s .length

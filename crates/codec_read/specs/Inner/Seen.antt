@@ -1,5 +1,5 @@
--- What the reader keeps of the parameters passed: by slot, whether a tag of the slot is there, and the number of the first.
--- The checks and the meaning, asked of that.
+-- What the reader keeps of the parameters passed: by slot, whether a tag of the slot is there, and the number
+-- of the first. The checks and the meaning, asked of that.
 -- Assumes nothing.
 use mathlib.Core.Path.{_≡_}
 use Prim.Native.Nat.{ℕ, _+_, _%_, _<_}
@@ -70,7 +70,8 @@ meaningAt c t met words =
 unfoldable pub outcomeAt : ℕ → ℕ → ℕ → List Bool → List ℕ → Reading
 outcomeAt n c t met words = cond (eqb n 0) (meaningAt c t met words) (unreadable n)
 
--- The checks in the order in which the code asks: 3 to 5, of whether the class is listed, the row, the length field and the number of bytes
+-- The checks in the order in which the code asks: 3 to 5, of whether the class is listed, the row, the length
+-- field and the number of bytes
 unfoldable pub rowCode : Bool → ℕ → ℕ → ℕ → ℕ
 rowCode listed i n len = cond (not listed) 3 (cond (eqb i 17) 4 (cond (eqb n len) (cond (eqb (len % 4) 0) 0 7) 7))
 

@@ -1,5 +1,6 @@
--- `codec_wire::place_at` meets its contract: a walk of its MIR, by hand. A `Place` is made of the slice and the position passed, in the result's local.
--- A `&[u8]` is Copy, so what it owns is had twice: once for src at exit, and once inside the result, beside the facts of at.
+-- `codec_wire::place_at` meets its contract: a walk of its MIR, by hand. A `Place` is made of the slice and
+-- the position passed, in the result's local. A `&[u8]` is Copy, so what it owns is had twice: once for src
+-- at exit, and once inside the result, beside the facts of at.
 -- Assumes nothing.
 use mathlib.Core.Path.{refl}
 use Prim.Native.Nat.{ℕ, _<_, _^_}

@@ -1,4 +1,5 @@
--- What an event asks of the gateway, as the code passes it: the rules' effect of it, and whether it is in the plan.
+-- What an event asks of the gateway, as the code passes it: the rules' effect of it, and whether it is in the
+-- plan.
 -- Assumes nothing.
 use Prim.Native.Nat.{ℕ, _<_}
 use mathlib.Core.Path.{_≡_, refl, sym, ap, _∙_}

@@ -22,7 +22,8 @@ use Rattle.event_links.specs.Inner.Side.{code-is}
 unfoldable pub namedReach : Gateway → ℕ → List ℕ → ℕ → ℕ → Bool
 namedReach g p s ids a = cond (eqb ids 1) (ownsGood g p (walk s 8 .pars) a) (isMember g a p)
 
--- neither Up, Down, Active nor Inactive: class 6 reaches the owner of its identifier; wrong says that it is an Error
+-- neither Up, Down, Active nor Inactive: class 6 reaches the owner of its identifier; wrong says that it is
+-- an Error
 unfoldable pub otherReach : Gateway → Bool → Reading → ℕ → Bool
 otherReach g wrong r a = cond wrong false (cond (eqb (r .code) 0) (cond (eqb (r .class) 6) (ownsId g (r .id) a) false) false)
 

@@ -1,4 +1,5 @@
--- What every decision promises of the struct `Decision` that it hands back, and how a choice by a test is followed.
+-- What every decision promises of the struct `Decision` that it hands back, and how a choice by a test is
+-- followed.
 -- Assumes nothing.
 use mathlib.Core.Path.{_≡_, refl, sym}
 use mathlib.Core.Bool.{Bool, true, false, cond, not, _&&_, _||_}

@@ -1,4 +1,5 @@
--- The rules of class 6 (Rules 7.14, 7.17) in the order in which the code asks, and the place of the message's link.
+-- The rules of class 6 (Rules 7.14, 7.17) in the order in which the code asks, and the place of the message's
+-- link.
 -- Assumes nothing.
 use mathlib.Core.Path.{_≡_, refl, sym, ap, _∙_}
 use mathlib.Core.Bool.{Bool, true, false, cond, not, _&&_}

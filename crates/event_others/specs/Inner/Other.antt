@@ -31,7 +31,8 @@ use Rattle.event_links.specs.Inner.Side.{code-is}
 unfoldable pub typeIn : Bool → Reading → ℕ
 typeIn wrong r = cond wrong 0 (cond (eqb (r .code) 0) (classTypeOf r) 0)
 
--- Beat, Beat Ack, class 6 and any other (Rules 7.7, 7.14, 7.23), as the code asks; six says that the type is one of class 6 that ASPs send, d what it does
+-- Beat, Beat Ack, class 6 and any other (Rules 7.7, 7.14, 7.23), as the code asks; six says that the type is
+-- one of class 6 that ASPs send, d what it does
 unfoldable pub otherTree : Effect → ℕ → Reading → Bool → Effect
 otherTree d p r six =
     cond (eqb (classTypeOf r) beat) (send (oneAction p beatAck 0 0))
@@ -44,7 +45,8 @@ unfoldable pub otherEffect : Gateway → ℕ → Bool → Reading → Effect
 otherEffect g p wrong r =
     cond wrong (send []) (cond (eqb (r .code) 0) (otherTree (classSixEffect g p r) p r (fromAsp (r .msgtype))) (send (error p (r .code))))
 
--- the same of the records: there says that there is the link that the message names, which is k at l; s is its sender
+-- the same of the records: there says that there is the link that the message names, which is k at l; s is
+-- its sender
 unfoldable pub otherIn : Bool → ℕ → ℕ → Link → Sender → Bool → Reading → Effect
 otherIn there p l k s wrong r =
     cond wrong (send []) (cond (eqb (r .code) 0) (otherTree (classSixOn there p l k s r) p r (fromAsp (r .msgtype))) (send (error p (r .code))))

@@ -32,7 +32,8 @@ pub record Performed (g : Gateway) (d : Effect) (ws ws′ : List ℕ) (r : Outco
 
 -- ---- from both to what every entry promises
 
--- the refusal of an event on the state g, where known says that what it names is in the plan; size is the hold's length
+-- the refusal of an event on the state g, where known says that what it names is in the plan; size is the
+-- hold's length
 abbrev refusalIn : Gateway → Bool → ℕ → List ℕ → ℕ
 refusalIn g known size ws = refusalOf (isSound g) known (lending (length ws) size)
 

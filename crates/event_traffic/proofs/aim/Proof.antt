@@ -1,4 +1,5 @@
--- `event_traffic::aim`: without identifiers all of p's ASes, else one parameter after the other. Assumes nothing.
+-- `event_traffic::aim`: without identifiers all of p's ASes, else one parameter after the other. Assumes
+-- nothing.
 use Rattle.event_traffic.specs.Inner.Aims.{Aims, aims-all, aims-named}
 use Rattle.event_traffic.specs.Inner.Named.{refused-mine, Refusing, refusing-none, refusing-more, refusing-end, Owners, owners-none, owners-more, good-end}
 use Rattle.rules_servers.specs.Changed.{columnOf}

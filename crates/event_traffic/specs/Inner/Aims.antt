@@ -48,7 +48,8 @@ mode-is-other g m named e = ap (λ (l : List ℕ). otherModeIn l m named) e
 abbrev pub told : ℕ → Refused → List Action
 told p bad = cond (bad .found) (error2 p (bad .id)) []
 
--- what a message is aimed at: the first refused of its identifiers and the owners of the good ones, and without any all of p's ASes
+-- what a message is aimed at: the first refused of its identifiers and the owners of the good ones, and
+-- without any all of p's ASes
 pub record Aims (e : Named) (ids : Bool) (first : Refused) (good mine : List Bool) : Type 0 where
   pub named : ids ≡ true → Names e first good
   pub all : ids ≡ false → (e .refused ≡ nothing) × (flagsOf (e .set) ≡ mine)

@@ -1,5 +1,5 @@
--- The identifiers that a message names (Rule 7.8), one parameter after the other, over what tells of one identifier whether it is refused (bad), and whether
--- AS a owns it (good a).
+-- The identifiers that a message names (Rule 7.8), one parameter after the other, over what tells of one
+-- identifier whether it is refused (bad), and whether AS a owns it (good a).
 -- Assumes nothing.
 use mathlib.Core.Path.{_≡_, refl, ap, _∙_, sym, subst}
 use mathlib.Core.Bool.{Bool, true, false, cond, _&&_, _||_, false≢true}

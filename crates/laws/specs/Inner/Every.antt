@@ -1,4 +1,5 @@
--- Further laws on `allBelow`: equal tests, and two tests at once. And two Bools that hold together, or cannot.
+-- Further laws on `allBelow`: equal tests, and two tests at once. And two Bools that hold together, or
+-- cannot.
 -- Assumes nothing.
 use Prim.Native.Nat.{ℕ, zero, suc, _<_, _≤_}
 use mathlib.Core.Path.{_≡_, refl, _∙_, sym}

@@ -1,4 +1,5 @@
--- Counting below a number: a test that holds up to a point, the one of a given rank, a count in parts; what a search finds, or that it finds nothing.
+-- Counting below a number: a test that holds up to a point, the one of a given rank, a count in parts; what a
+-- search finds, or that it finds nothing.
 -- Assumes nothing.
 use Prim.Native.Nat.{ℕ, zero, suc, _+_, _-_, _<_, _≤_}
 use mathlib.Core.Path.{_≡_, refl, ap, _∙_, sym}

@@ -1,4 +1,5 @@
--- Every event has at most 386 actions: two replies, and in each of sixteen ASes eight units and sixteen Notifies.
+-- Every event has at most 386 actions: two replies, and in each of sixteen ASes eight units and sixteen
+-- Notifies.
 -- Assumes nothing.
 use Prim.Native.Nat.{ℕ, _+_, _*_, _≤_}
 use mathlib.Core.Path.{_≡_, refl}

@@ -1,4 +1,5 @@
--- The effects of every event but a message of the link side, case by case: what holds of each shape of effect holds of them all.
+-- The effects of every event but a message of the link side, case by case: what holds of each shape of effect
+-- holds of them all.
 -- Assumes nothing.
 use Prim.Native.Nat.{ℕ, _<_}
 use mathlib.Core.Path.{_≡_, refl}
@@ -34,7 +35,8 @@ isOver (Deactivate p) = false
 isOver (Activate p) = false
 isOver Recover = true
 
--- Q holds of each shape. No action of its own is Data to an ASP, and who becomes active is an ASP. A change with replies is that of a message.
+-- Q holds of each shape. No action of its own is Data to an ASP, and who becomes active is an ASP. A change
+-- with replies is that of a message.
 pub record Shapes (Q : Effect → Type 0) : Type 0 where
   pub say-none : Q (send [])
   pub say-one : (x : Action) → isData x ≡ false → Q (send (x ∷ []))

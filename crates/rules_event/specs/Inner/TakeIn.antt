@@ -1,4 +1,5 @@
--- Where an event takes a unit in (Rule 7.24): it is Data of the link side, for an AS of the plan that waits and has room.
+-- Where an event takes a unit in (Rule 7.24): it is Data of the link side, for an AS of the plan that waits
+-- and has room.
 -- Assumes nothing.
 use Prim.Native.Nat.{ℕ, zero, suc, _<_, _≤_, _-_}
 use mathlib.Core.Path.{_≡_, refl, subst}
@@ -33,7 +34,8 @@ use Rattle.rules_event.specs.Inner.Shapes.{Shapes, effect-by}
 
 -- ---- a message of the link side
 
--- what it has where it is not refused with 102; that its link can have its sequence number is left out, for nobody asks
+-- what it has where it is not refused with 102; that its link can have its sequence number is left out, for
+-- nobody asks
 pub record Planned (g : Gateway) (s : List ℕ) : Type 0 where
   pub reads : verdict s ≡ 0
   pub class-6 : readingOf s .class ≡ 6
@@ -57,7 +59,8 @@ pub record Takes (g : Gateway) (s : List ℕ) (a : ℕ) (x : Arrival) : Type 0 w
   pub pending : isPending g a ≡ true
   pub room : numberAt (g .held .count) a < 8
 
--- A message of the link side is taken in so, or its effect is actions alone: what holds of both holds of its effect.
+-- A message of the link side is taken in so, or its effect is actions alone: what holds of both holds of its
+-- effect.
 pub link-cases : (g : Gateway) (s : List ℕ) (F : Effect → Type 0) → ((os : List Action) → F (send os)) → ((a : ℕ) (x : Arrival) → Takes g s a x → F (takeIn a x)) → F (linkMessageEffect g s (readingOf s))
 unfolding linkMessageEffect linkMessageOn holdEffect
 link-cases g s F say take =
@@ -119,7 +122,8 @@ taken-from g k a x ok i d =
     subst (TakenBy g k) d
     (effect-by (others g k) g k ok i (λ c named f. tt) (λ s e. link-cases g s (TakenBy g k) (λ os. tt) (λ c y t. record { from = s; kind = e; takes = t })))
 
--- a message of the link side that the plan knows, in a sound state: it reads, and its unit is one of an AS of the plan, with its link and its bytes
+-- a message of the link side that the plan knows, in a sound state: it reads, and its unit is one of an AS of
+-- the plan, with its link and its bytes
 pub record TakenIn (g : Gateway) (s : List ℕ) (a : ℕ) (x : Arrival) : Type 0 where
   pub takes : Takes g s a x
   pub reads : verdict s ≡ 0

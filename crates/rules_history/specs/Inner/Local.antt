@@ -1,5 +1,5 @@
--- Where two events commute: neither writes what the other reads. A state is known by what it holds at each key, and by its shape, which nothing
--- reads; an event hands back, and writes, by what it reads alone.
+-- Where two events commute: neither writes what the other reads. A state is known by what it holds at each
+-- key, and by its shape, which nothing reads; an event hands back, and writes, by what it reads alone.
 use mathlib.Core.Path.{_≡_, refl, sym, _∙_}
 use mathlib.Core.Bool.{Bool, true, false}
 use Rattle.laws.specs.Inner.Every.{false-of}

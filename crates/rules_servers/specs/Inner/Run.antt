@@ -18,7 +18,8 @@ use Rattle.rules_server.specs.Change.{after}
 use Rattle.rules_server.specs.Notify.{actionsIn}
 use Rattle.rules_servers.specs.Changed.{newActive, newWaiting, actionsAt, allActions}
 
--- what a step in AS a leaves of the columns and the words; s is the AS's record before it, `held` how many units it has
+-- what a step in AS a leaves of the columns and the words; s is the AS's record before it, `held` how many
+-- units it has
 pub record Stepped (k : Change) (named : Bool) (a : ℕ) (s : AsRecord) (held : ℕ) (id : List ℕ) (active waiting : List ℕ) (ws : List ℕ) (n : ℕ) (active′ waiting′ : List ℕ) (ws′ : List ℕ) (r : ℕ) : Type 0 where
   pub wrote : Written ws n (actionsIn named k a s held id) ws′ r
   pub acts : active′ ≡ cond named (withRow active a (after k s .acts)) active

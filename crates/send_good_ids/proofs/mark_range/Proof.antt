@@ -1,4 +1,5 @@
--- `send_good_ids::mark_range`: the places from the first one inside, before the one behind the last. Assumes nothing.
+-- `send_good_ids::mark_range`: the places from the first one inside, before the one behind the last. Assumes
+-- nothing.
 use mathlib.Core.Path.{sym, _∙_}
 use native.Mathlib.Omega.{arith}
 use borrow.Author.Tests.{not-true, not-false}

@@ -1,4 +1,5 @@
--- The places of links that a message names, marked: the mark at a place says up to where it and those behind it are named.
+-- The places of links that a message names, marked: the mark at a place says up to where it and those behind
+-- it are named.
 -- Assumes nothing.
 use mathlib.Core.Path.{_≡_, refl, sym, ap, _∙_}
 use mathlib.Core.Bool.{Bool, true, false, cond, _||_, _&&_, or-false, or-assoc}

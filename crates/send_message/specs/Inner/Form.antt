@@ -1,4 +1,5 @@
--- What the message of an action is made of, in the order in which the code asks; and that this is what specs/Message.antt says.
+-- What the message of an action is made of, in the order in which the code asks; and that this is what
+-- specs/Message.antt says.
 -- Assumes nothing.
 use mathlib.Core.Path.{_≡_, refl, sym, ap, _∙_}
 use Prim.Native.Nat.{ℕ, _+_, _*_, _/_, _%_, _<_, _≤_}
@@ -150,7 +151,8 @@ copying ct first after =
       after = after;
     }
 
--- of an action that passes a message on, or of one that the gateway makes; u is the unit that it sends, if it sends one
+-- of an action that passes a message on, or of one that the gateway makes; u is the unit that it sends, if it
+-- sends one
 unfoldable pub formOf : Bool → Action → Unit → Form
 formOf passed o u =
     cond passed (copying (o .classtype) All Nothing)
@@ -199,7 +201,8 @@ pub form-passed : (g : Gateway) (ps : List Par) (body : List ℕ) (o : Action) (
 unfolding formOf
 form-passed g ps body o u = copying-pars (g .iid) (g .owner) (g .links) ps body (o .classtype) All Nothing ∙ none-after ps (only (picks All) ps) ∙ only-all ps
 
--- each answer of the gateway, by its message; i is the index of the unit that it sends, and the parameters ps that are lent stand for those received, rs
+-- each answer of the gateway, by its message; i is the index of the unit that it sends, and the parameters ps
+-- that are lent stand for those received, rs
 module _ (g : Gateway) (h : List ℕ) (rs ps : List Par) (i : ℕ) (o : Action) (w : StandsFor g rs ps o) where
   abbrev on : Form → List Par
   on f = formPars (g .iid) (g .owner) (g .links) ps (heldBody g h i) f

@@ -1,4 +1,5 @@
--- The parameters lent to the writer, where they are not those of the received message: what an answer repeats of the one list is the same of the other.
+-- The parameters lent to the writer, where they are not those of the received message: what an answer repeats
+-- of the one list is the same of the other.
 -- Assumes nothing.
 use mathlib.Core.Path.{_≡_, refl, ap, _∙_}
 use Prim.Native.Nat.{ℕ}
@@ -110,7 +111,8 @@ pub stands-none : (g : Gateway) (o : Action) → StandsFor g [] [] o
 unfolding firstRefused
 stands-none g o = stands-self g [] o (λ e. refl)
 
--- the message x lent to the writer of the action o of an event: what the link side sent as it is; another event's message, or what stands for it
+-- the message x lent to the writer of the action o of an event: what the link side sent as it is; another
+-- event's message, or what stands for it
 abbrev pub Lends : Gateway → EventKind → List ℕ → Action → Type 0
 Lends g (message p s) x o = StandsFor g (walk s 8 .pars) (walk x 8 .pars) o
 Lends g (lost p) x o = x ≡ []

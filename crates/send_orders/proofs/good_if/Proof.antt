@@ -1,4 +1,5 @@
--- `send_orders::good_if`: what send_good_ids::put_good promises, of the sender's ASes; nothing else is said of the block. Assumes nothing.
+-- `send_orders::good_if`: what send_good_ids::put_good promises, of the sender's ASes; nothing else is said
+-- of the block. Assumes nothing.
 use native.Mathlib.Omega.{arith}
 use Rattle.laws.specs.Inner.Every.{clash}
 use Rattle.send_orders.proofs.good_if.Statement.{statement}

@@ -1,4 +1,5 @@
--- `send_orders::m2ua_handle_at`: the buffer is short, the event is refused, it has no actions, or all of them are written. Assumes nothing.
+-- `send_orders::m2ua_handle_at`: the buffer is short, the event is refused, it has no actions, or all of them
+-- are written. Assumes nothing.
 use Prim.Native.Nat.{ℕ, _+_, _<_, _≤_}
 use mathlib.Core.Path.{_≡_, refl, sym, ap, subst}
 use mathlib.Core.Bool.{Bool}

@@ -1,4 +1,5 @@
--- `send_orders::put_new`: the message made of the action, its unit and what it shows; nothing for the link side. Assumes nothing.
+-- `send_orders::put_new`: the message made of the action, its unit and what it shows; nothing for the link
+-- side. Assumes nothing.
 use Prim.Native.Nat.{ℕ, _≤_}
 use mathlib.Core.Path.{_≡_, sym, ap, _∙_, subst}
 use mathlib.Core.List.{List}

@@ -97,7 +97,8 @@ module _ (g : Gateway) (h : List ℕ) (k : EventKind) (n : ℕ) where
   not-zero true = refl
   not-zero false = refl
 
-  -- the code of many, of one length: of an action to an ASP that of one; else 104 stands behind the event's refusals
+  -- the code of many, of one length: of an action to an ASP that of one; else 104 stands behind the event's
+  -- refusals
   code-sent : (room : ℕ) → isSent (actionsOn g k) n ≡ true → batchCode g h k n 1 room ≡ sendCode g h k n room
   unfolding batchCode sendCode
   code-sent room e =

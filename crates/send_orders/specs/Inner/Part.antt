@@ -1,4 +1,5 @@
--- What is written for an action, in the code's words; and that it is what specs/Send.antt of crate send_message says.
+-- What is written for an action, in the code's words; and that it is what specs/Send.antt of crate
+-- send_message says.
 -- Assumes nothing.
 use Prim.Native.Nat.{ℕ, _+_, _-_, _*_, _/_, _%_, _<_, _≤_}
 use mathlib.Core.Path.{_≡_, refl, sym, ap, _∙_}
@@ -40,7 +41,8 @@ unfoldable pub partOf : List ℕ → List ℕ → ℕ → List ℕ → List ℕ 
 partOf iid owner n s body x =
     cond (eqb (x .o .to) linkSide) [] (encode (formIn x .class) (formIn x .msgtype) (formPars iid owner n (walk s 8 .pars) body (formIn x)))
 
--- of the columns of links and units: n links, the message s, the hold h, and the action o with the unit at index i
+-- of the columns of links and units: n links, the message s, the hold h, and the action o with the unit at
+-- index i
 abbrev pub partMade : List ℕ → List ℕ → List ℕ → List ℕ → List ℕ → List ℕ → ℕ → List ℕ → List ℕ → Bool → ℕ → Action → List ℕ
 partMade iid owner tags lengths marks correlations n s h passed i o =
     partOf iid owner n s (shown s h (sentOf tags lengths marks correlations passed i o)) (sentOf tags lengths marks correlations passed i o)
@@ -183,8 +185,8 @@ no-data : (a b c : Bool) → b ≡ false → ((a && not b) && not c) ≡ false �
 no-data true b c e h = rw e at h
 no-data false b c e h = refl
 
--- o is an action of the event k that goes to an ASP, x the message lent for it, and u the index of the unit that it sends; the code has i, which may be another number
--- where it sends none
+-- o is an action of the event k that goes to an ASP, x the message lent for it, and u the index of the unit
+-- that it sends; the code has i, which may be another number where it sends none
 module _ (g : Gateway) (h : List ℕ) (k : EventKind) (x : List ℕ) (u i : ℕ) (o : Action) (lends : Lends g k x o) (asp : eqb (o .to) linkSide ≡ false) (unit : heldOf (isPassed k) o ≡ true → i ≡ u) where
   abbrev y : Sent
   y = sentFrom g (isPassed k) i o

@@ -1,4 +1,5 @@
--- The message lent to the writer: where identifiers of an Active or Inactive were refused in part, one that names the good ones; else the event's own.
+-- The message lent to the writer: where identifiers of an Active or Inactive were refused in part, one that
+-- names the good ones; else the event's own.
 -- Assumes nothing.
 use mathlib.Core.Path.{_≡_, refl, sym, ap, _∙_, subst}
 use mathlib.Core.Bool.{Bool, true, false, cond, _&&_, _||_}
@@ -78,7 +79,8 @@ module _ (g : Gateway) (h : List ℕ) (i : ℕ) (s : List ℕ) {count : ℕ} {ws
           ∙ ap (λ (v : List ℕ). listPar v ++ only isMode (walk s 8 .pars)) (goods-are g i (walk s 8 .pars) (t .sound))
       go false w e = ap (λ (y : List ℕ). walk y 8 .pars) e
 
--- of a call of the kind `kind`: `part` says that a message of the good identifiers is lent, r bytes at the start of a block
+-- of a call of the kind `kind`: `part` says that a message of the good identifiers is lent, r bytes at the
+-- start of a block
 module _ (g : Gateway) (h : List ℕ) (kind i : ℕ) (s : List ℕ) {count : ℕ} {ws : List ℕ} {after : Gateway} (t : Ran g h (happened kind i s) count ws after) {m : ℕ} {part : Bool} (em : m ≡ g .links) (ep : part ≡ (eqb kind 0 && isPartIn ws count)) where
   at-message : kind ≡ 0 → Ran g h (message i s) count ws after
   at-message z = subst (λ (n : ℕ). Ran g h (happened n i s) count ws after) z t

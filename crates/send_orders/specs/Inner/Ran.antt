@@ -33,7 +33,8 @@ use Rattle.send_orders.specs.Inner.Part.{partFrom}
 use Rattle.send_orders.specs.Inner.There.{is-sent, unit-long, part-there}
 use Rattle.send_orders.specs.Inner.Refusals.{refused-first, accepted-rest}
 
--- an event that was run with a list of 1,544 words and was not refused: how many actions, the words, and the state after it
+-- an event that was run with a list of 1,544 words and was not refused: how many actions, the words, and the
+-- state after it
 pub record Ran (g : Gateway) (h : List ℕ) (k : EventKind) (count : ℕ) (ws : List ℕ) (after : Gateway) : Type 0 where
   pub sound : isSound g ≡ true
   pub planned : inPlan g k ≡ true
@@ -81,8 +82,8 @@ module _ {g : Gateway} {h : List ℕ} {k : EventKind} {count : ℕ} {ws : List �
   unfolding unitFor
   unit-is = gone-at g after (dataIn ws j) ∙ (λ y. getD (gone g (t .state y)) (data-is y) 0)
 
--- what the code writes for the action at a place is what the rules say: it has the number of links, the message lent for it, whether it is passed on, and the unit that
--- is sent, if one is
+-- what the code writes for the action at a place is what the rules say: it has the number of links, the
+-- message lent for it, whether it is passed on, and the unit that is sent, if one is
 pub part-called : (g : Gateway) (h : List ℕ) (kind i : ℕ) (s : List ℕ) {count : ℕ} {ws : List ℕ} {after : Gateway} → Ran g h (happened kind i s) count ws after → (j : ℕ) → j < count → (x : List ℕ)
     → {m : ℕ} {o : Action} {u : ℕ} → m ≡ g .links → Lends g (happened kind i s) x (actionAt (actionsOn g (happened kind i s)) j) → o ≡ actionIn ws j
     → (heldOf (eqb kind 5) o ≡ true → u ≡ numberAt (goneList (g .held .count) (after .held .count)) (dataIn ws j)) → partFrom g h m x (eqb kind 5) u o ≡ partAt g h (happened kind i s) j

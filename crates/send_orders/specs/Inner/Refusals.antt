@@ -10,7 +10,8 @@ use Rattle.rules_event.specs.Event.{lending}
 use Rattle.rules_event.specs.Effect.{holdBytes}
 use Rattle.rules_event.specs.Rules.{refusalOf, leastRoom}
 
--- 101 cannot come up where the list has the words that an event asks for: what is refused is refused for 105, 102 or 106, which both forms give too
+-- 101 cannot come up where the list has the words that an event asks for: what is refused is refused for 105,
+-- 102 or 106, which both forms give too
 pub refused-first : (sound known : Bool) (hold rest r : ℕ) → r ≡ refusalOf sound known (lending leastRoom hold) → ¬ (r ≡ 0)
     → r ≡ 105 if not sound orElse 102 if not known orElse 106 if not (eqb hold holdBytes) orElse rest
 unfolding refusalOf

@@ -29,7 +29,8 @@ pub good-within : (iid owner : List ℕ) (links : ℕ) (mine : List Bool) (l x :
 unfolding GoodAt
 good-within iid owner links mine l x g = ltb-true l links (and-left (ltb l links) (eqb (numberAt iid l) x && flagAt mine (numberAt owner l)) g)
 
--- beside what was named before (old), the entries before i: the first that is refused, and the flags of their owners
+-- beside what was named before (old), the entries before i: the first that is refused, and the flags of their
+-- owners
 pub record Sofar (iid owner : List ℕ) (links : ℕ) (mine : List Bool) (value : List ℕ) (old : Refused) (flags : List Bool) (i : ℕ) (first : Refused) (now : List Bool) : Type 0 where
   pub refused : first ≡ earlier old (firstOf (refusedEntry (refusedBy iid owner links mine) false value) i)
   pub set : now ≡ Flags (isOwnedBy iid owner links) false value flags i

@@ -1,4 +1,5 @@
--- `state_plan::masks_ok`: the masks passed name no AS beyond the plan's, and the rules for lists are known ones. Assumes nothing.
+-- `state_plan::masks_ok`: the masks passed name no AS beyond the plan's, and the rules for lists are known
+-- ones. Assumes nothing.
 use Prim.Native.Nat.{_≤_, _-_}
 use mathlib.Core.Path.{_≡_, sym}
 use mathlib.Core.Bool.{_&&_}

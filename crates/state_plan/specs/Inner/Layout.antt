@@ -1,5 +1,5 @@
--- Where the bodies of a file start and how many rows they have: what the code carries along. The answer to a file from there: a number, and the state of the rows
--- that are taken over.
+-- Where the bodies of a file start and how many rows they have: what the code carries along. The answer to a
+-- file from there: a number, and the state of the rows that are taken over.
 -- Assumes nothing.
 use Prim.Native.Nat.{ℕ, _+_, _*_, _≤_, _%_, _/_}
 use mathlib.Core.Path.{_≡_, refl, ap, sym, _∙_}

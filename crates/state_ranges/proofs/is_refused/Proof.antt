@@ -1,4 +1,5 @@
--- `state_ranges::is_refused`: the link at l decides, and past the last link nothing is known. Assumes nothing.
+-- `state_ranges::is_refused`: the link at l decides, and past the last link nothing is known. Assumes
+-- nothing.
 use mathlib.Core.Path.{sym}
 use native.Mathlib.Omega.{arith}
 use borrow.Author.Needs.{needs}

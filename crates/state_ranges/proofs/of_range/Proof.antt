@@ -1,4 +1,5 @@
--- `state_ranges::of_range`: nothing is refused where there are as many places as identifiers and the owners between are all in mine; else the walk tells. Assumes nothing.
+-- `state_ranges::of_range`: nothing is refused where there are as many places as identifiers and the owners
+-- between are all in mine; else the walk tells. Assumes nothing.
 use Prim.Native.Nat.{_+_}
 use mathlib.Core.Path.{sym, _∙_}
 use native.Mathlib.Omega.{arith}

@@ -1,4 +1,5 @@
--- `state_ranges::owners_between`: places looked at before are skipped, the flags of the others' owners are set. Assumes nothing.
+-- `state_ranges::owners_between`: places looked at before are skipped, the flags of the others' owners are
+-- set. Assumes nothing.
 use Prim.Native.Nat.{_≤_, _<_, _-_}
 use mathlib.Core.Path.{_≡_, refl, sym, ap, _∙_}
 use mathlib.Core.Bool.{true}

@@ -1,4 +1,5 @@
--- `state_ranges::rank_at`: where the guess holds it is the rank, and above the last identifier all are below. Assumes nothing.
+-- `state_ranges::rank_at`: where the guess holds it is the rank, and above the last identifier all are below.
+-- Assumes nothing.
 use Prim.Native.Nat.{_-_}
 use mathlib.Core.Path.{sym, _∙_}
 use native.Mathlib.Omega.{arith}

@@ -1,4 +1,5 @@
--- `state_ranges::with_id`: one that stands nowhere is refused, and where it stands its owner is added and decides. Assumes nothing.
+-- `state_ranges::with_id`: one that stands nowhere is refused, and where it stands its owner is added and
+-- decides. Assumes nothing.
 use Prim.Native.Nat.{_<_}
 use mathlib.Core.Path.{_≡_, sym, ap, _∙_}
 use native.Mathlib.Omega.{arith}

@@ -1,4 +1,5 @@
--- The places inside a range are those from the rank of its start up to the rank past its stop; the theorem of specs/Places.antt follows from the ascending order.
+-- The places inside a range are those from the rank of its start up to the rank past its stop; the theorem of
+-- specs/Places.antt follows from the ascending order.
 -- Assumes nothing.
 use Prim.Native.Nat.{ℕ, zero, suc, _+_, _-_, _<_, _≤_}
 use mathlib.Core.Path.{_≡_, refl, _∙_, sym}

@@ -1,4 +1,5 @@
--- `state_tables::many_new`: the places passed differ from those before them and from the last. Assumes nothing.
+-- `state_tables::many_new`: the places passed differ from those before them and from the last. Assumes
+-- nothing.
 use Prim.Native.Nat.{_≤_, _-_}
 use mathlib.Core.Path.{_≡_, sym, _∙_}
 use mathlib.Core.Bool.{true}

@@ -1,4 +1,5 @@
--- `state_tables::row_count`: whether a pair passed fails; if none does, as many are active as the flags passed add up to. Assumes nothing.
+-- `state_tables::row_count`: whether a pair passed fails; if none does, as many are active as the flags
+-- passed add up to. Assumes nothing.
 use Prim.Native.Nat.{_≤_, _<_, _-_, _*_}
 use mathlib.Core.Path.{_≡_, sym, refl, _∙_}
 use mathlib.Core.Bool.{false}

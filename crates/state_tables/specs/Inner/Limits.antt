@@ -1,5 +1,5 @@
--- Limits by place: inside the count a bound of the column's own, beyond it 1, under which only 0 is. What they mean is said once, of any
--- column of flags.
+-- Limits by place: inside the count a bound of the column's own, beyond it 1, under which only 0 is. What
+-- they mean is said once, of any column of flags.
 -- Assumes nothing.
 use Prim.Native.Nat.{ℕ, zero, suc, _<_, _≤_}
 use mathlib.Core.Path.{_≡_, refl}

@@ -29,7 +29,8 @@ abbrev pub marksAt : List ℕ → List ℕ → List ℕ → ℕ → ℕ → Bool
 marksAt count mode waiting ases a =
     (modeAt (numberAt mode a) (ltb a ases) && waitingAt (numberAt waiting a) (numberAt count a) (ltb a ases)) && overrideAt (numberAt mode a) (numberAt count a)
 
--- the row of AS a has a pair that fails: a member at its limit or beyond, or one that is active and is not both member and up
+-- the row of AS a has a pair that fails: a member at its limit or beyond, or one that is active and is not
+-- both member and up
 unfoldable pub rowFails : List ℕ → List ℕ → List ℕ → List ℕ → ℕ → Bool
 rowFails top up member active a = anyBelow (pairFails top up member active a) 16
 
@@ -103,7 +104,8 @@ pub marks-turn : (place count mode waiting : List ℕ) (ases a : ℕ) (ok t w o 
 unfolding soundMarks
 marks-turn place count mode waiting ases a ok t w o b p h e f g = rw (h, e, f, g, p, place-at a (omega arith)) (sym (all-more (marksAt count mode waiting ases) a))
 
--- the next of 16 places. (Said here, since a proof in the middle of a loop's body has too many facts to choose from.)
+-- the next of 16 places. (Said here, since a proof in the middle of a loop's body has too many facts to
+-- choose from.)
 pub next-fits : (q : ℕ) → q < 16 → q + 1 < 18446744073709551616
 next-fits q b = omega arith
 
@@ -120,7 +122,8 @@ sum-fits n q x a b d = omega arith
 pub sum-next : (n q x : ℕ) → n ≤ q * 255 → x ≤ 255 → n + x ≤ (q + 1) * 255
 sum-next n q x a d = omega arith
 
--- a turn over a row: so long as no pair fails, what is active is a flag, and the sum of the flags is their count
+-- a turn over a row: so long as no pair fails, what is active is a flag, and the sum of the flags is their
+-- count
 pub row-turn : (t m u x n k : ℕ) (b : Bool) → u ≤ 1 → (b ≡ false → n ≡ k) → (b || (leb t m || ltb (least m u) x)) ≡ false → n + x ≡ k + one (eqb x 1)
 row-turn t m u x n k true w e h = absurd (false≢true (sym h))
 row-turn t m u x n k false w e h = rw (e refl) (go x (omega (arith, ltb-false (least m u) x (last (leb t m) h), low (decLt m u))))

@@ -13,7 +13,8 @@ use Rattle.tool_text.specs.declared.Number.{Number}
 use Rattle.tool_text.specs.declared.Number.the-variants.{Value, NoNumber}
 use Rattle.tool_text.specs.Parse.{isHex, unhex, octets, sizeOf}
 
--- a number with one more decimal digit: none where the character is no digit or the number doesn't fit 32 bits
+-- a number with one more decimal digit: none where the character is no digit or the number doesn't fit 32
+-- bits
 unfoldable pub addDigit : ℕ → ℕ → Number
 addDigit n b =
     cond (ltb b 48) NoNumber
