@@ -48,7 +48,7 @@ pub struct Side<'a> {
 
 impl<'a> Side<'a> {
     #[inline(always)]
-    pub fn next(&mut self) -> (&mut Gateway, &'a Call) {
+    pub fn turn(&mut self) -> (&mut Gateway, &'a Call) {
         let (state, call) = &self.calls[self.at];
         if self.back {
             self.state = *state;

@@ -39,11 +39,11 @@ fn turns(name: &str, calls: &[(Gateway, bench::lines::Call)], orders: u32) {
     timing::compare(
         &format!("{name}{star}"),
         || {
-            let (g, call) = ours.next();
+            let (g, call) = ours.turn();
             black_box(call).proved(g, &mut v, &mut x)
         },
         || {
-            let (g, call) = theirs.next();
+            let (g, call) = theirs.turn();
             hand(g, black_box(call).event(), &mut w, &mut y)
         },
     );

@@ -238,11 +238,11 @@ fn whole(name: &str, hold: &[u8], calls: &[(Gateway, Call)], orders: u32) {
     timing::compare(
         &format!("{name}{star}"),
         || {
-            let (g, call) = ours.next();
+            let (g, call) = ours.turn();
             v.proved(g, black_box(call))
         },
         || {
-            let (g, call) = theirs.next();
+            let (g, call) = theirs.turn();
             hand_handle(g, black_box(call).event(), &mut w)
         },
     );
@@ -272,11 +272,11 @@ fn against_old(name: &str, turns: &Turns, mut v: Lent, mut w: Lent) {
     timing::compare(
         &format!("{name}, against old"),
         || {
-            let (g, call) = ours.next();
+            let (g, call) = ours.turn();
             v.proved(g, black_box(call))
         },
         || {
-            let (g, call) = theirs.next();
+            let (g, call) = theirs.turn();
             two(g, black_box(call))
         },
     );

@@ -171,7 +171,8 @@ mod tests {
     #[test]
     fn every_unit_is_counted() {
         let g = Gateway::load(&m2ua_plan::compile(PLAN).unwrap()).unwrap();
-        let (mut engine, mut units) = (Engine::new(g), Units::new(&g));
+        let mut units = Units::new(&g);
+        let mut engine = Engine::new(g);
         let mut happens = |event: Event<'_>| {
             engine.run(&event).unwrap();
             units.count(&event, &engine);
