@@ -1,13 +1,24 @@
 // Makes the struct `Decision`, one function for each shape of effect.
 use rules_action::Action;
 use rules_event::Decision;
+use rules_server::Arrival;
 use rules_server::Change;
 ghost use mathlib.Core.Path.{_≡_};
 ghost use mathlib.Core.List.{[], _∷_};
 ghost use Prim.Native.Nat.{_<_};
 ghost use Rattle.rules_action.specs.Words.{action, linkSide, toAll};
-ghost use Rattle.rules_event.specs.Effect.{send, setLink, changeIn};
+ghost use Rattle.rules_event.specs.Effect.{send, setLink, changeIn, takeIn};
 ghost use Rattle.event_decision.specs.Inner.Decides.{Decides, aspOf};
+
+// What stands where no unit comes in.
+const NO_UNIT: Arrival = Arrival {
+    tag: 0,
+    length: 0,
+    marked: 0,
+    id: 0,
+    correlation: 0,
+    start: 0,
+};
 
 // An action to ASP p.
 pub fn to_asp(p: usize, classtype: u32, subject: u32, value: u32) -> Action
@@ -19,6 +30,7 @@ pub fn to_asp(p: usize, classtype: u32, subject: u32, value: u32) -> Action
         classtype,
         subject,
         value,
+        unit: 0,
     }
 }
 
@@ -31,6 +43,7 @@ pub fn to_link(classtype: u32, subject: u32, value: u32) -> Action
         classtype,
         subject,
         value,
+        unit: 0,
     }
 }
 
@@ -44,6 +57,7 @@ pub fn nothing() -> Decision
         count: 0,
         first: none,
         second: none,
+        unit: NO_UNIT,
         link: 0,
         state: 0,
         change: Change::Recover,
@@ -60,6 +74,7 @@ pub fn say_one(a: Action) -> Decision
         count: 1,
         first: a,
         second: a,
+        unit: NO_UNIT,
         link: 0,
         state: 0,
         change: Change::Recover,
@@ -76,6 +91,7 @@ pub fn say_two(a: Action, b: Action) -> Decision
         count: 2,
         first: a,
         second: b,
+        unit: NO_UNIT,
         link: 0,
         state: 0,
         change: Change::Recover,
@@ -123,6 +139,7 @@ fn turn_one(l: usize, v: u8, a: Action) -> Decision
         count: 1,
         first: a,
         second: a,
+        unit: NO_UNIT,
         link: l,
         state: v,
         change: Change::Recover,
@@ -148,6 +165,7 @@ pub fn spread(who: [bool; 16], classtype: u32, subject: u32) -> Decision
         count: 0,
         first: a,
         second: a,
+        unit: NO_UNIT,
         link: 0,
         state: 0,
         change: Change::Recover,
@@ -166,6 +184,7 @@ pub fn turn_spread(l: usize, v: u8, who: [bool; 16], classtype: u32, subject: u3
         count: 0,
         first: a,
         second: a,
+        unit: NO_UNIT,
         link: l,
         state: v,
         change: Change::Recover,
@@ -184,6 +203,7 @@ pub fn change_only(k: Change, who: [bool; 16]) -> Decision
         count: 0,
         first: none,
         second: none,
+        unit: NO_UNIT,
         link: 0,
         state: 0,
         change: k,
@@ -201,6 +221,7 @@ pub fn change_one(a: Action, k: Change, who: [bool; 16]) -> Decision
         count: 1,
         first: a,
         second: a,
+        unit: NO_UNIT,
         link: 0,
         state: 0,
         change: k,
@@ -218,9 +239,29 @@ pub fn change_two(a: Action, b: Action, k: Change, who: [bool; 16]) -> Decision
         count: 2,
         first: a,
         second: b,
+        unit: NO_UNIT,
         link: 0,
         state: 0,
         change: k,
         who: who,
+    }
+}
+
+// A unit comes in for AS a, and is held.
+pub fn take_in(a: usize, unit: Arrival) -> Decision
+    requires { ⌜ a < 16 ⌝ }
+    ensures { λ r. ⌜ Decides r (takeIn a unit) ⌝ }
+{
+    let none = to_link(0, 0, 0);
+    Decision {
+        what: 5,
+        count: 0,
+        first: none,
+        second: none,
+        unit: unit,
+        link: a,
+        state: 0,
+        change: Change::Recover,
+        who: [false; 16],
     }
 }

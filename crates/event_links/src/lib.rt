@@ -1,12 +1,11 @@
 // What the events of links do: class 6 messages of an ASP, link up, link down, messages of the link side.
 use codec_read::Found;
 use codec_read::Reading;
-use rules_action::Action;
 use rules_event::Decision;
 use rules_event::Link;
 use rules_event::Owner;
 use rules_event::Sender;
-use rules_server::Change;
+use rules_server::Arrival;
 use rules_server::has_some;
 use rules_server::row_of;
 use state_tables::Gateway;
@@ -285,29 +284,20 @@ fn is_pending(active: &[u8; 256], o: Owner, a: usize) -> bool
 
 // A unit that comes in for AS a: d is its protocol data, r what else was read.
 fn take_in(a: usize, d: Found, r: Reading) -> Decision
-    requires { ⌜ (a < 16) × (d .length ≤ 273) × (d .start ≤ 2048) × (r .correlated ≤ 1) ⌝ }
+    requires { ⌜ (a < 16) × (d .length ≤ 273) × (r .correlated ≤ 1) ⌝ }
     ensures { λ w. ⌜ Decides w (takeIn a (record { tag = d .tag; length = d .length + 4; marked = r .correlated; id = r .id; correlation = r .correlation; start = d .start })) ⌝ }
 {
-    Decision {
-        what: 5,
-        count: 0,
-        first: Action {
-            to: d.tag as u32,
-            classtype: (d.length + 4) as u32,
-            subject: r.id,
-            value: r.correlation,
+    event_decision::take_in(
+        a,
+        Arrival {
+            tag: d.tag,
+            length: (d.length + 4) as u16,
+            marked: r.correlated as u16,
+            id: r.id,
+            correlation: r.correlation,
+            start: d.start,
         },
-        second: Action {
-            to: d.start as u32,
-            classtype: 0,
-            subject: 0,
-            value: 0,
-        },
-        link: a,
-        state: r.correlated as u8,
-        change: Change::Recover,
-        who: [false; 16],
-    }
+    )
 }
 
 // It is held behind those that AS a has, and a ninth turned away (Rule 7.24).

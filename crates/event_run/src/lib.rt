@@ -178,34 +178,24 @@ fn held_by(count: &[u8; 16], a: usize) -> usize
     state_tables::wide(count[a])
 }
 
-// Where a unit that comes in goes: its index among the units, its tag, length and mark as the columns keep
-// them, where its bytes begin in the message and how many they are, where they go in the hold, and how many
-// units its AS has then.
+// Where a unit that comes in goes: its index among the units, how many bytes it has, where they go in the
+// hold, and how many units its AS has then.
 struct Put {
     at: usize,
-    tag: u16,
-    length: u16,
-    marked: u16,
-    start: usize,
     bytes: usize,
     place: usize,
     count: u8,
 }
 
 fn put_of(w: Decision, k: usize) -> Put
-    requires { ⌜ (w .link < 16) × (k < 8) × (w .first .to < 65536) × (4 ≤ w .first .classtype) × (w .first .classtype < 65536) ⌝ }
+    requires { ⌜ (w .link < 16) × (k < 8) × (4 ≤ w .unit .length) ⌝ }
     ensures { λ r. ⌜ r ≡ putIn w k ⌝ }
 {
     let a = w.link;
-    let o = w.first;
-    let p = w.second;
+    let u = w.unit;
     Put {
         at: a * 8 + k,
-        tag: o.to as u16,
-        length: o.classtype as u16,
-        marked: w.state as u16,
-        start: p.to as usize,
-        bytes: o.classtype as usize - 4,
+        bytes: u.length as usize - 4,
         place: a * 2184 + k * 273,
         count: (k + 1) as u8,
     }
@@ -323,17 +313,17 @@ pub fn run<'a>(
     );
     if 4 < w.what {
         let a = w.link;
-        let o = w.first;
+        let u = w.unit;
         let k = held_by(count, a);
         let p = put_of(w, k);
         let at = p.at;
-        event_units::put_half(tag, at, p.tag);
-        event_units::put_half(len, at, p.length);
-        event_units::put_half(marked, at, p.marked);
-        event_units::put_word(id, at, o.subject);
-        event_units::put_word(correlation, at, o.value);
+        event_units::put_half(tag, at, u.tag);
+        event_units::put_half(len, at, u.length);
+        event_units::put_half(marked, at, u.marked);
+        event_units::put_word(id, at, u.id);
+        event_units::put_word(correlation, at, u.correlation);
         event_units::put_count(count, a, p.count);
-        lay(msg, p.start, p.bytes, hold, size, p.place);
+        lay(msg, u.start, p.bytes, hold, size, p.place);
         return Done {
             refusal: 0,
             count: 0,

@@ -16,8 +16,9 @@ wordsOf (o ∷ os) = o .to ∷ o .classtype ∷ o .subject ∷ o .value ∷ word
 abbrev pub linkSide : ℕ
 linkSide = 255
 
+-- one that sends no unit held
 abbrev pub action : ℕ → ℕ → ℕ → ℕ → Action
-action to classtype subject value = record { to = to; classtype = classtype; subject = subject; value = value }
+action to classtype subject value = record { to = to; classtype = classtype; subject = subject; value = value; unit = 0 }
 
 -- what goes to ASP q where its flag is set
 unfoldable pub toEach : List Bool → ℕ → ℕ → ℕ → ℕ → List Action

@@ -56,12 +56,14 @@ pub const AS_STATE: u32 = 65536;
 pub const OTHER_ACTIVE: u32 = 2 * 65536 + 2;
 
 // To whom: the number of an ASP, or 255 for the link side. Which message: class * 256 + type. Its subject and
-// its value.
+// its value. The index of the unit held that it sends (Rule 7.25), which its words do not have; 0 for any
+// other.
 pub struct Action {
     pub to: u32,
     pub classtype: u32,
     pub subject: u32,
     pub value: u32,
+    pub unit: u32,
 }
 
 // The action at place n of the list.
@@ -111,6 +113,7 @@ pub fn to_all(
                 classtype: classtype,
                 subject: subject,
                 value: value,
+                unit: 0,
             },
         );
     }

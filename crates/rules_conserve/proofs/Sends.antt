@@ -25,7 +25,7 @@ use Rattle.rules_server.specs.declared.Change.the-variants.{AspUp, AspDown, Dea
 use Rattle.rules_server.specs.Record.{recordOf, stateIn}
 use Rattle.rules_server.specs.Change.{after, overtakenIn}
 use Rattle.rules_server.specs.Notify.{isNotified, notify, notifiesTo, notifies, actionsIn}
-use Rattle.rules_server.specs.Units.{unitOut, unitsOut, letOut}
+use Rattle.rules_server.specs.Units.{sending, unitOut, unitsOut, letOut}
 use Rattle.rules_server.specs.Inner.Change.{fits}
 use Rattle.rules_servers.specs.Changed.{actionsAt, allActions}
 use Rattle.rules_event.specs.Identifiers.{isKnown, linkOf}
@@ -76,7 +76,7 @@ module _ (g : Gateway) (ok : isSound g ≡ true) (a c : ℕ) (b : c < 16) where
       same false = refl
 
       go : (t : Bool) → cond t (unitAt (g .held) (g .iid) (g .owner) (g .links) c (unitIndex c j)) (blankAt (g .held) (unitIndex c j)) ≡ true
-          → dataIn g a (when t (action p userData (numberAt (g .held .id) (unitIndex c j)) 0)) ≡ cond (eqb c a) (one t) 0
+          → dataIn g a (when t (sending p (g .held .id) (unitIndex c j))) ≡ cond (eqb c a) (one t) 0
       go true h =
           rw (ne-eqb p linkSide (λ z. omega arith), owns g ok c (numberAt (g .held .id) (unitIndex c j)) a (unit-link (g .held) (g .iid) (g .owner) (g .links) c (unitIndex c j) h)) (same (eqb c a))
       go false h = zero-either (eqb c a)

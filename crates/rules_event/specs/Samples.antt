@@ -1,6 +1,7 @@
 -- The samples that are proved, as one claim (Rules 11.1 to 11.4, 11.6, 11.8, 11.9).
 -- Assumes nothing.
 use mathlib.Core.Path.{_≡_}
+use mathlib.Core.Bool.{true, false}
 use mathlib.Core.List.{List, [], _∷_, _++_}
 use Prim.Native.Nat.{ℕ, _+_}
 use lib.ListN.{set}
@@ -11,9 +12,10 @@ use Rattle.state_tables.specs.declared.Gateway.{Gateway}
 use Rattle.rules_action.specs.Words.{action, linkSide}
 use Rattle.codec_read.specs.Samples.{active, ReaderSamples}
 use Rattle.rules_event.specs.Event.{EventKind, message, recovery, linkMessage, lending, Event, bare}
-use Rattle.rules_event.specs.Effect.{holdBytes}
+use Rattle.rules_event.specs.Effect.{holdBytes, takesIn}
 use Rattle.rules_event.specs.Entry.{actions, next}
-use Rattle.rules_event.specs.Rules.{leastRoom, refusal}
+use Rattle.rules_event.specs.Rules.{effectOf, leastRoom, refusal}
+use Rattle.rules_event.specs.Calls.{answer, rulesAnswer}
 
 -- ---- plan S (Rule 11.1)
 
@@ -117,6 +119,19 @@ pub record Samples : Type 0 where
   pub too-large : actions g₂ (sampleEvent (message 0 (retrieval 128))) ≡ action 0 0 0 17 ∷ []
   pub confirms : actions g₂ (sampleEvent (linkMessage (confirm 127))) ≡ action 0 1547 100 0 ∷ []
   pub refuses : refusal g₂ (sampleEvent (linkMessage (confirm 128))) ≡ 102
+
+-- ---- definitions that only theorems use, each pinned by a value that is computed
+pub record Pinned : Type 0 where
+  -- Data for AS 0 while that is pending is taken in; a message of ASP 0 is not
+  pub taken : takesIn (effectOf g₅ (linkMessage unit)) ≡ true
+  pub not-taken : takesIn (effectOf g₁ (message 0 m)) ≡ false
+  -- what M of ASP 0 gives, and a Retrieval Confirm that is refused
+  pub given : rulesAnswer (record { gateway = g₁; hold = [] }) (sampleEvent (message 0 m)) ≡ record { refusal = 0; count = 2; words = 0 ∷ 1027 ∷ 0 ∷ 0 ∷ 0 ∷ 1 ∷ 0 ∷ 65539 ∷ [] }
+  pub given-none : rulesAnswer (record { gateway = g₂; hold = [] }) (sampleEvent (linkMessage (confirm 128))) ≡ record { refusal = 102; count = 0; words = [] }
+  -- of a call, the words of its actions, without what stands behind them
+  pub handed :
+      answer (record { event = sampleEvent (recovery 0); lent = []; left = 0 ∷ 1 ∷ 0 ∷ 65538 ∷ 7 ∷ []; hold = []; held = []; outcome = record { refusal = 0; count = 1; gateway = g₁ } })
+      ≡ record { refusal = 0; count = 1; words = 0 ∷ 1 ∷ 0 ∷ 65538 ∷ [] }
 
 -- ---- events of plan S that reach different ASes
 

@@ -3,17 +3,15 @@
 -- Assumes nothing.
 use mathlib.Core.Bool.{Bool, true, false, _&&_, not}
 use mathlib.Core.List.{List}
-use Prim.Native.Nat.{ℕ, _/_, _%_}
+use Prim.Native.Nat.{ℕ}
 use lib.Dec.{eqb, ltb}
 use lib.ListN.{length, getD}
-use Rattle.laws.specs.Below.{concatBelow, countBelow, when}
-use Rattle.laws.specs.Columns.{numberAt}
 use Rattle.state_tables.specs.declared.Gateway.{Gateway}
 use Rattle.rules_action.specs.declared.Action.{Action}
 use Rattle.rules_action.specs.Types.{userData}
 use Rattle.rules_action.specs.Words.{action, linkSide}
 use Rattle.rules_event.specs.Event.{EventKind, message, lost, recovery, linkUp, linkDown, linkMessage}
-use Rattle.rules_event.specs.Effect.{actionsOf, stateAfter}
+use Rattle.rules_event.specs.Effect.{actionsOf}
 use Rattle.rules_event.specs.Rules.{effectOf}
 
 -- the actions of an event, whatever is lent
@@ -28,22 +26,13 @@ actionAt os n = getD os n (action linkSide 0 0 0)
 unfoldable pub isSent : List Action → ℕ → Bool
 isSent os n = ltb n (length os) && not (eqb (actionAt os n .to) linkSide)
 
--- the indices of the units that are gone from a state g to a state c, AS by AS, the oldest first: an AS lets
--- all of them go, or none
-unfoldable pub gone : Gateway → Gateway → List ℕ
-gone g c = concatBelow (λ i. when (ltb (i % 8) (numberAt (g .held .count) (i / 8)) && eqb (numberAt (c .held .count) (i / 8)) 0) i) 128
-
 -- Data to an ASP
 unfoldable pub isData : Action → Bool
 isData o = eqb (o .classtype) userData && not (eqb (o .to) linkSide)
 
--- how many of the first n actions are
-unfoldable pub dataBefore : List Action → ℕ → ℕ
-dataBefore os n = countBelow (λ m. isData (actionAt os m)) n
-
--- the unit that the action at place n sends: units go in the sequence of their actions
-unfoldable pub unitFor : Gateway → EventKind → ℕ → ℕ
-unitFor g k n = getD (gone g (stateAfter g (effectOf g k))) (dataBefore (actionsOn g k) n) 0
+-- the unit that the action at place n sends, if it sends one
+abbrev pub unitFor : Gateway → EventKind → ℕ → ℕ
+unitFor g k n = actionAt (actionsOn g k) n .unit
 
 -- what the link side sends is passed on, and was not held
 abbrev pub isPassed : EventKind → Bool

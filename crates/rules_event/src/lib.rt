@@ -1,5 +1,6 @@
 // What an event does, as definitions (specs/), with the structs that the code passes.
 use rules_action::Action;
+use rules_server::Arrival;
 use rules_server::Change;
 use state_tables::Gateway;
 
@@ -45,14 +46,14 @@ pub struct Decision {
     // the actions that come first; `count` says how many
     pub first: Action,
     pub second: Action,
+    // a unit that comes in
+    pub unit: Arrival,
     pub change: Change,
     // at most 2
     pub count: usize,
     pub link: usize,
     // 0 actions alone, 1 a link comes to a state, 2 a change in ASes, 3 an action to each ASP of `who`, 4
-    // that with a link's state, 5 a unit comes in for the AS of index `link`: `first` has its tag, its
-    // length, its link's identifier and its correlation id, `state` whether it has one, `second.to` where its
-    // bytes begin
+    // that with a link's state, 5 `unit` comes in for the AS of index `link`
     pub what: u8,
     pub state: u8,
 }

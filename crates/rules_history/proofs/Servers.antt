@@ -15,7 +15,6 @@ use Rattle.state_tables.specs.Sound.{pair, unitIndex}
 use Rattle.state_tables.specs.declared.Gateway.{Gateway}
 use Rattle.rules_action.specs.declared.Action.{Action}
 use Rattle.rules_action.specs.Types.{userData}
-use Rattle.rules_action.specs.Words.{action}
 use Rattle.rules_server.specs.declared.Change.{Change}
 use Rattle.rules_server.specs.declared.Change.the-variants.{AspUp, AspDown, Deactivate, Activate, Recover}
 use Rattle.rules_server.specs.Record.{row, membersUp, recordFrom, recordOf}
@@ -51,7 +50,7 @@ unfolding letOut unitsOut unitOut
 same-out (AspUp p) n id′ id a h = refl
 same-out (AspDown p) n id′ id a h = refl
 same-out (Deactivate p) n id′ id a h = refl
-same-out (Activate p) n id′ id a h = concat-ext _ _ 8 (λ j b. ap (λ (x : ℕ). when (ltb j n) (action p userData x 0)) (h j b))
+same-out (Activate p) n id′ id a h = concat-ext _ _ 8 (λ j b. ap (λ (x : ℕ). when (ltb j n) (record { to = p; classtype = userData; subject = x; value = 0; unit = unitIndex a j })) (h j b))
 same-out Recover n id′ id a h = refl
 
 -- the actions hang on the records and the units of the ASes named

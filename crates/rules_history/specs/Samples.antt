@@ -6,14 +6,19 @@ use mathlib.Core.List.{List, [], _∷_}
 use Prim.Native.Nat.{ℕ, _+_, _*_}
 use Rattle.state_ranges.specs.Places.{firstPlace, lastPlace, placesIn, allKnown}
 use Rattle.rules_event.specs.Event.{bare}
+use Rattle.rules_event.specs.Samples.{g₅, arrives}
 use Rattle.rules_history.specs.Trade.{swaps, outs, last}
-use Rattle.rules_history.specs.History.{isUp}
+use Rattle.rules_history.specs.History.{reachesLink, isUp}
 
 -- three links, with a gap between their identifiers
 abbrev pub threeLinks : List ℕ
 threeLinks = 100 ∷ 101 ∷ 103 ∷ []
 
 pub record HistorySamples : Type 0 where
+  -- Data of a link of AS 0 reaches the last link of AS 0; not that of AS 1, and no place beyond the links
+  pub its-link : reachesLink g₅ arrives 15 ≡ true
+  pub other-link : reachesLink g₅ arrives 16 ≡ false
+  pub no-link : reachesLink g₅ arrives 17 ≡ false
   -- trades at the places 0 and 1, one after the other
   pub swapped : swaps {A = ℕ} (0 ∷ 1 ∷ []) (7 ∷ 8 ∷ 9 ∷ []) ≡ 8 ∷ 9 ∷ 7 ∷ []
   -- what each event gives, and the last state, where a state is a number and an event adds to it

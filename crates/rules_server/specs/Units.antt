@@ -7,14 +7,17 @@ use Rattle.laws.specs.Below.{concatBelow, when}
 use Rattle.laws.specs.Columns.{numberAt}
 use Rattle.state_tables.specs.Sound.{mostHeld, unitIndex}
 use Rattle.rules_action.specs.Types.{userData}
-use Rattle.rules_action.specs.Words.{action}
 use Rattle.rules_action.specs.declared.Action.{Action}
 use Rattle.rules_server.specs.declared.Change.{Change}
 use Rattle.rules_server.specs.declared.Change.the-variants.{AspUp, AspDown, Deactivate, Activate, Recover}
 
--- the unit in place k of AS a, which holds n, as an action to ASP p
+-- the unit at index i, as an action to ASP p
+abbrev pub sending : ℕ → List ℕ → ℕ → Action
+sending p id i = record { to = p; classtype = userData; subject = numberAt id i; value = 0; unit = i }
+
+-- that in place k of AS a, which holds n
 unfoldable pub unitOut : ℕ → ℕ → List ℕ → ℕ → ℕ → List Action
-unitOut p n id a k = when (ltb k n) (action p userData (numberAt id (unitIndex a k)) 0)
+unitOut p n id a k = when (ltb k n) (sending p id (unitIndex a k))
 
 -- each of them, the oldest first
 unfoldable pub unitsOut : ℕ → ℕ → List ℕ → ℕ → List Action

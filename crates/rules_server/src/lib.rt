@@ -328,6 +328,7 @@ fn units_out(p: usize, n: u8, id: &[u32; 128], a: usize, words: &mut [u32], m: u
                 classtype: rules_action::USER_DATA,
                 subject: id[a * 8 + k],
                 value: 0,
+                unit: (a * 8 + k) as u32,
             },
         );
     }

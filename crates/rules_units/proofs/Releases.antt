@@ -1,10 +1,11 @@
 -- The theorem of specs/Releases.antt.
 -- Assumes nothing.
-use mathlib.Core.Path.{_≡_, refl, ap}
+use mathlib.Core.Path.{_≡_, refl, ap, subst}
 use mathlib.Core.Bool.{Bool, true, false}
 use mathlib.Core.List.{List, _++_}
 use Prim.Native.Nat.{ℕ, _<_}
 use native.Mathlib.Nat.{not-suc-le-zero}
+use lib.Dec.{ltb}
 use lib.ListN.{length, getD}
 use borrow.Author.Tests.{ltb-true}
 use Rattle.laws.specs.Inner.Every.{clash}
@@ -19,9 +20,10 @@ use Rattle.rules_servers.specs.Changed.{withChange, allActions}
 use Rattle.rules_event.specs.Event.{EventKind}
 use Rattle.rules_event.specs.Effect.{Effect, send, setLink, changeIn, takeIn, actionsOf, stateAfter}
 use Rattle.rules_event.specs.Rules.{effectOf, inPlan}
-use Rattle.rules_event.specs.Sent.{actionsOn, actionAt, isData, isPassed, dataBefore, gone, unitFor}
+use Rattle.rules_event.specs.Sent.{actionsOn, actionAt, isData, isPassed, unitFor}
 use Rattle.rules_event.specs.Inner.Shapes.{effect-by}
 use Rattle.rules_units.specs.Releases.{EveryUnit}
+use Rattle.rules_units.specs.Inner.Counted.{gone, dataBefore}
 use Rattle.rules_units.proofs.Tags.{done, tagged-at, untagged, tagged-append}
 use Rattle.rules_units.proofs.Units.{UnitOf, Quiet, quiet-change, units-gone}
 use Rattle.rules_units.proofs.Effects.{Own, own}
@@ -53,8 +55,18 @@ event-own : (g : Gateway) (k : EventKind) → isSound g ≡ true → inPlan g k 
 unfolding Own
 event-own g k ok i u = effect-by (own g) g k ok i (λ c named f. (done, f)) (λ s e. clash (isPassed k) u (ap isPassed e))
 
+module _ (g : Gateway) (k : EventKind) (n : ℕ) (ok : isSound g ≡ true) (i : inPlan g k ≡ true) (u : isPassed k ≡ false) (b : ltb n (length (actionsOn g k)) ≡ true) (d : isData (actionAt (actionsOn g k) n) ≡ true) where
+  counted-unit : UnitOf g (actionAt (actionsOn g k) n) (getD (gone g (stateAfter g (effectOf g k))) (dataBefore (actionsOn g k) n) 0)
+  counted-unit = sent g (effectOf g k) (event-own g k ok i u) n (ltb-true n (length (actionsOn g k)) b) d
+
+  -- the unit that is found by counting is the action's
+  pub counted : getD (gone g (stateAfter g (effectOf g k))) (dataBefore (actionsOn g k) n) 0 ≡ unitFor g k n
+  counted = counted-unit .same
+
+  unit-is : UnitOf g (actionAt (actionsOn g k) n) (unitFor g k n)
+  unit-is = subst (UnitOf g (actionAt (actionsOn g k) n)) counted counted-unit
+
 pub every-unit : EveryUnit
-unfolding unitFor
 every-unit g k n ok i u b d =
-    let x = sent g (effectOf g k) (event-own g k ok i u) n (ltb-true n (length (actionsOn g k)) b) d in
+    let x = unit-is g k n ok i u b d in
     record { place = x .place; held = x .held; link = x .link }

@@ -11,7 +11,8 @@ use lib.ListN.{length, getD}
 use Rattle.laws.specs.Below.{concatBelow, countBelow, one}
 use Rattle.laws.specs.Inner.Below.{concat-empty}
 use Rattle.rules_action.specs.declared.Action.{Action}
-use Rattle.rules_event.specs.Sent.{actionAt, isData, dataBefore}
+use Rattle.rules_event.specs.Sent.{actionAt, isData}
+use Rattle.rules_units.specs.Inner.Counted.{dataBefore}
 
 -- P is what an index says of its Data
 pub data Tagged (P : Action → ℕ → Type 0) : List Action → List ℕ → Type 0 where

@@ -14,8 +14,7 @@ use Rattle.laws.specs.Columns.{flagAt, numberAt}
 use Rattle.state_tables.specs.Sound.{unitIndex}
 use Rattle.state_tables.specs.declared.Gateway.{Gateway}
 use Rattle.rules_action.specs.declared.Action.{Action}
-use Rattle.rules_action.specs.Types.{userData, asState, otherActive}
-use Rattle.rules_action.specs.Words.{action}
+use Rattle.rules_action.specs.Types.{asState, otherActive}
 use Rattle.rules_server.specs.declared.AsRecord.{AsRecord}
 use Rattle.rules_server.specs.declared.Change.{Change}
 use Rattle.rules_server.specs.declared.Change.the-variants.{Activate}
@@ -23,14 +22,16 @@ use Rattle.rules_server.specs.Record.{recordOf, stateIn}
 use Rattle.rules_server.specs.Change.{after, overtakenIn, recordWith}
 use Rattle.rules_server.specs.Inner.Change.{some-turned}
 use Rattle.rules_server.specs.Notify.{notify, isNotified, notifiesTo, notifies, actionsIn}
-use Rattle.rules_server.specs.Units.{unitOut, unitsOut, letOut}
+use Rattle.rules_server.specs.Units.{sending, unitOut, unitsOut, letOut}
 use Rattle.rules_servers.specs.Changed.{withChange, letsGo, actionsAt, allActions}
 use Rattle.rules_servers.specs.Inner.Units.{cleared-at}
-use Rattle.rules_event.specs.Sent.{isData, gone}
+use Rattle.rules_event.specs.Sent.{isData}
+use Rattle.rules_units.specs.Inner.Counted.{gone}
 use Rattle.rules_units.proofs.Tags.{Tagged, done, other, tag, tagged-append, tagged-below, untagged-below, concat-rows}
 
--- index i is that of a unit held, of the link that the action names
+-- index i is the action's, and that of a unit held, of the link that the action names
 pub record UnitOf (g : Gateway) (o : Action) (i : ℕ) : Type 0 where
+  pub same : i ≡ o .unit
   pub place : i < 128
   pub held : i % 8 < numberAt (g .held .count) (i / 8)
   pub link : numberAt (g .held .id) i ≡ o .subject
@@ -112,22 +113,22 @@ module _ (g : Gateway) (p : ℕ) (named : List Bool) (b : p < 16) where
       go true = refl
       go false = refl
 
-  plain-data : (x : ℕ) → isData (action p userData x 0) ≡ true
+  plain-data : (i : ℕ) → isData (sending p (g .held .id) i) ≡ true
   unfolding isData
-  plain-data x = rw (ne-eqb p 255 (λ z. omega arith))
+  plain-data i = rw (ne-eqb p 255 (λ z. omega arith))
 
-  unit-of : (a k : ℕ) → a < 16 → k < 8 → k < numberAt (g .held .count) a → UnitOf g (action p userData (numberAt (g .held .id) (unitIndex a k)) 0) (unitIndex a k)
+  unit-of : (a k : ℕ) → a < 16 → k < 8 → k < numberAt (g .held .count) a → UnitOf g (sending p (g .held .id) (unitIndex a k)) (unitIndex a k)
   unit-of a k l m h =
       let r : (a * 8 + k) % 8 ≡ k = omega arith in
       let d : (a * 8 + k) / 8 ≡ a = omega arith in
-      record { place = omega arith; held = rw (r, d) h; link = refl }
+      record { same = refl; place = omega arith; held = rw (r, d) h; link = refl }
 
   unit-tag : (a k : ℕ) → a < 16 → k < 8 → numberAt (next .held .count) a ≡ 0 → Tagged (UnitOf g) (unitOut p (numberAt (g .held .count) a) (g .held .id) a k) (goneAt g next a k)
   unfolding unitOut
   unit-tag a k l m z = rw (eq-eqb _ 0 z) (go (ltb k (numberAt (g .held .count) a)) refl)
     where
-      go : (u : Bool) → ltb k (numberAt (g .held .count) a) ≡ u → Tagged (UnitOf g) (when u (action p userData (numberAt (g .held .id) (unitIndex a k)) 0)) (when (u && true) (unitIndex a k))
-      go true e = tag (plain-data (numberAt (g .held .id) (unitIndex a k))) (unit-of a k l m (ltb-true k (numberAt (g .held .count) a) e)) done
+      go : (u : Bool) → ltb k (numberAt (g .held .count) a) ≡ u → Tagged (UnitOf g) (when u (sending p (g .held .id) (unitIndex a k))) (when (u && true) (unitIndex a k))
+      go true e = tag (plain-data (unitIndex a k)) (unit-of a k l m (ltb-true k (numberAt (g .held .count) a) e)) done
       go false e = done
 
   as-tag : (a : ℕ) → a < 16 → (t : Bool) → flagAt named a ≡ t

@@ -57,7 +57,7 @@ plain =
     record {
       errors = λ p x n h. refl;
       notes = λ p a n h. refl;
-      units = λ p x. refl;
+      units = λ p id i. refl;
       sides = λ k x v e. e;
       up-acked = λ p. refl;
       down-acked = λ p. refl;
@@ -94,7 +94,7 @@ module _ (g : Gateway) (p : ℕ) (ps : List Par) where
     first-told : {x : ℕ} → firstRefused g p ps .found ≡ true → Told (error2 p x)
 
   calm : (k : Change) (named : List Bool) → Each Quiet (actionsOf g (changeIn [] k named))
-  calm k named = each-change (λ q a n h. record { ack = refl; right = refl; beat = refl }) (λ q x. record { ack = refl; right = refl; beat = refl }) g k named
+  calm k named = each-change (λ q a n h. record { ack = refl; right = refl; beat = refl }) (λ q id i. record { ack = refl; right = refl; beat = refl }) g k named
 
   starts : (k : ℕ) → isTrafficAck k ≡ true → Short ps → (told : List Action) → Told told → (c : Change) (named : List Bool) → Starts (changeIn (action p k 0 0 ∷ told) c named)
   unfolding Starts

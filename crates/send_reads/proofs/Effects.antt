@@ -13,7 +13,7 @@ use Rattle.state_tables.specs.Sound.{unitIndex}
 use Rattle.state_tables.specs.declared.Gateway.{Gateway}
 use Rattle.rules_action.specs.declared.Action.{Action}
 use Rattle.rules_action.specs.Words.{action, linkSide, toEach, toAll}
-use Rattle.rules_action.specs.Types.{mgmtError, mgmtNotify, aspUpAck, aspDownAck, establishConfirm, releaseConfirm, releaseIndication, userData, dataAck, asState, otherActive}
+use Rattle.rules_action.specs.Types.{mgmtError, mgmtNotify, aspUpAck, aspDownAck, establishConfirm, releaseConfirm, releaseIndication, dataAck, asState, otherActive}
 use Rattle.rules_server.specs.declared.AsRecord.{AsRecord}
 use Rattle.rules_server.specs.declared.Change.{Change}
 use Rattle.rules_server.specs.declared.Change.the-variants.{AspUp, AspDown, Deactivate, Activate, Recover}
@@ -21,7 +21,7 @@ use Rattle.rules_server.specs.Record.{recordOf, stateIn}
 use Rattle.rules_server.specs.Inner.Record.{state-small}
 use Rattle.rules_server.specs.Change.{after, overtakenIn}
 use Rattle.rules_server.specs.Notify.{notify, isNotified, notifiesTo, notifies, actionsIn}
-use Rattle.rules_server.specs.Units.{unitOut, unitsOut, letOut}
+use Rattle.rules_server.specs.Units.{sending, unitOut, unitsOut, letOut}
 use Rattle.rules_servers.specs.Changed.{actionsAt, allActions}
 use Rattle.send_message.specs.Inner.Stands.{isTrafficAck}
 use Rattle.send_reads.proofs.Numbers.{largest}
@@ -37,7 +37,7 @@ each-all who k x v h = each-below (toEach who k x v) 16 (λ p. each-when (flagAt
 pub record Holds (P : Action → Type 0) : Type 0 where
   pub errors : (p x n : ℕ) → n ≤ largest → P (action p mgmtError x n)
   pub notes : (p a n : ℕ) → n ≤ largest → P (action p mgmtNotify a n)
-  pub units : (p x : ℕ) → P (action p userData x 0)
+  pub units : (p : ℕ) (id : List ℕ) (i : ℕ) → P (sending p id i)
   pub sides : (k x v : ℕ) → isTrafficAck k ≡ false → P (action linkSide k x v)
   pub up-acked : (p : ℕ) → P (action p aspUpAck 0 0)
   pub down-acked : (p : ℕ) → P (action p aspDownAck 0 0)
@@ -48,7 +48,7 @@ pub record Holds (P : Action → Type 0) : Type 0 where
 
 -- ---- Notifies, and the units of an AS
 
-module _ {P : Action → Type 0} (note : (p a n : ℕ) → n ≤ largest → P (action p mgmtNotify a n)) (unit : (p x : ℕ) → P (action p userData x 0)) where
+module _ {P : Action → Type 0} (note : (p a n : ℕ) → n ≤ largest → P (action p mgmtNotify a n)) (unit : (p : ℕ) (id : List ℕ) (i : ℕ) → P (sending p id i)) where
   to-one : (lost : List Bool) (s t : AsRecord) (a p : ℕ) → Each P (notifiesTo lost s t a p)
   unfolding notifiesTo
   to-one lost s t a p =
@@ -61,7 +61,7 @@ module _ {P : Action → Type 0} (note : (p a n : ℕ) → n ≤ largest → P (
   let-out (AspUp p) n id a = each-none
   let-out (AspDown p) n id a = each-none
   let-out (Deactivate p) n id a = each-none
-  let-out (Activate p) n id a = each-below (unitOut p n id a) 8 (λ k. each-when (ltb k n) _ (unit p (numberAt id (unitIndex a k))))
+  let-out (Activate p) n id a = each-below (unitOut p n id a) 8 (λ k. each-when (ltb k n) _ (unit p id (unitIndex a k)))
   let-out Recover n id a = each-none
 
   in-one : (g : Gateway) (k : Change) (named : List Bool) (count id : List ℕ) (a : ℕ) → Each P (actionsAt k named (recordOf g) count id a)

@@ -18,7 +18,8 @@ use Rattle.codec_write.specs.Encode.{sizeOf}
 use Rattle.codec_write.proofs.Verdicts.{listCode}
 use Rattle.state_tables.specs.declared.Gateway.{Gateway}
 use Rattle.rules_action.specs.declared.Action.{Action}
-use Rattle.rules_action.specs.Types.{mgmtError, mgmtNotify, aspUpAck, aspDownAck, beatAck, aspActiveAck, aspInactiveAck, establishConfirm, releaseConfirm, releaseIndication, userData, dataAck}
+use Rattle.rules_action.specs.Types.{mgmtError, mgmtNotify, aspUpAck, aspDownAck, beatAck, aspActiveAck, aspInactiveAck, establishConfirm, releaseConfirm, releaseIndication, dataAck}
+use Rattle.rules_server.specs.Units.{sending}
 use Rattle.rules_action.specs.Words.{action, linkSide}
 use Rattle.rules_event.specs.Sent.{isData}
 use Rattle.send_message.specs.Message.{numberPar, idsOf, idsPar, errorPars, notifyPars, linkPars, replyPars}
@@ -36,11 +37,11 @@ good-side : (q : Action → List Par) (k x v : ℕ) → Good q (action linkSide 
 unfolding Good
 good-side q k x v = inl refl
 
-good-unit : (q : Action → List Par) (p x : ℕ) → Good q (action p userData x 0)
+good-unit : (q : Action → List Par) (p : ℕ) (id : List ℕ) (i : ℕ) → Good q (sending p id i)
 unfolding Good isData
-good-unit q p x = go (ℕ-discrete p linkSide)
+good-unit q p id i = go (ℕ-discrete p linkSide)
   where
-    go : Dec (p ≡ linkSide) → Good q (action p userData x 0)
+    go : Dec (p ≡ linkSide) → Good q (sending p id i)
     go (yes z) = inl z
     go (no z) = inr (inl (rw (ne-eqb p linkSide z)))
 

@@ -20,7 +20,7 @@ const LINK_SIDE: u32 = 255;
 // The bytes that the hold has for a unit (Rule 5.22).
 const PLACE: usize = 273;
 
-// The action at a place of a list of words.
+// The action at a place of a list of words, which do not have the unit that it sends.
 pub fn action_at(words: &[u32; 1544], n: usize) -> Action
     requires { ⌜ n < 386 ⌝ }
     ensures { λ r. ⌜ r ≡ actionIn (now (words .entry)) n ⌝ }
@@ -31,6 +31,7 @@ pub fn action_at(words: &[u32; 1544], n: usize) -> Action
         classtype: words[at + 1],
         subject: words[at + 2],
         value: words[at + 3],
+        unit: 0,
     }
 }
 

@@ -11,7 +11,7 @@ take-in-requires : tie.Need-take-in-requires
 take-in-requires c κs =
     let p = c .before .before .before .before .pre in
     let d = c .data-unit .ensures in
-    (p .0, omega (arith, d .2, p .1 .short), omega (arith, d .1, p .1 .early), p .1 .mark)
+    (p .0, omega (arith, d .2, p .1 .short), p .1 .mark)
 
 returns : tie.Need-returns
 unfolding holdEffect arrival

@@ -11,7 +11,6 @@ use borrow.Author.Tests.{ne-eqb, le-leb, lt-leb, eqb-true}
 use Rattle.laws.specs.Inner.Every.{and-left, and-right}
 use Rattle.codec_read.specs.Verdict.{verdict}
 use Rattle.codec_read.specs.Meaning.{meaning, outcome, readingOf, dataAt}
-use Rattle.codec_read.proofs.Accepted.{accepted}
 use Rattle.codec_read.proofs.GoodUnit.{good-unit, correlation-marked}
 use Rattle.codec_read.specs.declared.Reading.{Reading}
 use Rattle.state_tables.specs.declared.Gateway.{Gateway}
@@ -81,10 +80,9 @@ from-small k h = go (decLt k 256)
         (rw (ne-eqb k 1 (λ e. omega arith), ne-eqb k 8 (λ e. omega arith), ne-eqb k 9 (λ e. omega arith), le-leb 11 k (omega arith), lt-leb k 14 (omega arith))
         at h))
 
--- what protocol data has that is held: it fits a place of the hold, and lies within a message
+-- what protocol data has that is held: it fits a place of the hold
 pub record Fits (s : List ℕ) (r : Reading) : Type 0 where
   pub short : dataAt s .length ≤ 273
-  pub early : dataAt s .start ≤ 2048
   pub mark : r .correlated ≤ 1
 
 pub fits : (g : Gateway) (s : List ℕ) (r : Reading) → r ≡ readingOf s → passes g r ≡ true → r .msgtype ≡ 1 → Fits s r
@@ -97,7 +95,6 @@ fits g s r e h m =
     let u = good-unit s v ((λ j. sym e j .class) ∙ eqb-true (r .class) 6 (and-left a b x)) ((λ j. sym e j .msgtype) ∙ m) in
     record {
       short = u .most;
-      early = omega (arith, u .within, accepted s v .small);
       mark = rw e (correlation-marked s .0);
     }
 

@@ -164,7 +164,7 @@ put-of-requires : tie.Need-put-of-requires
 put-of-requires c κs =
     let t = takes (c .before .before .before .before .before) ((c .before .before .before) .if2 .taken) in
     let k = c .held-by .ensures in
-    (t .as-16, rw k (t .few), t .tag, t .least, omega (arith, t .most))
+    (t .as-16, rw k (t .few), t .least)
 
 put-half-requires : tie.Need-put-half-requires
 put-half-requires c κs =

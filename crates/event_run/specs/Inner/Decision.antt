@@ -20,7 +20,7 @@ use Rattle.rules_servers.specs.Inner.Changed.{allActions-short}
 use Rattle.rules_servers.specs.Inner.Run.{Ran, ran-actions}
 use Rattle.rules_event.specs.declared.Decision.{Decision}
 use Rattle.rules_event.specs.Effect.{Effect, send, setLink, changeIn, takeIn, actionsOf, stateAfter, holdAt, holdAfter}
-use Rattle.rules_event.specs.Inner.Decision.{firstActions, spread, arrivalIn, effectIn}
+use Rattle.rules_event.specs.Inner.Decision.{firstActions, spread, effectIn}
 use Rattle.event_decision.specs.Inner.Decides.{aspOf, fits-asp}
 use Rattle.event_run.specs.Inner.Perform.{Performed}
 use Rattle.event_run.specs.declared.Put.{Put}
@@ -55,11 +55,7 @@ unfoldable pub putIn : Decision → ℕ → Put
 putIn w k =
     record {
       at = unitIndex (w .link) k;
-      tag = w .first .to;
-      length = w .first .classtype;
-      marked = w .state;
-      start = w .second .to;
-      bytes = w .first .classtype - 4;
+      bytes = w .unit .length - 4;
       place = holdAt (w .link) k;
       count = k + 1;
     }
@@ -129,7 +125,7 @@ effect-set w n l h = go (eqb (w .what) 0) (eqb (w .what) 1) (eqb (w .what) 3) re
         rw z
 
 -- a unit comes in
-pub effect-take : (w : Decision) → 4 < w .what → effectIn w ≡ takeIn (w .link) (arrivalIn w)
+pub effect-take : (w : Decision) → 4 < w .what → effectIn w ≡ takeIn (w .link) (w .unit)
 unfolding effectIn
 effect-take w l =
     rw (ne-eqb (w .what) 0 (λ e. omega arith), ne-eqb (w .what) 1 (λ e. omega arith), ne-eqb (w .what) 2 (λ e. omega arith), ne-eqb (w .what) 3 (λ e. omega arith), ne-eqb (w .what) 4 (λ e. omega arith))
@@ -144,7 +140,7 @@ hold-stays g w s h b l = go (eqb (w .what) 0) (eqb (w .what) 1) (eqb (w .what) 2
     same false = refl
 
     go : (x y z t u : Bool) → eqb (w .what) 0 ≡ x → eqb (w .what) 1 ≡ y → eqb (w .what) 2 ≡ z → eqb (w .what) 3 ≡ t → eqb (w .what) 4 ≡ u → (b : Bool)
-        → h ≡ cond b (holdAfter g s (cond x (send (firstActions w)) (cond y (setLink (w .link) (w .state) (firstActions w)) (cond z (changeIn (firstActions w) (w .change) (w .who)) (cond t (send (spread w)) (cond u (setLink (w .link) (w .state) (spread w)) (takeIn (w .link) (arrivalIn w))))))) h) h
+        → h ≡ cond b (holdAfter g s (cond x (send (firstActions w)) (cond y (setLink (w .link) (w .state) (firstActions w)) (cond z (changeIn (firstActions w) (w .change) (w .who)) (cond t (send (spread w)) (cond u (setLink (w .link) (w .state) (spread w)) (takeIn (w .link) (w .unit))))))) h) h
     go true y z t u e f p q v b = same b
     go false true z t u e f p q v b = same b
     go false false true t u e f p q v b = same b
@@ -184,7 +180,7 @@ module _ (g : Gateway) (w : Decision) {ws ws′ : List ℕ} {n : ℕ} where
         held-is = h;
       })
 
-pub enacted-take : (g : Gateway) (w : Decision) {ws : List ℕ} {held : Units} → 4 < w .what → held ≡ unitsWith (g .held) (w .link) (arrivalIn w) → Enacted g (effectIn w) ws (g .up) (g .active) (g .waiting) ws held 0
+pub enacted-take : (g : Gateway) (w : Decision) {ws : List ℕ} {held : Units} → 4 < w .what → held ≡ unitsWith (g .held) (w .link) (w .unit) → Enacted g (effectIn w) ws (g .up) (g .active) (g .waiting) ws held 0
 enacted-take g w {ws} l h =
     rw (effect-take w l) (record { wrote = written-none ws 0; few = omega arith; up-is = refl; active-is = refl; waiting-is = refl; held-is = h })
 
@@ -203,7 +199,7 @@ unfolding linkAfter effectIn
 unsettled w state h = go (eqb (w .what) 0) (eqb (w .what) 1) (eqb (w .what) 2) (eqb (w .what) 3) (eqb (w .what) 4) h
   where
     go : (x y z t u : Bool) → (y || u) ≡ false
-        → state ≡ linkAfter (cond x (send (firstActions w)) (cond y (setLink (w .link) (w .state) (firstActions w)) (cond z (changeIn (firstActions w) (w .change) (w .who)) (cond t (send (spread w)) (cond u (setLink (w .link) (w .state) (spread w)) (takeIn (w .link) (arrivalIn w))))))) state
+        → state ≡ linkAfter (cond x (send (firstActions w)) (cond y (setLink (w .link) (w .state) (firstActions w)) (cond z (changeIn (firstActions w) (w .change) (w .who)) (cond t (send (spread w)) (cond u (setLink (w .link) (w .state) (spread w)) (takeIn (w .link) (w .unit))))))) state
     go true y z t u h = refl
     go false true z t u h = absurd (false≢true (sym h))
     go false false true t u h = refl

@@ -7,7 +7,6 @@ use mathlib.Core.List.{List}
 use native.Mathlib.Omega.{arith}
 use lib.Dec.{eqb}
 use lib.ListN.{length, take, drop, set}
-use borrow.Author.Tests.{eqb-true}
 use Rattle.laws.specs.Columns.{numberAt}
 use Rattle.laws.specs.Inner.Every.{and-left}
 use Rattle.codec_put.specs.Bytes.{overlay}
@@ -26,28 +25,20 @@ use Rattle.rules_event.specs.Effect.{takeIn, holdAt, holdAfter}
 use Rattle.rules_event.specs.Link.{arrival}
 use Rattle.rules_event.specs.Rules.{effectOf, refusal}
 use Rattle.rules_event.specs.Sent.{isPassed}
-use Rattle.rules_event.specs.Inner.Decision.{arrivalIn, effectIn}
+use Rattle.rules_event.specs.Inner.Decision.{effectIn}
 use Rattle.rules_event.specs.Inner.TakeIn.{TakeIn, take-in}
 use Rattle.event_asked.specs.Happened.{happened, eventOf}
 use Rattle.event_run.specs.declared.Put.{Put}
 use Rattle.event_run.specs.Inner.Decision.{putIn, linkAfter, effect-take}
 
--- the widths of the columns hold it, its AS has a place, and the bytes lie in the message
+-- its AS has a place, and the bytes lie in the message
 pub record Taken (w : Decision) (n : ℕ) (kind i : ℕ) (s : List ℕ) : Type 0 where
   pub as-16 : w .link < 16
   pub few : n < 8
-  pub tag : w .first .to < 65536
-  pub least : 4 ≤ w .first .classtype
-  pub most : w .first .classtype ≤ 277
-  pub within : w .second .to + (w .first .classtype - 4) ≤ length s
+  pub least : 4 ≤ w .unit .length
+  pub most : w .unit .length ≤ 277
+  pub within : w .unit .start + (w .unit .length - 4) ≤ length s
   pub said : messageOf (happened kind i s) ≡ s
-
-tag-small : (t : ℕ) → (eqb t 0x300 || eqb t 0x301) ≡ true → t < 65536
-tag-small t h = go (eqb t 0x300) refl h
-  where
-    go : (u : Bool) → eqb t 0x300 ≡ u → (u || eqb t 0x301) ≡ true → t < 65536
-    go true e h = omega (arith, eqb-true t 0x300 e)
-    go false e h = omega (arith, eqb-true t 0x301 h)
 
 -- the event of the link side has the message that was given
 said-by : (k i : ℕ) (s : List ℕ) → isPassed (happened k i s) ≡ true → messageOf (happened k i s) ≡ s
@@ -68,18 +59,17 @@ pub taken : (g : Gateway) (w : Decision) (kind i : ℕ) (s : List ℕ) (room siz
     → Taken w (numberAt (g .held .count) (w .link)) kind i s
 unfolding arrival
 taken g w kind i s room size z d l =
-    let t = take-in g (eventOf (happened kind i s) room size) (w .link) (arrivalIn w) z (sym d ∙ effect-take w l) in
+    let t = take-in g (eventOf (happened kind i s) room size) (w .link) (w .unit) z (sym d ∙ effect-take w l) in
     let n = t .taken in
     let e : messageOf (happened kind i s) ≡ s = said-by kind i s (ap isPassed (t .kind)) in
     let f : t .from ≡ s = sym (ap messageOf (t .kind)) ∙ e in
     let u = n .takes .unit in
-    let a : w .first .classtype ≡ dataAt (t .from) .length + 4 = ap (λ (x : Arrival). x .length) u in
-    let b : w .second .to ≡ dataAt (t .from) .start = ap (λ (x : Arrival). x .start) u in
+    let a : w .unit .length ≡ dataAt (t .from) .length + 4 = ap (λ (x : Arrival). x .length) u in
+    let b : w .unit .start ≡ dataAt (t .from) .start = ap (λ (x : Arrival). x .start) u in
     let c : length (t .from) ≡ length s = ap length f in
     record {
       as-16 = n .as-16;
       few = n .takes .room;
-      tag = tag-small (w .first .to) (n .tagged);
       least = omega (arith, n .least);
       most = n .longest;
       within = omega (arith, n .good .within, a, b, c);
@@ -92,8 +82,8 @@ pub index-small : (w : Decision) (k : ℕ) (p : Put) → p ≡ putIn w k → w .
 unfolding putIn
 index-small w k p q a b = rw q (omega arith)
 
-pub lay-room : (w : Decision) (k : ℕ) (p : Put) (s : List ℕ) {size : ℕ} → p ≡ putIn w k → w .link < 16 → k < 8 → w .first .classtype ≤ 277 → w .second .to + (w .first .classtype - 4) ≤ length s → size ≡ 34944
-    → (p .start + p .bytes ≤ length s) × (p .place + p .bytes ≤ size)
+pub lay-room : (w : Decision) (k : ℕ) (p : Put) (s : List ℕ) {size : ℕ} → p ≡ putIn w k → w .link < 16 → k < 8 → w .unit .length ≤ 277 → w .unit .start + (w .unit .length - 4) ≤ length s → size ≡ 34944
+    → (w .unit .start + p .bytes ≤ length s) × (p .place + p .bytes ≤ size)
 unfolding putIn
 lay-room w k p s q a b c d e = rw q (d, omega arith)
 
@@ -106,19 +96,19 @@ module _ (g : Gateway) (w : Decision) (k : ℕ) (e : k ≡ numberAt (g .held .co
   pub units-put :
       record {
         count = set (g .held .count) (w .link) (p .count);
-        tag = set (g .held .tag) (p .at) (p .tag);
-        length = set (g .held .length) (p .at) (p .length);
-        marked = set (g .held .marked) (p .at) (p .marked);
-        id = set (g .held .id) (p .at) (w .first .subject);
-        correlation = set (g .held .correlation) (p .at) (w .first .value);
+        tag = set (g .held .tag) (p .at) (w .unit .tag);
+        length = set (g .held .length) (p .at) (w .unit .length);
+        marked = set (g .held .marked) (p .at) (w .unit .marked);
+        id = set (g .held .id) (p .at) (w .unit .id);
+        correlation = set (g .held .correlation) (p .at) (w .unit .correlation);
       }
-      ≡ unitsWith (g .held) (w .link) (arrivalIn w)
+      ≡ unitsWith (g .held) (w .link) (w .unit)
   unfolding putIn
   units-put = rw (q, e)
 
   -- and the hold, where it is lent whole
   pub hold-put : (s h h′ : List ℕ) (b : Bool) {m : List ℕ} → 4 < w .what → m ≡ s
-      → h′ ≡ cond b (overlay h (p .place) (take (p .bytes) (drop (p .start) s))) h
+      → h′ ≡ cond b (overlay h (p .place) (take (p .bytes) (drop (w .unit .start) s))) h
       → h′ ≡ cond b (holdAfter g m (effectIn w) h) h
   unfolding putIn
   hold-put s h h′ b l f z = z ∙ rw (q, e, f, effect-take w l)

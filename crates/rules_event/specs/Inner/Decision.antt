@@ -6,7 +6,6 @@ use mathlib.Core.List.{List, [], _∷_}
 use lib.Dec.{eqb}
 use Rattle.rules_action.specs.declared.Action.{Action}
 use Rattle.rules_action.specs.Words.{toAll}
-use Rattle.rules_server.specs.declared.Arrival.{Arrival}
 use Rattle.rules_event.specs.declared.Decision.{Decision}
 use Rattle.rules_event.specs.Effect.{Effect, send, setLink, changeIn, takeIn}
 
@@ -18,18 +17,6 @@ firstActions w = cond (eqb (w .count) 0) [] (cond (eqb (w .count) 1) (w .first �
 unfoldable pub spread : Decision → List Action
 spread w = toAll (w .who) (w .first .classtype) (w .first .subject) (w .first .value)
 
--- the unit that comes in
-abbrev pub arrivalIn : Decision → Arrival
-arrivalIn w =
-    record {
-      tag = w .first .to;
-      length = w .first .classtype;
-      marked = w .state;
-      id = w .first .subject;
-      correlation = w .first .value;
-      start = w .second .to;
-    }
-
 unfoldable pub effectIn : Decision → Effect
 effectIn w =
     cond (eqb (w .what) 0) (send (firstActions w))
@@ -37,4 +24,4 @@ effectIn w =
     (cond (eqb (w .what) 2) (changeIn (firstActions w) (w .change) (w .who))
     (cond (eqb (w .what) 3) (send (spread w))
     (cond (eqb (w .what) 4) (setLink (w .link) (w .state) (spread w))
-    (takeIn (w .link) (arrivalIn w))))))
+    (takeIn (w .link) (w .unit))))))

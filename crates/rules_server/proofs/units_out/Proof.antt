@@ -35,4 +35,4 @@ pub units-out-spec : {M : Type 1} → statement M
 units-out-spec =
     tie.close
     (tie.spec Inv-loop μ-loop (search needs) loop-holds (search needs) (search needs) (search needs) (search needs) (search needs)
-    put-if-requires (search needs) (search needs) loop-again same-length returns)
+    (search needs) (search needs) (search needs) put-if-requires (search needs) (search needs) loop-again same-length returns)

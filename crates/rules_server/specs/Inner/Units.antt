@@ -7,18 +7,15 @@ use lib.Dec.{ltb}
 use lib.ListN.{length}
 use Rattle.laws.specs.Below.{concatBelow, when}
 use Rattle.laws.specs.Inner.Below.{concat-short, when-short}
-use Rattle.laws.specs.Columns.{numberAt}
 use Rattle.state_tables.specs.Sound.{unitIndex}
-use Rattle.rules_action.specs.Types.{userData}
-use Rattle.rules_action.specs.Words.{action}
 use Rattle.rules_action.specs.declared.Action.{Action}
 use Rattle.rules_server.specs.declared.Change.{Change}
 use Rattle.rules_server.specs.declared.Change.the-variants.{AspUp, AspDown, Deactivate, Activate, Recover}
-use Rattle.rules_server.specs.Units.{unitOut, unitsOut, letOut}
+use Rattle.rules_server.specs.Units.{sending, unitOut, unitsOut, letOut}
 
 pub unitOut-short : (p n : ℕ) (id : List ℕ) (a k : ℕ) → length (unitOut p n id a k) ≤ 1
 unfolding unitOut
-unitOut-short p n id a k = when-short (ltb k n) (action p userData (numberAt id (unitIndex a k)) 0)
+unitOut-short p n id a k = when-short (ltb k n) (sending p id (unitIndex a k))
 
 pub unitsOut-short : (p n : ℕ) (id : List ℕ) (a : ℕ) → length (unitsOut p n id a) ≤ 8
 unfolding unitsOut

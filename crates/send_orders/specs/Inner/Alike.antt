@@ -39,7 +39,7 @@ no-unit false false h = refl
 -- a form does not say who gets the message
 same-form : (passed : Bool) (o p : Action) (u : Unit) → o .classtype ≡ p .classtype → o .subject ≡ p .subject → o .value ≡ p .value → formOf passed o u ≡ formOf passed p u
 unfolding formOf
-same-form passed o p u c s v = λ i. formOf passed (record { to = p .to; classtype = c i; subject = s i; value = v i }) u
+same-form passed o p u c s v = λ i. formOf passed (record { to = p .to; classtype = c i; subject = s i; value = v i; unit = p .unit }) u
 
 module _ (iid owner : List ℕ) (n : ℕ) (s : List ℕ) where
   same-part : (b c : List ℕ) (x y : Sent) → (x .o .to ≡ 255 → ⊥) → (y .o .to ≡ 255 → ⊥) → formIn x ≡ formIn y → formPars iid owner n (walk s 8 .pars) b (formIn x) ≡ formPars iid owner n (walk s 8 .pars) c (formIn x)

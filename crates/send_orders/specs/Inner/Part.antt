@@ -29,7 +29,7 @@ use Rattle.send_message.specs.declared.Form.{Form}
 use Rattle.send_orders.specs.declared.Run.{Run}
 use Rattle.send_orders.specs.declared.Turn.{Turn}
 use Rattle.send_unit.specs.declared.Sent.{Sent}
-use Rattle.send_unit.specs.Inner.Words.{actionIn, dataIn}
+use Rattle.send_unit.specs.Inner.Words.{actionIn, said, dataIn}
 use Rattle.send_unit.specs.Inner.Made.{heldOf, sentOf, shown, Long}
 
 -- ---- what is written for an action
@@ -53,6 +53,11 @@ sentFrom g passed i o = sentOf (g .held .tag) (g .held .length) (g .held .marked
 
 abbrev pub partFrom : Gateway → List ℕ → ℕ → List ℕ → Bool → ℕ → Action → List ℕ
 partFrom g h n s passed i o = partMade (g .iid) (g .owner) (g .held .tag) (g .held .length) (g .held .marked) (g .held .correlation) n s h passed i o
+
+-- the words of an action are enough for it
+pub said-part : (g : Gateway) (h : List ℕ) (n : ℕ) (s : List ℕ) (passed : Bool) (i : ℕ) (o : Action) → partFrom g h n s passed i (said o) ≡ partFrom g h n s passed i o
+unfolding partOf shown isData formOf
+said-part g h n s passed i o = refl
 
 -- the bytes p are written over out at a position where they go in: how many they are, and the whole buffer
 pub record PutIf (out : List ℕ) (at : ℕ) (p : List ℕ) (r : ℕ) (out′ : List ℕ) : Type 0 where

@@ -7,7 +7,8 @@ use mathlib.Core.List.{List, _++_}
 use native.Mathlib.Omega.{arith}
 use lib.Dec.{eqb, ltb}
 use lib.ListN.{length, drop, getD}
-use borrow.Author.Tests.{eq-eqb, ne-eqb, lt-ltb, le-ltb}
+use borrow.Author.Tests.{eq-eqb, ne-eqb, lt-ltb, le-ltb, not-true}
+use Rattle.laws.specs.Inner.Every.{and-left, and-right}
 use Rattle.laws.specs.Choice.{_orElse_, _if_}
 use Rattle.laws.specs.Columns.{numberAt}
 use Rattle.codec_put.specs.Bytes.{overlay}
@@ -24,12 +25,14 @@ use Rattle.event_asked.specs.Happened.{happened, eventOf}
 use Rattle.rules_action.specs.declared.Action.{Action}
 use Rattle.send_message.specs.Inner.Stands.{Lends}
 use Rattle.send_message.specs.Inner.Kinds.{kinds}
-use Rattle.rules_event.specs.Sent.{actionsOn, actionAt, isSent, gone, dataBefore, unitFor}
+use Rattle.rules_event.specs.Sent.{actionsOn, actionAt, isSent, isData, isPassed, unitFor}
+use Rattle.rules_units.specs.Inner.Counted.{gone, dataBefore}
+use Rattle.rules_units.proofs.Releases.{counted}
 use Rattle.send_message.specs.Send.{messageAt, sendCode, Sends, partAt}
-use Rattle.send_unit.specs.Inner.Words.{actionIn, action-in, dataIn, data-in}
+use Rattle.send_unit.specs.Inner.Words.{actionIn, said, action-in, dataIn, data-in}
 use Rattle.send_unit.specs.Inner.Units.{goneList, gone-at}
-use Rattle.send_unit.specs.Inner.Made.{heldOf, Long}
-use Rattle.send_orders.specs.Inner.Part.{partFrom}
+use Rattle.send_unit.specs.Inner.Made.{heldOf, held-said, Long}
+use Rattle.send_orders.specs.Inner.Part.{partFrom, said-part}
 use Rattle.send_orders.specs.Inner.There.{is-sent, unit-long, part-there}
 use Rattle.send_orders.specs.Inner.Refusals.{refused-first, accepted-rest}
 
@@ -71,16 +74,18 @@ module _ {g : Gateway} {h : List ℕ} {k : EventKind} {count : ℕ} {ws : List �
   pub below : j < length (actionsOn g k)
   below = omega (arith, there, t .count-is)
 
-  pub action-is : actionIn ws j ≡ actionAt (actionsOn g k) j
+  pub action-is : actionIn ws j ≡ said (actionAt (actionsOn g k) j)
   action-is = ap (λ (x : List ℕ). actionIn x j) (t .words-are) ∙ action-in (actionsOn g k) (t .rest) j below
 
   pub data-is : dataIn ws j ≡ dataBefore (actionsOn g k) j
   data-is = ap (λ (x : List ℕ). dataIn x j) (t .words-are) ∙ data-in (actionsOn g k) (t .rest) j (omega (arith, below))
 
   -- of the list of units gone, the one at the number of Data before the action
-  pub unit-is : numberAt (goneList (g .held .count) (after .held .count)) (dataIn ws j) ≡ unitFor g k j
-  unfolding unitFor
-  unit-is = gone-at g after (dataIn ws j) ∙ (λ y. getD (gone g (t .state y)) (data-is y) 0)
+  pub unit-is : heldOf (isPassed k) (actionAt (actionsOn g k) j) ≡ true → numberAt (goneList (g .held .count) (after .held .count)) (dataIn ws j) ≡ unitFor g k j
+  unit-is e =
+      let o = actionAt (actionsOn g k) j in
+      gone-at g after (dataIn ws j) ∙ (λ y. getD (gone g (t .state y)) (data-is y) 0)
+      ∙ counted g k j (t .sound) (t .planned) (not-true _ (and-right (isData o) (not (isPassed k)) e)) (lt-ltb j (length (actionsOn g k)) below) (and-left (isData o) (not (isPassed k)) e)
 
 -- what the code writes for the action at a place is what the rules say: it has the number of links, the
 -- message lent for it, whether it is passed on, and the unit that is sent, if one is
@@ -88,14 +93,18 @@ pub part-called : (g : Gateway) (h : List ℕ) (kind i : ℕ) (s : List ℕ) {co
     → {m : ℕ} {o : Action} {u : ℕ} → m ≡ g .links → Lends g (happened kind i s) x (actionAt (actionsOn g (happened kind i s)) j) → o ≡ actionIn ws j
     → (heldOf (eqb kind 5) o ≡ true → u ≡ numberAt (goneList (g .held .count) (after .held .count)) (dataIn ws j)) → partFrom g h m x (eqb kind 5) u o ≡ partAt g h (happened kind i s) j
 part-called g h kind i s t j there x {m} {o} {u} em lends eo eu =
+    let k = happened kind i s in
     let b = kinds kind i s in
     let e = eo ∙ action-is t j there in
     (λ y. partFrom g h (em y) x (sym (b .1) y) u (e y))
-    ∙ part-there g h (happened kind i s) j (t .sound) (t .planned) (below t j there) x u lends (λ z. eu ((λ y. heldOf (sym (b .1) y) (e y)) ∙ z) ∙ unit-is t j there)
+    ∙ said-part g h (g .links) x (isPassed k) u (actionAt (actionsOn g k) j)
+    ∙ part-there g h k j (t .sound) (t .planned) (below t j there) x u lends (λ z. eu ((λ y. heldOf (sym (b .1) y) (e y)) ∙ held-said (isPassed k) (actionAt (actionsOn g k) j) ∙ z) ∙ unit-is t j there z)
 
 -- that unit has the length of a unit
 pub long-called : (g : Gateway) (h : List ℕ) (kind i : ℕ) (s : List ℕ) {count : ℕ} {ws : List ℕ} {after : Gateway} → Ran g h (happened kind i s) count ws after → (j : ℕ) → j < count
     → {o : Action} {u : ℕ} → o ≡ actionIn ws j → (heldOf (eqb kind 5) o ≡ true → u ≡ numberAt (goneList (g .held .count) (after .held .count)) (dataIn ws j)) → heldOf (eqb kind 5) o ≡ true → Long (numberAt (g .held .length) u)
 long-called g h kind i s t j there eo eu e =
-    rw (eu e ∙ unit-is t j there)
-    (unit-long g h (happened kind i s) j (t .sound) (t .planned) (below t j there) ((λ y. heldOf (kinds kind i s .1 y) (sym (eo ∙ action-is t j there) y)) ∙ e))
+    let k = happened kind i s in
+    let z : heldOf (isPassed k) (actionAt (actionsOn g k) j) ≡ true = sym (held-said (isPassed k) (actionAt (actionsOn g k) j)) ∙ (λ y. heldOf (kinds kind i s .1 y) (sym (eo ∙ action-is t j there) y)) ∙ e in
+    let q = eu e ∙ unit-is t j there z in
+    rw q (unit-long g h k j (t .sound) (t .planned) (below t j there) z)

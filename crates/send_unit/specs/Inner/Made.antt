@@ -12,10 +12,15 @@ use Rattle.laws.specs.Columns.{numberAt}
 use Rattle.rules_action.specs.declared.Action.{Action}
 use Rattle.rules_event.specs.Sent.{isData}
 use Rattle.send_unit.specs.declared.Sent.{Sent}
+use Rattle.send_unit.specs.Inner.Words.{said}
 
 -- it sends a unit held
 abbrev pub heldOf : Bool → Action → Bool
 heldOf passed o = isData o && not passed
+
+pub held-said : (passed : Bool) (o : Action) → heldOf passed (said o) ≡ heldOf passed o
+unfolding isData
+held-said passed o = refl
 
 -- the action with the unit at index i, of the columns of units
 abbrev pub sentOf : List ℕ → List ℕ → List ℕ → List ℕ → Bool → ℕ → Action → Sent

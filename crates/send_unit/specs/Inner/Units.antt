@@ -17,7 +17,7 @@ use Rattle.codec_put.specs.Bytes.{overlay}
 use Rattle.codec_put.proofs.Sets.{length-over}
 use Rattle.state_tables.specs.Sound.{unitIndex}
 use Rattle.state_tables.specs.declared.Gateway.{Gateway}
-use Rattle.rules_event.specs.Sent.{gone}
+use Rattle.rules_units.specs.Inner.Counted.{gone}
 use Rattle.rules_units.proofs.Units.{gone-rows}
 
 -- those of the first n units of AS a, which has so many before and so many after
