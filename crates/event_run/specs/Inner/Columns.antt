@@ -2,17 +2,14 @@
 -- Assumes nothing.
 use Prim.Native.Nat.{ℕ, _<_}
 use mathlib.Core.Path.{_≡_, refl, _∙_}
-use mathlib.Core.Bool.{Bool, true, false, _||_}
+use mathlib.Core.Bool.{Bool, true}
 use mathlib.Core.List.{List}
 use native.Mathlib.Omega.{arith}
-use native.Mathlib.Decide.{decLt}
-use lib.Dec.{eqb, ltb}
-use borrow.Author.Tests.{eq-eqb, eqb-true, le-ltb}
+use borrow.Author.Tests.{eq-eqb}
 use Rattle.laws.specs.Columns.{numberAt}
-use Rattle.laws.specs.Inner.Below.{all-at}
-use Rattle.state_tables.specs.Sound.{blankFrom, isSound}
-use Rattle.state_tables.specs.Inner.Laws.{parts, links-parts}
-use Rattle.state_ranges.specs.Inner.Laws.{table, owner-small}
+use Rattle.state_tables.specs.Sound.{isSound}
+use Rattle.state_tables.specs.Inner.Column.{column-any}
+use Rattle.state_tables.specs.Inner.Laws.{parts, links-parts, counts-within}
 use Rattle.codec_read.specs.declared.Reading.{Reading}
 use Rattle.state_tables.specs.declared.Gateway.{Gateway}
 use Rattle.state_lookup.specs.Links.{indexOf, known}
@@ -46,17 +43,10 @@ owned g x e f = rw (f, e)
 
 -- the owner at any place of the links, also where there is none
 pub owner-any : (g : Gateway) → isSound g ≡ true → (l : ℕ) → l < 128 → numberAt (g .owner) l < 16
-unfolding blankFrom
-owner-any g h l b = go (decLt l (g .links))
-  where
-    free : ltb l (g .links) ≡ false → (ltb l (g .links) || eqb (numberAt (g .owner) l) 0) ≡ true → numberAt (g .owner) l ≡ 0
-    free e q = eqb-true (numberAt (g .owner) l) 0 (rw e at q)
-
-    go : Dec (l < g .links) → numberAt (g .owner) l < 16
-    go (yes q) = owner-small (g .iid) (g .owner) (g .links) (table g h) l q
-    go (no q) =
-        let p = links-parts (g .iid) (g .owner) (g .state) (g .ases) (g .links) (parts g h .inLinks) in
-        omega (arith, free (le-ltb l (g .links) (omega arith)) (all-at (λ i. ltb i (g .links) || eqb (numberAt (g .owner) i) 0) 128 (p .blankOwners) l b))
+owner-any g h l b =
+    let n = counts-within g h in
+    let p = links-parts (g .iid) (g .owner) (g .state) (g .ases) (g .links) (parts g h .inLinks) in
+    omega (arith, n .ases, column-any (g .owner) (g .ases) (g .links) 128 (p .owned) (n .someAses) l b)
 
 -- ---- what is decided of the records is the rules' on each such state
 

@@ -69,6 +69,15 @@ pub under-at : (c : List ℕ) (most n : ℕ) → allUnder c most n ≡ true → 
 unfolding allUnder
 under-at c most n h i b = ltb-true (numberAt c i) most (all-at (λ i. ltb (numberAt c i) most) n h i b)
 
+-- and so fewer places, and below a larger bound
+pub under-fewer : (c : List ℕ) (most n m : ℕ) → m ≤ n → allUnder c most n ≡ true → allUnder c most m ≡ true
+unfolding allUnder
+under-fewer c most n m l h = all-of (λ i. ltb (numberAt c i) most) m (λ i b. lt-ltb (numberAt c i) most (under-at c most n h i (omega arith)))
+
+pub under-wider : (c : List ℕ) (most more n : ℕ) → most ≤ more → allUnder c most n ≡ true → allUnder c more n ≡ true
+unfolding allUnder
+under-wider c most more n l h = all-of (λ i. ltb (numberAt c i) more) n (λ i b. lt-ltb (numberAt c i) more (omega (arith, under-at c most n h i b)))
+
 column-of : (c : List ℕ) (most n places : ℕ) → ((i : ℕ) → i < places → fits most n i (numberAt c i) ≡ true) → soundColumn c most n places ≡ true
 unfolding soundColumn underWithin
 column-of c most n places f = all-of (λ i. fits most n i (numberAt c i)) places f
