@@ -1,6 +1,6 @@
 -- The records of which the rules speak: a link, the AS that owns it, an ASP, and the sender of a message of
--- class 6 (Rule 5.27). A rule names a field of a record; here stands which column of the state the field is read
--- from.
+-- class 6 (Rule 5.27). A rule names a field of a record; here stands which column of the state the field is
+-- read from.
 -- Assumes nothing.
 use Prim.Native.Nat.{ℕ}
 use Rattle.laws.specs.Columns.{numberAt}

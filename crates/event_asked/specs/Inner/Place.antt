@@ -64,6 +64,10 @@ pub asp-is : (p : ℕ) → p < 16 → aspIn p ≡ p
 unfolding aspIn
 asp-is p b = rw (lt-ltb p 16 b)
 
+pub asp-none : 0 ≡ aspIn 0
+unfolding aspIn
+asp-none = refl
+
 -- what it names is in the plan: there and k are the link
 abbrev pub knownIn : ℕ → ℕ → Bool → Link → Ask → Bool
 knownIn asps ases there k (Up p r) = ltb p asps
