@@ -28,7 +28,7 @@ unfolding trafficEffect
 returns c = record { on = λ g h. rw (ap (λ (x : Asp). x .up) (h .asp-is)) (search decisions depth 9) }
 
 -- the test, in the rule's words
-tested : (c : tie.After-does-nothing) → c .does-nothing .result ≡ nothingDone (eqb (c .before .before .before .before .before .before .before .before .before .args .r .ids) 1) (c .before .before .before .before .aim .result .refused .found) (eqb (c .before .before .before .before .before .before .before .before .args .a .wholelists) 1) (not (some (flagsOf (c .before .before .before .before .aim .result .set))))
+tested : (c : tie.After-does-nothing) → c .does-nothing .result ≡ nothingDone (eqb (c .before .before .before .before .before .before .before .before .before .args .r .ids) 1) (c .before .before .before .before .aim .result .refused .found) (eqb (c .before .before .before .before .before .before .before .before .before .args .a .wholelists) 1) (not (some (flagsOf (c .before .before .before .before .aim .result .set))))
 unfolding some
 tested c = rw (c .before .is-none .ensures) at (c .does-nothing .ensures)
 
@@ -45,5 +45,5 @@ returns-3 c =
 pub traffic-work-spec : {M : Type 1} → statement M
 traffic-work-spec =
     tie.close
-    (tie.spec (λ c. search needs) (λ c κs. search needs) returns (λ c κs. search needs) (λ c. search needs) (λ c κs. search needs) (λ c κs. search needs)
+    (tie.spec (λ c κs. search needs) returns (λ c κs. search needs) (λ c κs. search needs) (λ c κs. search needs)
     (λ c κs. search needs) returns-2 (λ c κs. search needs) returns-3)

@@ -5,11 +5,9 @@ use mathlib.Core.Path.{_≡_, refl, _∙_, sym}
 use mathlib.Core.Bool.{Bool, true, false, _||_, _&&_, cond, not, false≢true}
 use mathlib.Core.List.{List}
 use native.Mathlib.Omega.{arith}
-use native.Mathlib.Decide.{decLt, ℕ-discrete}
 use lib.Dec.{eqb, leb, ltb}
-use lib.ListN.{length, set}
-use lib.Seq.{set-out, getD-set-same, getD-set-other}
-use borrow.Author.Tests.{eq-eqb, ne-eqb, eqb-true, ltb-true, lt-ltb, leb-true, le-leb}
+use lib.ListN.{set}
+use borrow.Author.Tests.{eq-eqb, ne-eqb, eqb-true, lt-ltb, leb-true, le-leb}
 use Rattle.laws.specs.Below.{one, allBelow, anyBelow, countBelow}
 use Rattle.laws.specs.Inner.Below.{all-at, all-of, any-not}
 use Rattle.laws.specs.Columns.{flagAt, isSet, numberAt}
@@ -17,7 +15,7 @@ use Rattle.laws.specs.Inner.Columns.{getD-tabulate}
 use Rattle.laws.specs.Inner.Every.{and-left, and-right, and-both, count-not}
 use Rattle.laws.specs.Inner.Count.{count-ext, count-some}
 use Rattle.state_tables.specs.declared.Gateway.{Gateway}
-use Rattle.state_tables.specs.Sound.{pair, blankFrom, flagIf, differs, soundColumn, soundAsps, memberAt, activeAt, soundRow, activeIn, modeAt, waitingAt, overrideAt, soundAs, soundAses, soundLinks, isSound}
+use Rattle.state_tables.specs.Sound.{pair, blankFrom, flagIf, differs, soundColumn, soundAsps, memberAt, activeAt, soundRow, activeIn, modeAt, waitingAt, overrideAt, soundAs, soundAses, soundLinks, soundColumns, isSound}
 use Rattle.state_tables.specs.Inner.Column.{fits-inside, fits-zero, column-turned, column-set}
 use Rattle.state_tables.specs.Inner.Laws.{parts, whole, Server, server, links-parts, flag-set, counts-within, member-within}
 use Rattle.rules_server.specs.declared.AsRecord.{AsRecord}
@@ -188,7 +186,7 @@ module _ (g : Gateway) (k : Change) (named : List Bool) (h : isSound g ≡ true)
       and-both d _ (and-left d u e) (ups-kept k (g .up) (g .asps) i (and-right d u e))
 
   pub keeps : isSound (withChange g k named) ≡ true
-  unfolding withChange soundAses
+  unfolding withChange soundAses soundColumns
   keeps =
       whole (withChange g k named) (parts g h .counted) asps-kept
       (all-of (soundAs (upAfter k (g .up)) (g .member) (withChange g k named .active) (g .mode) (withChange g k named .waiting) (g .asps) (g .ases)) 16
@@ -234,11 +232,13 @@ links-kept iid owner state ases links l v b w h =
     and-both _ _ (and-both _ _ (x .order) (x .blankIds)) (and-both _ _ (x .owned) (column-set state 4 links 128 (x .known) l v b w))
 
 pub keeps-link : (g : Gateway) (l v : ℕ) → isSound g ≡ true → l < g .links → v < 4 → isSound (withLink g l v) ≡ true
+unfolding soundColumns
 keeps-link g l v h b w = whole (withLink g l v) (parts g h .counted) (parts g h .inAsps) (parts g h .inAses) (links-kept (g .iid) (g .owner) (g .state) (g .ases) (g .links) l v b w (parts g h .inLinks)) (parts g h .inColumns) (parts g h .inUnits)
 
 -- ---- a unit more
 
 pub keeps-unit : (g : Gateway) (a : ℕ) (x : Arrival) → isSound g ≡ true → a < 16 → isSet (g .waiting) a ≡ true → numberAt (g .held .count) a < 8 → UnitOf (g .iid) (g .owner) (g .links) a x → isSound (withUnit g a x) ≡ true
+unfolding soundColumns
 keeps-unit g a x h b w room good =
     let z = parts g h in
     let s = sizes (g .held) (g .waiting) (g .iid) (g .owner) (g .links) (z .inUnits) in
