@@ -11,7 +11,7 @@ ghost use Rattle.rules_event.specs.Event.{lending};
 ghost use Rattle.rules_event.specs.Rules.{refusalOf};
 ghost use Rattle.event_asked.specs.Inner.Ask.{askOf, Asks};
 ghost use Rattle.event_links.specs.Inner.Records.{Placed, linkIn};
-ghost use Rattle.event_asked.specs.Inner.Place.{knownIn, Named};
+ghost use Rattle.event_asked.specs.Inner.Place.{aspIn, aspNamed, knownIn, Named};
 
 // The numbers of the six kinds of event.
 pub const MESSAGE: u32 = 0;
@@ -67,65 +67,77 @@ fn refusal(sound: bool, known: bool, hold: usize, room: usize) -> u32
     105
 }
 
-// The place among the links that an event names: whether there is such a link, and its index, or 0.
+// The places of what an event names: whether there is a link that it names, that link's index, or 0, and the
+// index of the ASP that it comes from, or 0.
 pub struct Place {
     pub there: bool,
     pub index: usize,
+    pub asp: usize,
 }
 
-fn place_at(l: usize, links: usize) -> Place
+// The index of an ASP, where there is such a place.
+fn asp_in(p: usize) -> usize
+    ensures { λ r. ⌜ r ≡ aspIn p ⌝ }
+{
+    if p < 16 { p } else { 0 }
+}
+
+fn place_at(l: usize, links: usize, asp: usize) -> Place
     requires { ⌜ links ≤ 128 ⌝ }
-    ensures { λ r. ⌜ Placed links l (r .there) (r .index) ⌝ }
+    ensures { λ r. ⌜ Placed links l (r .there) (r .index) × (r .asp ≡ asp) ⌝ }
 {
     if l < links {
         return Place {
             there: true,
             index: l,
+            asp: asp,
         };
     }
     Place {
         there: false,
         index: 0,
+        asp: asp,
     }
 }
 
 // The link that a message names: only one of class 6 names one.
-fn place_in(iid: &[u32; 128], links: usize, r: Reading) -> Place
+fn place_in(iid: &[u32; 128], links: usize, r: Reading, asp: usize) -> Place
     requires { ⌜ (links ≤ 128) × (ascends (now iid) links ≡ true) ⌝ }
-    ensures { λ t. ⌜ Placed links (linkIn links (now (iid .entry)) r) (t .there) (t .index) ⌝ }
+    ensures { λ t. ⌜ Placed links (linkIn links (now (iid .entry)) r) (t .there) (t .index) × (t .asp ≡ asp) ⌝ }
 {
     if r.class == 6 {
-        return place_at(state_lookup::index_of(iid, links, r.id), links);
+        return place_at(state_lookup::index_of(iid, links, r.id), links, asp);
     }
-    place_at(links, links)
+    place_at(links, links, asp)
 }
 
 fn place_by(iid: &[u32; 128], links: usize, ask: Ask) -> Place
     requires { ⌜ (links ≤ 128) × (ascends (now iid) links ≡ true) ⌝ }
-    ensures { λ r. ⌜ Named links (now (iid .entry)) ask (r .there) (r .index) ⌝ }
+    ensures { λ r. ⌜ Named links (now (iid .entry)) ask (r .there) (r .index) × (r .asp ≡ aspIn (aspNamed ask)) ⌝ }
 {
     match ask {
-        Ask::Up(_, _) => place_at(links, links),
-        Ask::Down(_) => place_at(links, links),
-        Ask::Traffic(_, _, _) => place_at(links, links),
-        Ask::Other(_, r, _) => place_in(iid, links, r),
-        Ask::Lost(_) => place_at(links, links),
-        Ask::Recovery(_) => place_at(links, links),
-        Ask::LinkUp(l) => place_at(l, links),
-        Ask::LinkDown(l) => place_at(l, links),
-        Ask::LinkMessage(r) => place_in(iid, links, r),
+        Ask::Up(p, _) => place_at(links, links, asp_in(p)),
+        Ask::Down(p) => place_at(links, links, asp_in(p)),
+        Ask::Traffic(p, _, _) => place_at(links, links, asp_in(p)),
+        Ask::Other(p, r, _) => place_in(iid, links, r, asp_in(p)),
+        Ask::Lost(p) => place_at(links, links, asp_in(p)),
+        Ask::Recovery(_) => place_at(links, links, 0),
+        Ask::LinkUp(l) => place_at(l, links, 0),
+        Ask::LinkDown(l) => place_at(l, links, 0),
+        Ask::LinkMessage(r) => place_in(iid, links, r, 0),
     }
 }
 
 // The one place where a link's identifier is looked up; only where the state is sound.
 pub fn placed(sound: bool, links: u8, iid: &[u32; 128], ask: Ask) -> Place
     requires { ⌜ (sound ≡ true → (links ≤ 128) × (ascends (now iid) links ≡ true)) ⌝ }
-    ensures { λ r. ⌜ (r .index < 128) × (sound ≡ true → Named links (now (iid .entry)) ask (r .there) (r .index)) ⌝ }
+    ensures { λ r. ⌜ (r .index < 128) × (sound ≡ true → Named links (now (iid .entry)) ask (r .there) (r .index)) × (r .asp < 16) × (sound ≡ true → r .asp ≡ aspIn (aspNamed ask)) ⌝ }
 {
     if !sound {
         return Place {
             there: false,
             index: 0,
+            asp: 0,
         };
     }
     place_by(iid, state_tables::wide(links), ask)

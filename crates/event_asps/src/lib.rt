@@ -1,5 +1,6 @@
 // What happens as an ASP comes up, goes down or is lost, and as a recovery time is over.
 use codec_read::Reading;
+use rules_event::Asp;
 use rules_event::Decision;
 use rules_server::Change;
 use rules_server::has_some;
@@ -16,6 +17,7 @@ ghost use Rattle.rules_server.specs.Record.{some};
 ghost use Rattle.rules_servers.specs.Changed.{columnOf};
 ghost use Rattle.rules_server.specs.declared.Change.the-variants.{AspUp, Recover};
 ghost use Rattle.rules_event.specs.Effect.{changeIn};
+ghost use Rattle.rules_event.specs.Records.{aspAt};
 ghost use Rattle.rules_event.specs.Asp.{upEffect, downEffect, lostEffect};
 ghost use Rattle.event_decision.specs.Inner.Decides.{Decides, DecidesOn};
 ghost use Rattle.rules_action.specs.Types.{aspUpAck};
@@ -65,18 +67,18 @@ fn is_other(r: Reading, own: u32) -> bool
     (r.identified == 1) & (r.aspid != own)
 }
 
-// Up (Rule 7.4).
+// Up (Rule 7.4) of ASP p, which is s.
 pub fn up_work<'a>(
-    aspid: &'a [u32; 16],
+    s: Asp,
     member: &'a [u8; 256],
     active: &'a [u8; 256],
     p: usize,
     r: Reading,
 ) -> Decision
     requires { ⌜ p < 16 ⌝ }
-    ensures { λ w. ⌜ DecidesOn (λ g. (g .aspid ≡ now (aspid .entry)) × (g .member ≡ now (member .entry)) × (g .active ≡ now (active .entry))) (λ g. upEffect g p r) w ⌝ }
+    ensures { λ w. ⌜ DecidesOn (λ g. (aspAt g p ≡ s) × (g .member ≡ now (member .entry)) × (g .active ≡ now (active .entry))) (λ g. upEffect g p r) w ⌝ }
 {
-    if is_other(r, aspid[p]) {
+    if is_other(r, s.id) {
         return event_decision::error(p, 15);
     }
     rise(p, has_some(column_of(active, p)), column_of(member, p))

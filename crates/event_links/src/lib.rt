@@ -1,6 +1,7 @@
 // What the events of links do: class 6 messages of an ASP, link up, link down, messages of the link side.
 use codec_read::Found;
 use codec_read::Reading;
+use rules_event::Asp;
 use rules_event::Decision;
 use rules_event::Link;
 use rules_event::Owner;
@@ -46,19 +47,19 @@ pub fn link_at(g: Gateway, l: usize) -> Link
     }
 }
 
-// ASP p, as AS a has it.
+// ASP p, as AS a has it; s is p itself.
 pub fn sender_of<'a>(
-    up: &'a [u8; 16],
+    s: Asp,
     member: &'a [u8; 256],
     active: &'a [u8; 256],
     a: usize,
     p: usize,
 ) -> Sender
     requires { ⌜ (a < 16) × (p < 16) ⌝ }
-    ensures { λ r. ⌜ r ≡ senderFrom (now (up .entry)) (now (member .entry)) (now (active .entry)) a p ⌝ }
+    ensures { λ r. ⌜ r ≡ senderFrom s (now (member .entry)) (now (active .entry)) a p ⌝ }
 {
     Sender {
-        up: up[p],
+        up: s.up,
         member: member[a * 16 + p],
         active: active[a * 16 + p],
     }

@@ -1,6 +1,7 @@
 // Every event: what is asked is refused, or decided and done.
 use event_asked::Ask;
 use event_asked::Place;
+use rules_event::Asp;
 use rules_event::Decision;
 use rules_event::Link;
 use rules_event::Owner;
@@ -19,7 +20,7 @@ ghost use Rattle.rules_event.specs.Inner.Decision.{firstActions, spread, effect
 ghost use Rattle.event_decision.specs.Inner.Decides.{aspOf, DecidesOn};
 ghost use Rattle.event_asked.specs.Happened.{happened, eventOf, event};
 ghost use Rattle.event_asked.specs.Inner.Ask.{askEffect, AskFits};
-ghost use Rattle.event_asked.specs.Inner.Place.{Named};
+ghost use Rattle.event_asked.specs.Inner.Place.{aspIn, aspNamed, Named};
 ghost use Rattle.state_tables.specs.State.{gatewayOf, unitsOf};
 ghost use Rattle.event_run.specs.At.{outcomeOf};
 ghost use Rattle.event_run.specs.Inner.Columns.{AskColumns};
@@ -27,48 +28,35 @@ ghost use Rattle.event_run.specs.Inner.Decision.{firstOf, Changed, linkA
 
 // ---- what is done
 
-// What the event does (Rule 7.1), decided. `at` is the place of the link that it names, k that link, o the AS
-// that owns it. Lent are only the columns that are searched for more than one place.
+// What the event does (Rule 7.1), decided. `at` has the places of the link that it names, which is k, and of
+// the ASP that it comes from, which is s; o is the AS that owns k. Lent are only the columns that are
+// searched for more than one place.
 fn decided<'a>(
     ask: Ask,
     msg: &[u8],
     at: Place,
     k: Link,
     o: Owner,
+    s: Asp,
     links: usize,
-    aspid: &'a [u32; 16],
-    up: &'a [u8; 16],
     member: &'a [u8; 256],
     active: &'a [u8; 256],
     mode: &'a [u8; 16],
     iid: &'a [u32; 128],
     owner: &'a [u8; 128],
-    wholelists: &'a [u8; 16],
 ) -> Decision
-    requires { ⌜ Table (now iid) (now owner) links × AskFits links (now iid) (now msg) ask × Named links (now iid) ask (at .there) (at .index) × (k .owner < 16) ⌝ }
-    ensures { λ w. ⌜ DecidesOn (AskColumns (at .index) k o links (now (aspid .entry)) (now (up .entry)) (now (member .entry)) (now (active .entry)) (now (mode .entry)) (now (iid .entry)) (now (owner .entry)) (now (wholelists .entry))) (λ g. askEffect g (now (msg .entry)) ask) w ⌝ }
+    requires { ⌜ Table (now iid) (now owner) links × AskFits links (now iid) (now msg) ask × Named links (now iid) ask (at .there) (at .index) × (k .owner < 16) × (at .asp ≡ aspIn (aspNamed ask)) ⌝ }
+    ensures { λ w. ⌜ DecidesOn (AskColumns (at .index) k o (at .asp) s links (now (member .entry)) (now (active .entry)) (now (mode .entry)) (now (iid .entry)) (now (owner .entry))) (λ g. askEffect g (now (msg .entry)) ask) w ⌝ }
 {
     match ask {
-        Ask::Up(p, r) => event_asps::up_work(aspid, member, active, p, r),
+        Ask::Up(p, r) => event_asps::up_work(s, member, active, p, r),
         Ask::Down(p) => event_asps::down_work(member, p),
         Ask::Traffic(p, r, on) => {
-            event_traffic::traffic_work(
-                on,
-                msg,
-                links,
-                up,
-                wholelists,
-                member,
-                mode,
-                iid,
-                owner,
-                p,
-                r,
-            )
+            event_traffic::traffic_work(on, msg, links, s, member, mode, iid, owner, p, r)
         }
         Ask::Other(p, r, error) => {
-            let s = event_links::sender_of(up, member, active, state_tables::wide(k.owner), p);
-            event_others::other_work(at.there, p, at.index, k, s, error, r)
+            let t = event_links::sender_of(s, member, active, state_tables::wide(k.owner), p);
+            event_others::other_work(at.there, p, at.index, k, t, error, r)
         }
         Ask::Lost(p) => event_asps::lost_work(member, p),
         Ask::Recovery(a) => event_asps::recovery_work(a),
@@ -214,10 +202,10 @@ pub struct Done {
 }
 
 // Every event (Rule 6.2), on the state where it lies: the number of its kind (`event_asked::MESSAGE` ..), the
-// index and the message that it has; any other number is refused (`happened`). The state's columns are
-// lent, those that events change as `&mut`; the link that the event names and the AS that owns it are
-// read here, once. `size` is the length of the hold; a caller that only wants the actions lends no part
-// of it (`Runs`).
+// index and the message that it has; any other number is refused (`happened`). The state's columns are lent,
+// those that events change as `&mut`; the link that the event names, the AS that owns it and the ASP that the
+// event comes from are read here, once. `size` is the length of the hold; a caller that only wants the
+// actions lends no part of it (`Runs`).
 pub fn run<'a>(
     asps: u8,
     ases: u8,
@@ -295,21 +283,25 @@ pub fn run<'a>(
         waiting: waiting[a],
         held: state_tables::wide(count[a]),
     };
+    let p = at.asp;
+    let s = Asp {
+        id: aspid[p],
+        up: up[p],
+        wholelists: wholelists[p],
+    };
     let w = decided(
         ask,
         msg,
         at,
         k,
         o,
+        s,
         state_tables::wide(links),
-        aspid,
-        up,
         member,
         active,
         mode,
         iid,
         owner,
-        wholelists,
     );
     if 4 < w.what {
         let a = w.link;

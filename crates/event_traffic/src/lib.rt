@@ -1,6 +1,7 @@
 // What Active and Inactive do.
 use codec_read::Reading;
 use codec_wire::Step;
+use rules_event::Asp;
 use rules_event::Decision;
 use rules_server::Change;
 use state_ranges::Named;
@@ -186,13 +187,12 @@ fn aim<'a>(
     }
 }
 
-// Active, where on holds, and Inactive (Rules 7.8 to 7.10, 7.27).
+// Active, where on holds, and Inactive (Rules 7.8 to 7.10, 7.27) of ASP p, which is a.
 pub fn traffic_work<'a>(
     on: bool,
     s: &[u8],
     links: usize,
-    up: &'a [u8; 16],
-    wholelists: &'a [u8; 16],
+    a: Asp,
     member: &'a [u8; 256],
     mode: &'a [u8; 16],
     iid: &'a [u32; 128],
@@ -201,9 +201,9 @@ pub fn traffic_work<'a>(
     r: Reading,
 ) -> Decision
     requires { ⌜ Table (now iid) (now owner) links × (p < 16) ⌝ }
-    ensures { λ w. ⌜ DecidesOn (TrafficColumns links (now (up .entry)) (now (wholelists .entry)) (now (member .entry)) (now (mode .entry)) (now (iid .entry)) (now (owner .entry))) (λ g. trafficEffect g p r (walk (now (s .entry)) 8 .pars) (act g p on (r .mode))) w ⌝ }
+    ensures { λ w. ⌜ DecidesOn (TrafficColumns links p a (now (member .entry)) (now (mode .entry)) (now (iid .entry)) (now (owner .entry))) (λ g. trafficEffect g p r (walk (now (s .entry)) 8 .pars) (act g p on (r .mode))) w ⌝ }
 {
-    if up[p] != 1 {
+    if a.up != 1 {
         return event_decision::error(p, 6);
     }
     let ids = r.ids == 1;
@@ -213,7 +213,7 @@ pub fn traffic_work<'a>(
     if does_nothing(
         ids,
         bad.found,
-        wholelists[p] == 1,
+        a.wholelists == 1,
         state_sets::is_none(named),
     ) {
         return fails(p, bad);

@@ -13,7 +13,7 @@ use Rattle.codec_parameter.specs.Table.{table, among, hasClass, rowIn, entriesI
 use Rattle.codec_parameter.specs.Value.{limitsOf, wordCode, plainCode, idCode, bodyCode}
 use Rattle.codec_read.specs.Meaning.{meaning, outcome, readingOf, bodyIn, foundIn, dataOf, dataTag, dataAt}
 use Rattle.codec_read.specs.Verdict.{has, head, number, isNone, inTurn, allThere, sequenceCode, parsCode, lastChecks, verdict}
-use Rattle.state_tables.specs.Sound.{countsIn, blankFrom, differs, flagWithin, soundAsps, memberAt, activeAt, soundRow, activeIn, modeAt, waitingAt, overrideAt, soundAs, soundAses, ascends, allUnder, soundLinks, soundKinds, soundLists, isLinkOf, unitAt, blankAt, unitsOk, sized, allUnits, soundUnits, soundTables, isSound}
+use Rattle.state_tables.specs.Sound.{countsIn, blankFrom, differs, underWithin, soundColumn, soundColumns, soundAsps, memberAt, activeAt, soundRow, activeIn, modeAt, waitingAt, overrideAt, soundAs, soundAses, ascends, allUnder, soundLinks, soundKinds, soundLists, isLinkOf, unitAt, blankAt, unitsOk, sized, allUnits, soundUnits, soundTables, isSound}
 use Rattle.state_plan.specs.Plan.{offset, count, follow, layoutOk, column, aspIds, masks, lists, modes, linkIds, owners, kinds, modesOk, masksOk, rowsOk, members, fresh, built, loadOf}
 use Rattle.state_lookup.specs.Links.{indexOf, known}
 use Rattle.rules_action.specs.Words.{wordsOf}
@@ -68,7 +68,7 @@ abbrev first : Board
 first = record { gateway = freshS; hold = replicate holdBytes 0 }
 
 computed : (tally 0 0 freshS (callsOf first day) ≡ record { came = 11; sent = 8; discarded = 1; turned = 1 }) × (holds (endOf first day .gateway) 0 ≡ 1)
-unfolding anyBelow allBelow concatBelow firstBelow countBelow tabulate be stepAt walkF walk partOf textCode allowedCode parCode table among hasClass rowIn entriesIn useIn usage limitsOf wordCode plainCode idCode bodyCode meaning outcome readingOf bodyIn foundIn dataOf dataTag dataAt has head number isNone inTurn allThere sequenceCode parsCode lastChecks verdict countsIn blankFrom differs flagWithin soundAsps memberAt activeAt soundRow activeIn modeAt waitingAt overrideAt soundAs ascends allUnder soundLinks soundKinds soundLists isLinkOf unitAt blankAt unitsOk sized allUnits soundUnits soundTables isSound soundAses offset count follow layoutOk column aspIds masks lists modes linkIds owners kinds modesOk masksOk rowsOk members fresh built loadOf indexOf known wordsOf without joined activated overtaken nobody recordWith isNotified notifiesTo notifies actionsIn unitOut unitsOut letOut row membersUp recordFrom some stateIn columnOf withFlag actionsAt newActive newWaiting clearedFrom letsGo withChange allActions upEffect downEffect otherMode activeEffect inactiveEffect trafficEffect actions next isKnown linkOf canHave isPending arrival holdEffect linkMessageOn linkMessageEffect ownsId isError fromAsp readEffect messageEffect fromLink refusalOf planS freshS unit cameIn isDataAt sentOut since tally callsOf endOf leaves day
+unfolding anyBelow allBelow concatBelow firstBelow countBelow tabulate be stepAt walkF walk partOf textCode allowedCode parCode table among hasClass rowIn entriesIn useIn usage limitsOf wordCode plainCode idCode bodyCode meaning outcome readingOf bodyIn foundIn dataOf dataTag dataAt has head number isNone inTurn allThere sequenceCode parsCode lastChecks verdict countsIn blankFrom differs underWithin soundColumn soundColumns soundAsps memberAt activeAt soundRow activeIn modeAt waitingAt overrideAt soundAs ascends allUnder soundLinks soundKinds soundLists isLinkOf unitAt blankAt unitsOk sized allUnits soundUnits soundTables isSound soundAses offset count follow layoutOk column aspIds masks lists modes linkIds owners kinds modesOk masksOk rowsOk members fresh built loadOf indexOf known wordsOf without joined activated overtaken nobody recordWith isNotified notifiesTo notifies actionsIn unitOut unitsOut letOut row membersUp recordFrom some stateIn columnOf withFlag actionsAt newActive newWaiting clearedFrom letsGo withChange allActions upEffect downEffect otherMode activeEffect inactiveEffect trafficEffect actions next isKnown linkOf canHave isPending arrival holdEffect linkMessageOn linkMessageEffect ownsId isError fromAsp readEffect messageEffect fromLink refusalOf planS freshS unit cameIn isDataAt sentOut since tally callsOf endOf leaves day
 computed = (refl, refl)
 
 pub sample-day : Day

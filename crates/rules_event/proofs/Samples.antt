@@ -16,7 +16,7 @@ use Rattle.codec_read.specs.Meaning.{meaning, outcome, readingOf, bodyIn, found
 use Rattle.codec_read.specs.Samples.{active, up}
 use Rattle.codec_read.specs.Inner.Seen.{there, word, sequenceAt, endAt, meaningAt, outcomeAt, rowOutcome, checksOutcome}
 use Rattle.codec_read.specs.Verdict.{has, head, number, isNone, inTurn, allThere, sequenceCode, parsCode, lastChecks, verdict}
-use Rattle.state_tables.specs.Sound.{countsIn, blankFrom, differs, flagWithin, soundAsps, memberAt, activeAt, soundRow, activeIn, modeAt, waitingAt, overrideAt, soundAs, soundAses, ascends, allUnder, soundLinks, soundKinds, soundLists, isLinkOf, unitAt, blankAt, unitsOk, sized, allUnits, soundUnits, soundTables, isSound, zeros}
+use Rattle.state_tables.specs.Sound.{countsIn, blankFrom, differs, underWithin, soundColumn, soundColumns, soundAsps, memberAt, activeAt, soundRow, activeIn, modeAt, waitingAt, overrideAt, soundAs, soundAses, ascends, allUnder, soundLinks, soundKinds, soundLists, isLinkOf, unitAt, blankAt, unitsOk, sized, allUnits, soundUnits, soundTables, isSound, zeros}
 use Rattle.state_plan.specs.Plan.{offset, count, follow, layoutOk, column, aspIds, masks, lists, modes, linkIds, owners, kinds, modesOk, masksOk, rowsOk, members, fresh, built, loadOf}
 use Rattle.state_lookup.specs.Links.{indexOf, known}
 use Rattle.state_lookup.specs.Inner.Links.{rank}
@@ -42,7 +42,7 @@ use Rattle.rules_event.specs.Samples.{planS, freshS, m, g₁, g₂, g₃
 use Rattle.rules_event.specs.Inner.Decision.{firstActions, spread, effectIn}
 
 computed : Samples × ReachApart g₁ takes comesUp × ReachApart g₅ arrives comesUp × Pinned
-unfolding anyBelow allBelow concatBelow firstBelow countBelow tabulate be stepAt walkF walk partOf textCode allowedCode parCode slot tagAt infoOf allMet allAsked rowBits table among hasClass rowIn entriesIn useIn usage limitsOf wordCode plainCode idCode rangeCode bodyCode meaning outcome readingOf bodyIn foundIn dataOf dataTag dataAt active up there word sequenceAt endAt meaningAt outcomeAt rowOutcome checksOutcome has head number isNone inTurn allThere sequenceCode parsCode lastChecks verdict countsIn blankFrom differs flagWithin soundAsps memberAt activeAt soundRow activeIn modeAt waitingAt overrideAt soundAs ascends allUnder soundLinks soundKinds soundLists isLinkOf unitAt blankAt unitsOk sized allUnits soundUnits soundTables isSound soundAses zeros offset count follow layoutOk column aspIds masks lists modes linkIds owners kinds modesOk masksOk rowsOk members fresh built loadOf indexOf known rank stateOf before receives ownerById isRefused isOwnedBy firstIn someIn startAt stopAt entries firstOf refusedIn refusedEntry someOf someEntry wordsOf toEach toAll putAt place without joined activated overtaken nobody recordWith isNotified notifiesTo notifies actionsIn unitOut unitsOut letOut announced spoken row membersUp recordFrom some stateIn withRow columnOf withFlag actionsAt newActive newWaiting clearedFrom letsGo withChange allActions upEffect downEffect lostEffect otherMode activeEffect inactiveEffect partEffect trafficEffect actions next firstRefused namesSome ownsGood ownersGood isKnown linkOf establish release dataEffect canHave linkEffect classSixOn classSixEffect recipientsOf toRecipients linkUpOn linkUpEffect linkDownOn linkDownEffect isPending arrival holdEffect linkMessageOn linkMessageEffect ownsId readReach messageReach reach isError fromAsp readEffect messageEffect fromLink refusalOf planS freshS m g₁ g₂ g₃ g₄ g₅ unit g₆ retrieval confirm m116 g₇ takes arrives comesUp firstActions spread effectIn
+unfolding anyBelow allBelow concatBelow firstBelow countBelow tabulate be stepAt walkF walk partOf textCode allowedCode parCode slot tagAt infoOf allMet allAsked rowBits table among hasClass rowIn entriesIn useIn usage limitsOf wordCode plainCode idCode rangeCode bodyCode meaning outcome readingOf bodyIn foundIn dataOf dataTag dataAt active up there word sequenceAt endAt meaningAt outcomeAt rowOutcome checksOutcome has head number isNone inTurn allThere sequenceCode parsCode lastChecks verdict countsIn blankFrom differs underWithin soundColumn soundColumns soundAsps memberAt activeAt soundRow activeIn modeAt waitingAt overrideAt soundAs ascends allUnder soundLinks soundKinds soundLists isLinkOf unitAt blankAt unitsOk sized allUnits soundUnits soundTables isSound soundAses zeros offset count follow layoutOk column aspIds masks lists modes linkIds owners kinds modesOk masksOk rowsOk members fresh built loadOf indexOf known rank stateOf before receives ownerById isRefused isOwnedBy firstIn someIn startAt stopAt entries firstOf refusedIn refusedEntry someOf someEntry wordsOf toEach toAll putAt place without joined activated overtaken nobody recordWith isNotified notifiesTo notifies actionsIn unitOut unitsOut letOut announced spoken row membersUp recordFrom some stateIn withRow columnOf withFlag actionsAt newActive newWaiting clearedFrom letsGo withChange allActions upEffect downEffect lostEffect otherMode activeEffect inactiveEffect partEffect trafficEffect actions next firstRefused namesSome ownsGood ownersGood isKnown linkOf establish release dataEffect canHave linkEffect classSixOn classSixEffect recipientsOf toRecipients linkUpOn linkUpEffect linkDownOn linkDownEffect isPending arrival holdEffect linkMessageOn linkMessageEffect ownsId readReach messageReach reach isError fromAsp readEffect messageEffect fromLink refusalOf planS freshS m g₁ g₂ g₃ g₄ g₅ unit g₆ retrieval confirm m116 g₇ takes arrives comesUp firstActions spread effectIn
 computed = (
   record { reader = reader-samples; takes-over = refl; in-part = refl; whole = refl; overrides = refl; pends = refl; recovers = refl; holds = refl; sends-held = refl; retrieves = refl; too-large = refl; confirms = refl; refuses = refl },
   record { ases = refl; links = (refl, refl, refl); first = (refl, refl); second = (refl, refl) },

@@ -5,7 +5,7 @@ use mathlib.Core.Bool.{Bool, true, false, cond, not, _&&_, _||_}
 use mathlib.Core.List.{List, [], _∷_, _++_}
 use lib.Dec.{eqb}
 use Rattle.laws.specs.Below.{anyBelow, when}
-use Rattle.laws.specs.Columns.{flagAt, numberAt, isSet, tabulate}
+use Rattle.laws.specs.Columns.{flagAt, numberAt, tabulate}
 use Rattle.codec_wire.specs.Walk.{Par}
 use Rattle.codec_read.specs.declared.Reading.{Reading}
 use Rattle.state_ranges.specs.declared.Refused.{Refused}
@@ -16,6 +16,7 @@ use Rattle.rules_server.specs.declared.Change.the-variants.{AspUp, AspDown, Dea
 use Rattle.rules_server.specs.Record.{some}
 use Rattle.rules_servers.specs.Changed.{columnOf}
 use Rattle.rules_event.specs.Identifiers.{firstRefused, ownersGood}
+use Rattle.rules_event.specs.Records.{aspAt}
 use Rattle.rules_event.specs.Effect.{Effect, send, changeIn, oneAction, error, error2}
 
 -- the ASes of p, and those in which it is active
@@ -29,7 +30,7 @@ activeAses g p = columnOf (g .active) p
 -- told so by a second reply
 unfoldable pub upEffect : Gateway → ℕ → Reading → Effect
 upEffect g p r =
-    cond (eqb (r .identified) 1 && not (eqb (r .aspid) (numberAt (g .aspid) p))) (send (error p 15))
+    cond (eqb (r .identified) 1 && not (eqb (r .aspid) (aspAt g p .id))) (send (error p 15))
     (changeIn (oneAction p aspUpAck 0 0 ++ cond (some (activeAses g p)) (error p 6) []) (AspUp p) (asesOf g p))
 
 -- Rules 7.5 and 7.6: the loss of the association is a Down without an Ack
@@ -56,13 +57,13 @@ inactiveEffect p told named = changeIn (oneAction p aspInactiveAck 0 0 ++ told) 
 -- where p's lists are taken whole, and where none is good; else it is told beside what is done in the owners
 -- of the good ones.
 unfoldable pub partEffect : Gateway → ℕ → ℕ → List Bool → (List Action → List Bool → Effect) → Effect
-partEffect g p first good act = cond (isSet (g .wholelists) p || not (some good)) (send (error2 p first)) (act (error2 p first) good)
+partEffect g p first good act = cond (eqb (aspAt g p .wholelists) 1 || not (some good)) (send (error2 p first)) (act (error2 p first) good)
 
 -- Rule 7.8: the ASes that the message names, by identifiers or, without any, all of p's; what is done with
 -- them is given.
 unfoldable pub trafficEffect : Gateway → ℕ → Reading → List Par → (List Action → List Bool → Effect) → Effect
 trafficEffect g p r ps act =
-    cond (not (isSet (g .up) p)) (send (error p 6))
+    cond (not (eqb (aspAt g p .up) 1)) (send (error p 6))
     (cond (eqb (r .ids) 1)
     (cond (firstRefused g p ps .found) (partEffect g p (firstRefused g p ps .id) (ownersGood g p ps) act) (act [] (ownersGood g p ps)))
     (cond (some (asesOf g p)) (act [] (asesOf g p)) (send (error p 6))))

@@ -12,8 +12,8 @@ pub struct Outcome {
     pub gateway: Gateway,
 }
 
-// ---- records: what the rules of links are said of (Rule 5.27). A new column of links is a field here, and
-// is read from the state in one place (`linkAt`).
+// ---- records: what the rules of links and of ASPs are said of (Rule 5.27). A new column of links or of ASPs
+// is a field here, and is read from the state in one place (`linkAt`, `aspAt`).
 
 // What is kept of a link: a row of the links' columns.
 pub struct Link {
@@ -29,6 +29,13 @@ pub struct Owner {
     pub mode: u8,
     pub waiting: u8,
     pub held: usize,
+}
+
+// What is kept of an ASP itself: a row of the ASPs' columns.
+pub struct Asp {
+    pub id: u32,
+    pub up: u8,
+    pub wholelists: u8,
 }
 
 // What class 6 asks of its sender: whether it is up, a member of the link's owner, and active there.

@@ -7,20 +7,21 @@ use mathlib.Core.List.{List}
 use native.Mathlib.Omega.{arith}
 use native.Mathlib.Decide.{decLt, ℕ-discrete}
 use lib.Dec.{eqb, leb, ltb}
-use borrow.Author.Tests.{lt-ltb, le-ltb, ltb-true, leb-true, eqb-true, eq-eqb, ne-eqb}
-use Rattle.laws.specs.Below.{allBelow, anyBelow}
-use Rattle.laws.specs.Inner.Below.{all-at, all-of, any-at, any-in}
+use lib.ListN.{length, set, length-set, replicate, getD-replicate}
+use lib.Seq.{getD-set-same, getD-set-other}
+use borrow.Author.Tests.{lt-ltb, le-ltb, lt-leb, le-leb, leb-true, eqb-true, eq-eqb, ne-eqb}
+use Rattle.laws.specs.Below.{allBelow, anyBelow, one}
+use Rattle.laws.specs.Inner.Below.{all-at, all-of, any-none, any-more}
 use Rattle.laws.specs.Inner.Every.{all-ext, all-two, and-left, and-right, and-both, same-truth}
 use Rattle.laws.specs.Columns.{numberAt, isSet}
 use Rattle.state_tables.specs.declared.Gateway.{Gateway}
 use Rattle.state_tables.specs.declared.Units.{Units}
-use Rattle.state_tables.specs.Sound.{ascends, countsIn, soundAsps, soundAses, soundLinks, soundKinds, soundLists, soundTables, isLinkOf, unitAt, blankAt, unitsOk, sized, allUnits, soundUnits, isSound}
+use Rattle.state_tables.specs.Sound.{allUnder, countsIn, soundAsps, soundAses, soundLinks, soundColumns, soundTables, isLinkOf, unitAt, blankAt, unitsOk, sized, allUnits, soundUnits, isSound}
 use Rattle.state_tables.specs.State.{unitsOf}
 use Rattle.state_tables.specs.Inner.Sound.{soundTablesOf}
 use Rattle.state_tables.specs.Inner.Laws.{limits, links-parts}
-use Rattle.state_lookup.specs.Links.{indexOf}
-use Rattle.state_lookup.specs.Inner.Links.{index-own, index-is}
-use Rattle.state_sound.specs.Inner.Sound.{narrowAt, narrowBlank, wideAt, wideBlank, blankPlaces, noneCounted, countAt, countsFit, dataFit, fieldsAt, fieldsFit, idAt, idsFit, emptyFit, emptyAt, emptiesFit, rowFit, rowAt, rowsFit}
+use Rattle.state_tables.specs.Inner.Column.{column-all, under-wider}
+use Rattle.state_sound.specs.Inner.Sound.{narrowAt, narrowBlank, wideAt, wideBlank, blankPlaces, noneCounted, countAt, countsFit, dataFit, fieldsAt, fieldsFit, idAt, idsFit, markedAt, Marked, Seen, seenFit, emptyFit, emptyAt, emptiesFit, rowFit, rowSeen, rowAt, rowsFit}
 
 -- ---- numbers below a count
 
@@ -59,29 +60,111 @@ all-rows f =
 
 -- ---- the link of a unit
 
-module _ (iid : List ℕ) (links : ℕ) (h : ascends iid links ≡ true) where
-  -- the place of an identifier is its index
-  pub index-near : (l x : ℕ) → l < links → numberAt iid l ≡ x → l ≡ indexOf iid links x
-  index-near l x b e = sym (index-own iid links h l b) ∙ ap (indexOf iid links) e
+one-is : (u : Bool) → eqb (one u) 1 ≡ u
+one-is true = refl
+one-is false = refl
 
-  -- a link of AS a is known, and at its index is its owner
-  pub link-index : (owner : List ℕ) (a x : ℕ) → isLinkOf iid owner links a x ≡ (ltb (indexOf iid links x) links && eqb (numberAt owner (indexOf iid links x)) a)
-  unfolding isLinkOf
-  link-index owner a x =
-      same-truth (anyBelow test links) (ltb place links && eqb (numberAt owner place) a)
-      (λ e.
-      let f = any-at test links e in
-      let z : place ≡ f .0 = sym (index-near (f .0) x (f .1) (eqb-true (numberAt iid (f .0)) x (and-left (eqb (numberAt iid (f .0)) x) (eqb (numberAt owner (f .0)) a) (f .2)))) in
-      rw (z, lt-ltb (f .0) links (f .1)) (and-right (eqb (numberAt iid (f .0)) x) (eqb (numberAt owner (f .0)) a) (f .2)))
-      (λ e.
-      let b = ltb-true place links (and-left (ltb place links) (eqb (numberAt owner place) a) e) in
-      any-in test links place b (and-both (eqb (numberAt iid place) x) (eqb (numberAt owner place) a) (eq-eqb (numberAt iid place) x (index-is iid links x b)) (and-right (ltb place links) (eqb (numberAt owner place) a) e)))
-    where
-      place : ℕ
-      place = indexOf iid links x
+-- none is marked yet
+pub seen-none : (id iid owner : List ℕ) → Seen id iid owner 0 (replicate 128 0)
+unfolding isLinkOf
+seen-none id iid owner = record { long = refl; at = λ i b. getD-replicate {A = ℕ} 128 i 0 0 b ∙ sym (ap one (any-none _)) }
 
-      test : ℕ → Bool
-      test l = eqb (numberAt iid l) x && eqb (numberAt owner l) a
+-- and the units of a link's owner are, of which it is the link
+pub seen-more : (id iid owner : List ℕ) (l : ℕ) {old new : List ℕ} → Seen id iid owner l old → Marked id (numberAt iid l) (numberAt owner l) 8 old new → Seen id iid owner (l + 1) new
+unfolding isLinkOf
+seen-more id iid owner l {old} h m = record { long = m .long; at = λ i b. m .at i b ∙ rw (h .at i b, any-more) (turn i) }
+  where
+    here : ℕ → Bool
+    here i = leb (numberAt owner l * 8) i && ltb i (numberAt owner l * 8 + 8)
+
+    -- the places of an AS are its eight
+    row-is : (i : ℕ) → here i ≡ eqb (numberAt owner l) (i / 8)
+    row-is i = go (ℕ-discrete (numberAt owner l) (i / 8))
+      where
+        go : Dec (numberAt owner l ≡ i / 8) → here i ≡ eqb (numberAt owner l) (i / 8)
+        go (yes z) = rw (eq-eqb (numberAt owner l) (i / 8) z, le-leb (numberAt owner l * 8) i (omega arith), lt-ltb i (numberAt owner l * 8 + 8) (omega arith))
+        go (no z) = rw (ne-eqb (numberAt owner l) (i / 8) z) (out (decLt i (numberAt owner l * 8)))
+          where
+            out : Dec (i < numberAt owner l * 8) → here i ≡ false
+            out (yes y) = rw (lt-leb (numberAt owner l * 8) i y)
+            out (no y) = rw (le-ltb i (numberAt owner l * 8 + 8) (omega arith)) (none (leb (numberAt owner l * 8) i))
+              where
+                none : (u : Bool) → (u && false) ≡ false
+                none true = refl
+                none false = refl
+
+    same : (x y : ℕ) → eqb x y ≡ eqb y x
+    same x y = go (ℕ-discrete x y)
+      where
+        go : Dec (x ≡ y) → eqb x y ≡ eqb y x
+        go (yes z) = rw (eq-eqb x y z, eq-eqb y x (sym z))
+        go (no z) = rw (ne-eqb x y z, ne-eqb y x (λ e. z (sym e)))
+
+    joins : (u v w : Bool) → cond (v && w) 1 (one u) ≡ one (u || (w && v))
+    joins true true true = refl
+    joins true true false = refl
+    joins true false true = refl
+    joins true false false = refl
+    joins false true true = refl
+    joins false true false = refl
+    joins false false true = refl
+    joins false false false = refl
+
+    turn : (i : ℕ)
+        → cond (here i && eqb (numberAt id i) (numberAt iid l)) 1 (one (anyBelow (λ j. eqb (numberAt iid j) (numberAt id i) && eqb (numberAt owner j) (i / 8)) l))
+        ≡ one (anyBelow (λ j. eqb (numberAt iid j) (numberAt id i) && eqb (numberAt owner j) (i / 8)) l || (eqb (numberAt iid l) (numberAt id i) && eqb (numberAt owner l) (i / 8)))
+    turn i =
+        rw (row-is i, same (numberAt id i) (numberAt iid l))
+        (joins (anyBelow (λ j. eqb (numberAt iid j) (numberAt id i) && eqb (numberAt owner j) (i / 8)) l) (eqb (numberAt owner l) (i / 8)) (eqb (numberAt iid l) (numberAt id i)))
+
+-- so those of an AS are of its links
+pub seen-fits : {id iid owner seen : List ℕ} {links : ℕ} → Seen id iid owner links seen → (a n : ℕ) → a < 16 → n ≤ 8 → seenFit seen a n ≡ idsFit id iid owner links a n
+unfolding seenFit idsFit
+seen-fits {id} {iid} {owner} {seen} {links} h a n b m =
+    all-ext (λ k. eqb (numberAt seen (a * 8 + k)) 1) (idAt id iid owner links a) n
+    (λ k d.
+    let e : (a * 8 + k) / 8 ≡ a = omega arith in
+    rw (h .at (a * 8 + k) (omega arith), e) (one-is (isLinkOf iid owner links a (numberAt id (a * 8 + k)))))
+
+pub row-seen : (tag length marked id correlation iid owner : List ℕ) (links : ℕ) {seen : List ℕ} → Seen id iid owner links seen → (n a : ℕ) → a < 16 → n ≤ 8
+    → rowSeen tag length marked id correlation seen n a ≡ rowFit tag length marked id correlation iid owner links n a
+unfolding rowSeen rowFit
+row-seen tag length marked id correlation iid owner links h n a b m = rw (seen-fits h a n b m)
+
+-- ---- the units of an AS looked through
+
+pub marked-none : (id : List ℕ) (x a : ℕ) (old : List ℕ) → length old ≡ 128 → Marked id x a 0 old old
+marked-none id x a old e = record { long = e; at = λ i b. go i (decLt i (a * 8)) }
+  where
+    none : (u : Bool) → (u && false) ≡ false
+    none true = refl
+    none false = refl
+
+    go : (i : ℕ) → Dec (i < a * 8) → numberAt old i ≡ markedAt id x a 0 old i
+    go i (yes z) = rw (lt-leb (a * 8) i z)
+    go i (no z) = rw (le-ltb i (a * 8 + 0) (omega arith), none (leb (a * 8) i))
+
+pub marked-more : (id : List ℕ) (x a k : ℕ) {old new : List ℕ} → Marked id x a k old new → a * 8 + k < 128 → (v : ℕ) → v ≡ cond (eqb (numberAt id (a * 8 + k)) x) 1 (numberAt new (a * 8 + k))
+    → Marked id x a (k + 1) old (set new (a * 8 + k) v)
+marked-more id x a k {old} {new} h b v e = record { long = length-set new (a * 8 + k) v ∙ h .long; at = λ i q. go i q (ℕ-discrete i (a * 8 + k)) }
+  where
+    none : (u : Bool) → (u && false) ≡ false
+    none true = refl
+    none false = refl
+
+    before : numberAt new (a * 8 + k) ≡ numberAt old (a * 8 + k)
+    before = h .at (a * 8 + k) b ∙ rw (le-ltb (a * 8 + k) (a * 8 + k) (omega arith), none (leb (a * 8) (a * 8 + k)))
+
+    after : (i : ℕ) → (i ≡ a * 8 + k → ⊥) → ltb i (a * 8 + (k + 1)) ≡ ltb i (a * 8 + k)
+    after i z = go (decLt i (a * 8 + k))
+      where
+        go : Dec (i < a * 8 + k) → ltb i (a * 8 + (k + 1)) ≡ ltb i (a * 8 + k)
+        go (yes y) = rw (lt-ltb i (a * 8 + k) y, lt-ltb i (a * 8 + (k + 1)) (omega arith))
+        go (no y) = rw (le-ltb i (a * 8 + k) (omega arith), le-ltb i (a * 8 + (k + 1)) (omega arith))
+
+    go : (i : ℕ) → i < 128 → Dec (i ≡ a * 8 + k) → numberAt (set new (a * 8 + k) v) i ≡ markedAt id x a (k + 1) old i
+    go i q (yes z) = rw (z, getD-set-same new (a * 8 + k) v 0 (omega (arith, h .long)), le-leb (a * 8) (a * 8 + k) (omega arith), lt-ltb (a * 8 + k) (a * 8 + (k + 1)) (omega arith)) (e ∙ rw before)
+    go i q (no z) = getD-set-other new (a * 8 + k) i v 0 z ∙ h .at i q ∙ rw (after i z)
 
 -- ---- one AS, and all
 
@@ -203,7 +286,7 @@ counts-few count waiting h a b =
     leb-true (numberAt count a) 8 (and-left (leb (numberAt count a) 8) (eqb (numberAt count a) 0 || isSet waiting a) (all-at (countAt count waiting) 16 h a b))
 
 -- the links of sound tables
-pub tables-links : (g : Gateway) → soundTables g ≡ true → (g .links ≤ 128) × (ascends (g .iid) (g .links) ≡ true)
+pub tables-links : (g : Gateway) → soundTables g ≡ true → (g .links ≤ 128) × (allUnder (g .owner) 16 (g .links) ≡ true)
 unfolding soundTables
 tables-links g h =
     let c = countsIn (g .asps) (g .ases) (g .links) in
@@ -211,17 +294,17 @@ tables-links g h =
     let x = soundAsps (g .aspid) (g .up) (g .asps) in
     let y = soundAses (g .up) (g .member) (g .active) (g .mode) (g .waiting) (g .asps) (g .ases) in
     let z = soundLinks (g .iid) (g .owner) (g .state) (g .ases) (g .links) in
-    let k = soundKinds (g .highspeed) (g .links) && soundLists (g .wholelists) (g .asps) in (
-      limits (g .asps) (g .ases) (g .links) (and-left c e (and-left (c && e) (x && (y && (z && k))) h)) .links,
-      links-parts (g .iid) (g .owner) (g .state) (g .ases) (g .links) (and-left z k (and-right y (z && k) (and-right x (y && (z && k)) (and-right (c && e) (x && (y && (z && k))) h)))) .order,
-    )
+    let k = soundColumns g in
+    let l = limits (g .asps) (g .ases) (g .links) (and-left c e (and-left (c && e) (x && (y && (z && k))) h)) in
+    let p = links-parts (g .iid) (g .owner) (g .state) (g .ases) (g .links) (and-left z k (and-right y (z && k) (and-right x (y && (z && k)) (and-right (c && e) (x && (y && (z && k))) h)))) in
+    (l .links, under-wider (g .owner) (g .ases) 16 (g .links) (l .ases) (column-all (g .owner) (g .ases) (g .links) 128 (p .owned) (l .links)))
 
 -- the tables of a state, whatever units it holds
 abbrev tables : Gateway → Bool
 tables g = soundTablesOf (g .asps) (g .ases) (g .links) (g .spare) (g .aspid) (g .up) (g .member) (g .active) (g .mode) (g .waiting) (g .iid) (g .owner) (g .state) (g .highspeed) (g .wholelists)
 
 tables-of : (g : Gateway) → tables g ≡ soundTables g
-unfolding soundTables
+unfolding soundTables soundColumns
 tables-of g = refl
 
 -- the state: its tables, and where they are sound its units

@@ -1,15 +1,13 @@
 // Whether the whole state is sound (Rule 5.4): its tables, and the units that it holds (Rule 5.21).
 use state_tables::Gateway;
 ghost use mathlib.Core.Path.{_≡_};
-ghost use mathlib.Core.Bool.{true, _&&_};
+ghost use mathlib.Core.Bool.{true, cond};
 ghost use Prim.Native.Nat.{ℕ, _+_, _<_, _≤_};
 ghost use lib.ListN.{length};
-ghost use lib.Dec.{eqb, ltb};
 ghost use Rattle.laws.specs.Columns.{numberAt};
-ghost use Rattle.state_tables.specs.Sound.{ascends, isSound, sized, allUnits};
+ghost use Rattle.state_tables.specs.Sound.{allUnder, isSound, sized, allUnits};
 ghost use Rattle.state_tables.specs.State.{unitsOf};
-ghost use Rattle.state_lookup.specs.Links.{indexOf};
-ghost use Rattle.state_sound.specs.Inner.Sound.{isSoundOf, narrowBlank, wideBlank, blankPlaces, noneCounted, countsFit, dataFit, fieldsFit, idsFit, emptyFit, emptiesFit, rowFit, rowsFit};
+ghost use Rattle.state_sound.specs.Inner.Sound.{isSoundOf, narrowBlank, wideBlank, blankPlaces, noneCounted, countsFit, dataFit, fieldsFit, Marked, Seen, seenFit, emptyFit, emptiesFit, rowSeen, rowsFit};
 
 // n places of three columns, or of two, are zero. Columns of one width in one loop without a branch: so it
 // becomes operations on 16 bytes.
@@ -108,51 +106,53 @@ fn fields_ok<'a>(
     ok
 }
 
-// The index of the link with identifier x, where the one found before is likely.
-fn index_near(iid: &[u32; 128], links: usize, x: u32, last: usize) -> usize
-    requires { ⌜ (links ≤ 128) × (ascends (now iid) links ≡ true) ⌝ }
-    ensures { λ r. ⌜ r ≡ indexOf (now (iid .entry)) links x ⌝ }
+// 1 where t holds, and else what was there.
+fn marked_if(t: bool, old: u32) -> u32
+    ensures { λ r. ⌜ r ≡ cond t 1 old ⌝ }
 {
-    if last < links {
-        if iid[last] == x {
-            return last;
-        }
-    }
-    state_lookup::index_of(iid, links, x)
+    if t { 1 } else { old }
 }
 
-// Place l is that of a link, and of one of AS a.
-fn is_owned(owner: &[u8; 128], links: usize, l: usize, a: usize) -> bool
-    requires { ⌜ links ≤ 128 ⌝ }
-    ensures { λ r. ⌜ r ≡ (ltb l links && eqb (numberAt (now (owner .entry)) l) a) ⌝ }
+// The units of AS a that are of the link with identifier x are marked. Eight places without a branch: so it
+// becomes operations on 16 bytes.
+fn mark(seen: &mut [u32; 128], id: &[u32; 128], x: u32, a: usize)
+    requires { ⌜ (a < 16) × (length (now seen) ≡ 128) ⌝ }
+    ensures { λ _. ⌜ Marked (now (id .entry)) x a 8 (now (seen .entry)) (now (seen .exit)) ⌝ }
 {
-    if l < links {
-        return state_tables::wide(owner[l]) == a;
+    let from = a * 8;
+    for k in 0..8usize {
+        let i = from + k;
+        seen[i] = marked_if(id[i] == x, seen[i]);
     }
-    false
 }
 
-// The first n units of AS a are of its links.
-fn ids_ok<'a>(
+// Which units are of a link of their AS: each link marks its own, so that no link is searched for.
+fn seen_of<'a>(
     id: &'a [u32; 128],
     iid: &'a [u32; 128],
     owner: &'a [u8; 128],
     links: usize,
-    a: usize,
-    n: usize,
-) -> bool
-    requires { ⌜ (links ≤ 128) × (ascends (now iid) links ≡ true) × (a < 16) × (n ≤ 8) ⌝ }
-    ensures { λ r. ⌜ r ≡ idsFit (now (id .entry)) (now (iid .entry)) (now (owner .entry)) links a n ⌝ }
+) -> [u32; 128]
+    requires { ⌜ (links ≤ 128) × (allUnder (now owner) 16 links ≡ true) ⌝ }
+    ensures { λ r. ⌜ Seen (now (id .entry)) (now (iid .entry)) (now (owner .entry)) links r ⌝ }
 {
-    let mut last: usize = 0;
-    for k in 0..n {
-        let l = index_near(iid, links, id[a * 8 + k], last);
-        if !is_owned(owner, links, l, a) {
-            return false;
-        }
-        last = l;
+    let mut seen = [0u32; 128];
+    for l in 0..links {
+        mark(&mut seen, id, iid[l], state_tables::wide(owner[l]));
     }
-    true
+    seen
+}
+
+// The first n units of AS a are marked.
+fn ids_ok(seen: &[u32; 128], a: usize, n: usize) -> bool
+    requires { ⌜ (a < 16) × (n ≤ 8) ⌝ }
+    ensures { λ r. ⌜ r ≡ seenFit (now (seen .entry)) a n ⌝ }
+{
+    let mut ok = true;
+    for k in 0..n {
+        ok = ok & (seen[a * 8 + k] == 1);
+    }
+    ok
 }
 
 // The places of an AS that holds n, where n is 0; and where it is not.
@@ -180,20 +180,18 @@ fn row_ok<'a>(
     marked: &'a [u16; 128],
     id: &'a [u32; 128],
     correlation: &'a [u32; 128],
-    iid: &'a [u32; 128],
-    owner: &'a [u8; 128],
-    links: usize,
+    seen: &'a [u32; 128],
     n: usize,
     a: usize,
 ) -> bool
-    requires { ⌜ (links ≤ 128) × (ascends (now iid) links ≡ true) × (a < 16) × (n ≤ 8) ⌝ }
-    ensures { λ r. ⌜ r ≡ rowFit (now (tag .entry)) (now (length .entry)) (now (marked .entry)) (now (id .entry)) (now (correlation .entry)) (now (iid .entry)) (now (owner .entry)) links n a ⌝ }
+    requires { ⌜ (a < 16) × (n ≤ 8) ⌝ }
+    ensures { λ r. ⌜ r ≡ rowSeen (now (tag .entry)) (now (length .entry)) (now (marked .entry)) (now (id .entry)) (now (correlation .entry)) (now (seen .entry)) n a ⌝ }
 {
     if n == 0 {
         return true;
     }
     let x = fields_ok(tag, length, marked, correlation, a * 8, n);
-    let y = ids_ok(id, iid, owner, links, a, n);
+    let y = ids_ok(seen, a, n);
     let z = blank(tag, length, marked, id, correlation, a * 8 + n, 8 - n);
     x & (y & z)
 }
@@ -228,23 +226,13 @@ fn rows_ok<'a>(
     owner: &'a [u8; 128],
     links: usize,
 ) -> bool
-    requires { ⌜ (links ≤ 128) × (ascends (now iid) links ≡ true) × ((a : ℕ) → a < 16 → numberAt (now count) a ≤ 8) ⌝ }
+    requires { ⌜ (links ≤ 128) × (allUnder (now owner) 16 links ≡ true) × ((a : ℕ) → a < 16 → numberAt (now count) a ≤ 8) ⌝ }
     ensures { λ r. ⌜ r ≡ rowsFit (now (count .entry)) (now (tag .entry)) (now (length .entry)) (now (marked .entry)) (now (id .entry)) (now (correlation .entry)) (now (iid .entry)) (now (owner .entry)) links ⌝ }
 {
+    let seen = seen_of(id, iid, owner, links);
     for a in 0..16usize {
         let n = state_tables::wide(count[a]);
-        if !row_ok(
-            tag,
-            length,
-            marked,
-            id,
-            correlation,
-            iid,
-            owner,
-            links,
-            n,
-            a,
-        ) {
+        if !row_ok(tag, length, marked, id, correlation, &seen, n, a) {
             return false;
         }
     }
@@ -264,7 +252,7 @@ pub fn units_ok<'a>(
     owner: &'a [u8; 128],
     links: usize,
 ) -> bool
-    requires { ⌜ (links ≤ 128) × (ascends (now iid) links ≡ true) ⌝ }
+    requires { ⌜ (links ≤ 128) × (allUnder (now owner) 16 links ≡ true) ⌝ }
     ensures { λ r. ⌜ r ≡ allUnits (unitsOf (now (count .entry)) (now (tag .entry)) (now (length .entry)) (now (marked .entry)) (now (id .entry)) (now (correlation .entry))) (now (waiting .entry)) (now (iid .entry)) (now (owner .entry)) links ⌝ }
 {
     if none_counted(count) {

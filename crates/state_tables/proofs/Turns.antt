@@ -4,11 +4,11 @@ use Prim.Native.Nat.{ℕ, _+_, _≤_}
 use mathlib.Core.Path.{_≡_, refl, sym}
 use mathlib.Core.Bool.{Bool, true, false, _&&_}
 use mathlib.Core.List.{List}
-use lib.Dec.{eqb, ltb}
+use lib.Dec.{eqb}
 use borrow.Author.Tests.{lt-ltb, le-ltb}
-use Rattle.laws.specs.Inner.Below.{all-none, all-more, all-of}
+use Rattle.laws.specs.Inner.Below.{all-more, all-of}
 use Rattle.laws.specs.Columns.{numberAt}
-use Rattle.state_tables.specs.Sound.{blankFrom, allUnder}
+use Rattle.state_tables.specs.Sound.{blankFrom}
 
 pub blank-none : (c : List ℕ) (n : ℕ) → blankFrom c n n ≡ true
 unfolding blankFrom
@@ -35,16 +35,3 @@ both-blank-none c d n = rw (blank-none c n, blank-none d n)
 pub both-blank-more : (c d : List ℕ) (n i : ℕ) → n ≤ i → bothBlank c d n (i + 1) ≡ (bothBlank c d n i && (eqb (numberAt c i) 0 && eqb (numberAt d i) 0))
 unfolding bothBlank
 both-blank-more c d n i h = rw (blank-more c n i h, blank-more d n i h) (sym (two-more (blankFrom c n i) (blankFrom d n i) (eqb (numberAt c i) 0) (eqb (numberAt d i) 0)))
-
-unfoldable pub bothUnder : List ℕ → ℕ → List ℕ → ℕ → ℕ → Bool
-bothUnder c most d limit l = allUnder c most l && allUnder d limit l
-
-pub both-under-none : (c : List ℕ) (most : ℕ) (d : List ℕ) (limit : ℕ) → bothUnder c most d limit 0 ≡ true
-unfolding bothUnder allUnder
-both-under-none c most d limit = rw (all-none (λ l. ltb (numberAt c l) most), all-none (λ l. ltb (numberAt d l) limit))
-
-pub both-under-more : (c : List ℕ) (most : ℕ) (d : List ℕ) (limit l : ℕ) → bothUnder c most d limit (l + 1) ≡ (bothUnder c most d limit l && (ltb (numberAt c l) most && ltb (numberAt d l) limit))
-unfolding bothUnder allUnder
-both-under-more c most d limit l =
-    rw (all-more (λ l. ltb (numberAt c l) most) l, all-more (λ l. ltb (numberAt d l) limit) l)
-    (sym (two-more (allUnder c most l) (allUnder d limit l) (ltb (numberAt c l) most) (ltb (numberAt d l) limit)))

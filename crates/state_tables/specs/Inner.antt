@@ -1,3 +1,4 @@
+pub mod Column
 pub mod Differ
 pub mod Laws
 pub mod Limits

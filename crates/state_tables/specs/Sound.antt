@@ -40,9 +40,12 @@ blankFrom c n end = allBelow (λ i. ltb i n || eqb (numberAt c i) 0) end
 abbrev pub flagIf : ℕ → Bool → Bool
 flagIf x b = eqb x 0 || (eqb x 1 && b)
 
--- place i of a column holds a flag, and 1 only among the first n
-unfoldable pub flagWithin : List ℕ → ℕ → ℕ → Bool
-flagWithin c n i = flagIf (numberAt c i) (ltb i n)
+-- Place i of a column of n holds a number below a bound, and a place beyond these 0. Of flags the bound is 2.
+unfoldable pub underWithin : List ℕ → ℕ → ℕ → ℕ → Bool
+underWithin c most n i = cond (ltb i n) (ltb (numberAt c i) most) (eqb (numberAt c i) 0)
+
+unfoldable pub soundColumn : List ℕ → ℕ → ℕ → ℕ → Bool
+soundColumn c most n places = allBelow (underWithin c most n) places
 
 -- ---- ASPs (Rule 5.7)
 
@@ -53,7 +56,7 @@ differs aspid p = allBelow (λ q. not (eqb (numberAt aspid q) (numberAt aspid p)
 -- only an ASP of the plan is up
 unfoldable pub soundAsps : List ℕ → List ℕ → ℕ → Bool
 soundAsps aspid up asps =
-    (allBelow (differs aspid) asps && blankFrom aspid asps aspPlaces) && allBelow (flagWithin up asps) aspPlaces
+    (allBelow (differs aspid) asps && blankFrom aspid asps aspPlaces) && soundColumn up 2 asps aspPlaces
 
 -- ---- ASes and pairs
 
@@ -107,16 +110,20 @@ allUnder c most n = allBelow (λ l. ltb (numberAt c l) most) n
 
 unfoldable pub soundLinks : List ℕ → List ℕ → List ℕ → ℕ → ℕ → Bool
 soundLinks iid owner state ases links =
-    ((ascends iid links && allUnder owner ases links) && allUnder state linkStates links)
-    && ((blankFrom iid links linkPlaces && blankFrom owner links linkPlaces) && blankFrom state links linkPlaces)
+    (ascends iid links && blankFrom iid links linkPlaces)
+    && (soundColumn owner ases links linkPlaces && soundColumn state linkStates links linkPlaces)
 
 -- only a link of the plan is a high-speed one (Rule 5.24)
 unfoldable pub soundKinds : List ℕ → ℕ → Bool
-soundKinds highspeed links = allBelow (flagWithin highspeed links) linkPlaces
+soundKinds highspeed links = soundColumn highspeed 2 links linkPlaces
 
 -- only an ASP of the plan has its lists taken whole (Rule 5.26)
 unfoldable pub soundLists : List ℕ → ℕ → Bool
-soundLists wholelists asps = allBelow (flagWithin wholelists asps) aspPlaces
+soundLists wholelists asps = soundColumn wholelists 2 asps aspPlaces
+
+-- the columns that are asked by themselves: a further one joins here
+unfoldable pub soundColumns : Gateway → Bool
+soundColumns g = soundKinds (g .highspeed) (g .links) && soundLists (g .wholelists) (g .asps)
 
 -- ---- units held (Rule 5.21)
 
@@ -175,10 +182,8 @@ soundTables g =
     (countsIn (g .asps) (g .ases) (g .links) && eqb (g .spare) 0)
     && (soundAsps (g .aspid) (g .up) (g .asps)
     && (soundAses (g .up) (g .member) (g .active) (g .mode) (g .waiting) (g .asps) (g .ases)
-    && (soundLinks (g .iid) (g .owner) (g .state) (g .ases) (g .links)
-    && (soundKinds (g .highspeed) (g .links) && soundLists (g .wholelists) (g .asps)))))
+    && (soundLinks (g .iid) (g .owner) (g .state) (g .ases) (g .links) && soundColumns g)))
 
--- A new column has a condition of its own, which joins as one more conjunct.
 unfoldable pub isSound : Gateway → Bool
 isSound g = soundTables g && soundUnits (g .held) (g .waiting) (g .iid) (g .owner) (g .links)
 

@@ -9,7 +9,7 @@ ghost use Rattle.laws.specs.Below.{one, allBelow};
 ghost use Rattle.state_tables.specs.Inner.Limits.{places, limit, limitsTo, flagsOf, Flags};
 ghost use Rattle.state_tables.specs.Inner.Differ.{padWith, lacksFrom};
 ghost use Rattle.state_tables.specs.Inner.Rows.{rowFails, soundMarks};
-ghost use Rattle.state_tables.specs.Sound.{countsIn, blankFrom, flagWithin, differs, soundAsps, activeIn, modeAt, waitingAt, overrideAt, soundAses, ascends, allUnder, soundLinks, noUnits, zeros};
+ghost use Rattle.state_tables.specs.Sound.{countsIn, blankFrom, soundColumn, differs, soundAsps, activeIn, modeAt, waitingAt, overrideAt, soundAses, ascends, soundLinks, soundKinds, soundLists, noUnits, zeros};
 ghost use Rattle.state_tables.specs.Inner.Sound.{soundTablesOf};
 
 // Index of a pair: as * 16 + asp. Flags are 0 or 1. Traffic modes: 1 override, 2 load-share, 3 broadcast.
@@ -205,14 +205,14 @@ pub fn all_new(aspid: &[u32; 16], n: usize) -> bool
     many_new(aspid, n)
 }
 
-// Flags, and 1 only in the first n places: they are below their limits.
-fn flags_within<'a>(place: &'a [u8; 128], c: &'a [u8], n: u8, end: usize) -> bool
+// A column's first n places hold numbers below a bound, the others 0: all are below their limits.
+fn under_within<'a>(place: &'a [u8; 128], c: &'a [u8], most: u8, n: u8, end: usize) -> bool
     requires { ⌜ (now place ≡ places) × (end ≤ 128) × (end ≤ length (now c)) ⌝ }
-    ensures { λ r. ⌜ r ≡ allBelow (flagWithin (now (c .entry)) n) end ⌝ }
+    ensures { λ r. ⌜ r ≡ soundColumn (now (c .entry)) most n end ⌝ }
 {
     let mut ok = true;
     for i in 0..end {
-        ok = ok & (c[i] < limit(place[i] < n, 2));
+        ok = ok & (c[i] < limit(place[i] < n, most));
     }
     ok
 }
@@ -226,7 +226,7 @@ fn asps_ok<'a>(place: &'a [u8; 128], asps: u8, aspid: &'a [u32; 16], up: &'a [u8
     let n = within(asps, 16);
     let differ = all_new(aspid, n);
     let beyond = blank_wide(aspid, n, 16);
-    let flags = flags_within(place, up, asps, 16);
+    let flags = under_within(place, up, 2, asps, 16);
     (differ & beyond) & flags
 }
 
@@ -382,33 +382,39 @@ pub fn ascending(iid: &[u32; 128], n: usize) -> bool
     ok
 }
 
-// The first n places of two columns are below their bounds.
-fn all_under<'a>(c: &'a [u8; 128], most: u8, d: &'a [u8; 128], limit: u8, n: usize) -> bool
-    requires { ⌜ n ≤ 128 ⌝ }
-    ensures { λ r. ⌜ r ≡ (allUnder (now (c .entry)) most n && allUnder (now (d .entry)) limit n) ⌝ }
-{
-    let mut ok = true;
-    for l in 0..n {
-        ok = ok & ((c[l] < most) & (d[l] < limit));
-    }
-    ok
-}
-
-pub fn links_ok<'a>(
+fn links_ok<'a>(
+    place: &'a [u8; 128],
     ases: u8,
     links: u8,
     iid: &'a [u32; 128],
     owner: &'a [u8; 128],
     state: &'a [u8; 128],
 ) -> bool
+    requires { ⌜ now place ≡ places ⌝ }
     ensures { λ r. ⌜ (links ≤ 128 → r ≡ soundLinks (now (iid .entry)) (now (owner .entry)) (now (state .entry)) ases links) ⌝ }
 {
     let n = within(links, 128);
     let order = ascending(iid, n);
-    let known = all_under(owner, ases, state, 4, n);
-    let x = blank_wide(iid, n, 128);
-    let y = blank(owner, state, n, 128);
-    (order & known) & (x & y)
+    let beyond = blank_wide(iid, n, 128);
+    let owned = under_within(place, owner, ases, links, 128);
+    let known = under_within(place, state, 4, links, 128);
+    (order & beyond) & (owned & known)
+}
+
+// The columns that are asked by themselves: a further one is one more call.
+fn columns_ok<'a>(
+    place: &'a [u8; 128],
+    asps: u8,
+    links: u8,
+    highspeed: &'a [u8; 128],
+    wholelists: &'a [u8; 16],
+) -> bool
+    requires { ⌜ now place ≡ places ⌝ }
+    ensures { λ r. ⌜ r ≡ (soundKinds (now (highspeed .entry)) links && soundLists (now (wholelists .entry)) asps) ⌝ }
+{
+    let kinds = under_within(place, highspeed, 2, links, 128);
+    let lists = under_within(place, wholelists, 2, asps, 16);
+    kinds & lists
 }
 
 // The tables of lent columns, for callers that hold the state and would copy it by a call.
@@ -436,10 +442,9 @@ pub fn tables_ok<'a>(
     let place = places();
     let x = asps_ok(&place, asps, aspid, up);
     let y = ases_ok(&place, asps, ases, up, member, active, mode, waiting);
-    let z = links_ok(ases, links, iid, owner, state);
-    let k = flags_within(&place, highspeed, links, 128);
-    let w = flags_within(&place, wholelists, asps, 16);
-    (c & e) & (x & (y & (z & (k & w))))
+    let z = links_ok(&place, ases, links, iid, owner, state);
+    let k = columns_ok(&place, asps, links, highspeed, wholelists);
+    (c & e) & (x & (y & (z & k)))
 }
 
 impl Units {

@@ -1,10 +1,13 @@
 -- The link that an event names, its place, and whether what the event names is in the plan.
 -- Assumes nothing.
-use Prim.Native.Nat.{ℕ}
+use Prim.Native.Nat.{ℕ, _<_}
 use mathlib.Core.Path.{_≡_, refl, sym, _∙_}
-use mathlib.Core.Bool.{Bool, true, false}
+use mathlib.Core.Bool.{Bool, true, false, cond}
 use mathlib.Core.List.{List}
+use native.Mathlib.Omega.{arith}
+use native.Mathlib.Decide.{decLt}
 use lib.Dec.{ltb}
+use borrow.Author.Tests.{lt-ltb, le-ltb}
 use Rattle.state_tables.specs.Sound.{isSound}
 use Rattle.state_tables.specs.declared.Gateway.{Gateway}
 use Rattle.rules_event.specs.Event.{Lent}
@@ -32,6 +35,38 @@ linkNamed links iid (LinkMessage r) = linkIn links iid r
 
 abbrev pub Named : ℕ → List ℕ → Ask → Bool → ℕ → Type 0
 Named links iid ask there index = Placed links (linkNamed links iid ask) there index
+
+-- the ASP that it comes from, and 0 where there is none
+abbrev pub aspNamed : Ask → ℕ
+aspNamed (Up p r) = p
+aspNamed (Down p) = p
+aspNamed (Traffic p r on) = p
+aspNamed (Other p r wrong) = p
+aspNamed (Lost p) = p
+aspNamed (Recovery a) = 0
+aspNamed (LinkUp l) = 0
+aspNamed (LinkDown l) = 0
+aspNamed (LinkMessage r) = 0
+
+-- its place, which is one of the table also where the event names none
+unfoldable pub aspIn : ℕ → ℕ
+aspIn p = cond (ltb p 16) p 0
+
+pub asp-small : (p : ℕ) → aspIn p < 16
+unfolding aspIn
+asp-small p = go (decLt p 16)
+  where
+    go : Dec (p < 16) → cond (ltb p 16) p 0 < 16
+    go (yes z) = rw (lt-ltb p 16 z) z
+    go (no z) = rw (le-ltb p 16 (omega arith)) (omega arith)
+
+pub asp-is : (p : ℕ) → p < 16 → aspIn p ≡ p
+unfolding aspIn
+asp-is p b = rw (lt-ltb p 16 b)
+
+pub asp-none : 0 ≡ aspIn 0
+unfolding aspIn
+asp-none = refl
 
 -- what it names is in the plan: there and k are the link
 abbrev pub knownIn : ℕ → ℕ → Bool → Link → Ask → Bool

@@ -12,14 +12,15 @@ use Rattle.state_tables.specs.Sound.{pair}
 use Rattle.state_tables.specs.declared.Gateway.{Gateway}
 use Rattle.rules_server.specs.Record.{row, membersUp, recordFrom, some, stateIn}
 use Rattle.state_lookup.specs.Links.{indexOf}
+use Rattle.rules_event.specs.declared.Asp.{Asp}
 use Rattle.rules_event.specs.declared.Owner.{Owner}
 use Rattle.rules_event.specs.declared.Sender.{Sender}
 use Rattle.rules_event.specs.Link.{isPending}
 use Rattle.rules_event.specs.Records.{ownerOf}
 
--- what AS a has of ASP p, of lent columns
-abbrev pub senderFrom : List ℕ → List ℕ → List ℕ → ℕ → ℕ → Sender
-senderFrom up member active a p = record { up = numberAt up p; member = numberAt member (pair a p); active = numberAt active (pair a p) }
+-- what AS a has of ASP p, which is s, of lent columns
+abbrev pub senderFrom : Asp → List ℕ → List ℕ → ℕ → ℕ → Sender
+senderFrom s member active a p = record { up = s .up; member = numberAt member (pair a p); active = numberAt active (pair a p) }
 
 -- nobody is active in AS a, and it waits
 unfoldable pub pendingIn : List ℕ → Owner → ℕ → Bool

@@ -2,18 +2,34 @@
 use native.Mathlib.Omega.{arith}
 use borrow.Author.Needs.{needs}
 use Rattle.event_decision.specs.Inner.Decides.{decided}
-use Rattle.event_run.specs.Inner.Columns.{up-on, down-on, message-on, other-on}
+use Rattle.event_run.specs.Inner.Columns.{asp-at, up-on, down-on, message-on, other-on}
 use Rattle.event_run.proofs.decided.Statement.{statement}
 use Rattle.event_run.proofs.decided.Tie as tie
 
+returns : tie.Need-returns
+returns c =
+    let e = c .before .before .ask .given .1 in
+    let i = c .before .before .before .before .before .pre in
+    let b = rw e at (i .1) in
+    let q = rw e at (i .4) in
+    record { on = λ g h. rw e (c .up-work .ensures .on g (asp-at g _ b q (h .asp-is), h .member-is, h .active-is)) }
+
 returns-3 : tie.Need-returns-3
-returns-3 c = record { on = λ g h. rw (c .before .before .ask3 .given .1) (c .traffic-work .ensures .on g (record { links-is = h .links-is; up-is = h .up-is; wholelists-is = h .wholelists-is; member-is = h .member-is; mode-is = h .mode-is; iid-is = h .iid-is; owner-is = h .owner-is })) }
+returns-3 c =
+    let e = c .before .before .ask3 .given .1 in
+    let i = c .before .before .before .before .before .pre in
+    let b = rw e at (i .1) in
+    let q = rw e at (i .4) in
+    record { on = λ g h. rw e (c .traffic-work .ensures .on g (record { links-is = h .links-is; asp-is = asp-at g _ b q (h .asp-is); member-is = h .member-is; mode-is = h .mode-is; iid-is = h .iid-is; owner-is = h .owner-is })) }
 
 returns-4 : tie.Need-returns-4
 returns-4 c =
     let e = c .before .before .before .before .ask4 .given .1 in
-    let q = rw e at (c .before .before .before .before .before .before .before .pre .2) in
-    record { on = λ g h. rw e (decided (c .other-work .ensures) (other-on g _ _ _ (h .up-is) (h .member-is) (h .active-is) (h .iid-is) (h .links-is) (h .link-is) (c .before .before .wide .ensures) (c .before .sender-of .ensures) q)) }
+    let i = c .before .before .before .before .before .before .before .pre in
+    let q = rw e at (i .2) in
+    let b = rw e at (i .1) in
+    let z = rw e at (i .4) in
+    record { on = λ g h. rw e (decided (c .other-work .ensures) (other-on g _ _ _ (asp-at g _ (b .0) z (h .asp-is)) (h .member-is) (h .active-is) (h .iid-is) (h .links-is) (h .link-is) (c .before .before .wide .ensures) (c .before .sender-of .ensures) q)) }
 
 returns-7 : tie.Need-returns-7
 returns-7 c =
@@ -63,7 +79,7 @@ decided-spec =
     (λ c κs. search needs)
     (λ c. search needs)
     (λ c κs. let i = c .before .before .before .before .pre in let h = rw (c .before .ask7 .given .1) at (i .1) in (i .3, h .0 .class, h .0 .msgtype, h .1))
-    (λ c. record { on = λ g h. rw (c .before .before .ask .given .1) (c .up-work .ensures .on g (h .aspid-is, h .member-is, h .active-is)) })
+    returns
     (λ c. record { on = λ g h. rw (c .before .before .ask2 .given .1) (c .down-work .ensures .on g (h .member-is)) })
     returns-3
     returns-4

@@ -51,16 +51,16 @@ abbrev to-asked : tie.After-refused → tie.After-asked
 to-asked c = to-asked-from (to-sound c)
 
 abbrev to-own : tie.After-decided → tie.After-wide
-to-own c = (c .before .before .before .before .before .before .before .before)
+to-own c = (c .before .before .before .before .before .before .before .before .before .before .before)
 
 abbrev to-held : tie.After-decided → tie.After-wide2
-to-held c = (c .before .before .before .before)
+to-held c = (c .before .before .before .before .before .before .before)
 
 abbrev to-wide : tie.After-decided → tie.After-wide3
 to-wide c = (c .before .before .before)
 
 abbrev to-refused : tie.After-decided → tie.After-refused
-to-refused c = (c .before .before .before .before .before .before .before .before .before .before)
+to-refused c = (c .before .before .before .before .before .before .before .before .before .before .before .before .before)
 
 abbrev to-settle : tie.After-first → tie.After-settle
 to-settle c = (c .before .before)
@@ -130,7 +130,7 @@ module _ (c : tie.After-decided) where
   lent = state-of first-one
 
   not-refused : to-refused c .refused .result ≡ 0
-  not-refused = (c .before .before .before .before .before .before .before .before .before) .if1 .left
+  not-refused = (c .before .before .before .before .before .before .before .before .before .before .before .before) .if1 .left
 
   accepted-at : Accepted (isSound lent) (inPlan lent (happens first-one)) (lending (length (first-one .args .words .now)) (first-one .args .size))
   accepted-at = whole (to-refused c) not-refused
@@ -139,7 +139,7 @@ module _ (c : tie.After-decided) where
   decides =
       let o = owned lent _ (to-own c .wide .ensures) (to-held c .wide2 .ensures) in
       decided
-      (c .decided .ensures .on lent (record { link-is = refl; owned-by = o; links-is = sym (to-wide c .wide3 .ensures); aspid-is = refl; up-is = refl; member-is = refl; active-is = refl; mode-is = refl; iid-is = refl; owner-is = refl; wholelists-is = refl }))
+      (c .decided .ensures .on lent (record { link-is = refl; owned-by = o; asp-is = refl; links-is = sym (to-wide c .wide3 .ensures); member-is = refl; active-is = refl; mode-is = refl; iid-is = refl; owner-is = refl }))
       (to-asked (to-refused c) .asked .ensures .effect lent)
 
   takes : 4 < c .decided .result .what → Taken (c .decided .result) (numberAt (first-one .args .count .now) (c .decided .result .link)) (first-one .args .kind) (first-one .args .i) (first-one .args .msg .now)
@@ -147,13 +147,13 @@ module _ (c : tie.After-decided) where
 
 decided-requires : tie.Need-decided-requires
 decided-requires c κs =
-    let r = (c .before .before .before .before .before .before .before .before .before) in
-    let z = (c .before .before .before .before .before .before .before .before) .if1 .left in
+    let r = (c .before .before .before .before .before .before .before .before .before .before .before .before) in
+    let z = (c .before .before .before .before .before .before .before .before .before .before .before) .if1 .left in
     let w = (c .before .before) .wide3 .ensures in
     let g = state-of (to-start r) in
     let a = to-asked r .asked .ensures in
     let t = whole r z in
-    (rw w (table g (t .sound-yes)), ask-fits-at g _ (to-asked r .asked .result) w (counts-within g (t .sound-yes)) (a .known g ∙ t .known-yes) (a .small), rw w (to-placed r .placed .ensures .1 (to-sound r .sound-of .ensures ∙ t .sound-yes)), owner-16 r z)
+    (rw w (table g (t .sound-yes)), ask-fits-at g _ (to-asked r .asked .result) w (counts-within g (t .sound-yes)) (a .known g ∙ t .known-yes) (a .small), rw w (to-placed r .placed .ensures .1 (to-sound r .sound-of .ensures ∙ t .sound-yes)), owner-16 r z, to-placed r .placed .ensures .3 (to-sound r .sound-of .ensures ∙ t .sound-yes))
 
 -- ---- a unit comes in
 
@@ -307,6 +307,10 @@ run-spec =
     (λ c. own-16 (c .before))
     (λ c. own-16 (c .before .before))
     (λ c κs. search needs)
+    (λ c. search needs)
+    (λ c. search needs)
+    (λ c. search needs)
+    (λ c. search needs)
     (λ c κs. search needs)
     decided-requires
     held-by-requires

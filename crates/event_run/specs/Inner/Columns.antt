@@ -2,43 +2,45 @@
 -- Assumes nothing.
 use Prim.Native.Nat.{ℕ, _<_}
 use mathlib.Core.Path.{_≡_, refl, _∙_}
-use mathlib.Core.Bool.{Bool, true, false, _||_}
+use mathlib.Core.Bool.{Bool, true}
 use mathlib.Core.List.{List}
 use native.Mathlib.Omega.{arith}
-use native.Mathlib.Decide.{decLt}
-use lib.Dec.{eqb, ltb}
-use borrow.Author.Tests.{eq-eqb, eqb-true, le-ltb}
+use borrow.Author.Tests.{eq-eqb}
 use Rattle.laws.specs.Columns.{numberAt}
-use Rattle.laws.specs.Inner.Below.{all-at}
-use Rattle.state_tables.specs.Sound.{blankFrom, isSound}
-use Rattle.state_tables.specs.Inner.Laws.{parts, links-parts}
-use Rattle.state_ranges.specs.Inner.Laws.{table, owner-small}
+use Rattle.state_tables.specs.Sound.{isSound}
+use Rattle.state_tables.specs.Inner.Column.{column-any}
+use Rattle.state_tables.specs.Inner.Laws.{parts, links-parts, counts-within}
 use Rattle.codec_read.specs.declared.Reading.{Reading}
 use Rattle.state_tables.specs.declared.Gateway.{Gateway}
 use Rattle.state_lookup.specs.Links.{indexOf, known}
 use Rattle.rules_event.specs.Identifiers.{linkOf, ownerAt}
 use Rattle.rules_event.specs.Link.{recipientsOf, linkUpOn, linkUpEffect, linkDownOn, linkDownEffect, linkMessageOn, linkMessageEffect}
+use Rattle.rules_event.specs.declared.Asp.{Asp}
 use Rattle.rules_event.specs.declared.Link.{Link}
 use Rattle.rules_event.specs.declared.Owner.{Owner}
 use Rattle.rules_event.specs.declared.Sender.{Sender}
-use Rattle.rules_event.specs.Records.{linkAt, ownerOf}
+use Rattle.rules_event.specs.Records.{linkAt, ownerOf, aspAt}
 use Rattle.event_links.specs.Inner.Records.{senderFrom, pendingIn, pending-is, Placed, at-link, linkIn}
 use Rattle.event_links.specs.Inner.Side.{Side}
+use Rattle.event_asked.specs.Inner.Place.{aspIn, asp-is}
 use Rattle.event_others.specs.Inner.Other.{otherEffect, otherIn, other-in}
 
--- the state g has these columns, k at the place i of its links, and o for the AS that owns that
-pub record AskColumns (i : ℕ) (k : Link) (o : Owner) (links : ℕ) (aspid up member active mode iid owner wholelists : List ℕ) (g : Gateway) : Type 0 where
+-- the state g has these columns, k at the place i of its links, o for the AS that owns that, and s at the
+-- place q of its ASPs
+pub record AskColumns (i : ℕ) (k : Link) (o : Owner) (q : ℕ) (s : Asp) (links : ℕ) (member active mode iid owner : List ℕ) (g : Gateway) : Type 0 where
   pub link-is : linkAt g i ≡ k
   pub owned-by : ownerOf g (k .owner) ≡ o
+  pub asp-is : aspAt g q ≡ s
   pub links-is : g .links ≡ links
-  pub aspid-is : g .aspid ≡ aspid
-  pub up-is : g .up ≡ up
   pub member-is : g .member ≡ member
   pub active-is : g .active ≡ active
   pub mode-is : g .mode ≡ mode
   pub iid-is : g .iid ≡ iid
   pub owner-is : g .owner ≡ owner
-  pub wholelists-is : g .wholelists ≡ wholelists
+
+-- an ASP of the plan is at its own place
+pub asp-at : (g : Gateway) (p : ℕ) {q : ℕ} {s : Asp} → p < 16 → q ≡ aspIn p → aspAt g q ≡ s → aspAt g p ≡ s
+asp-at g p b e h = let z = e ∙ asp-is p b in rw z at h
 
 -- the record of the owner, read at a
 pub owned : (g : Gateway) (x : ℕ) {a n : ℕ} → a ≡ x → n ≡ numberAt (g .held .count) a → ownerOf g x ≡ record { mode = numberAt (g .mode) a; waiting = numberAt (g .waiting) a; held = n }
@@ -46,17 +48,10 @@ owned g x e f = rw (f, e)
 
 -- the owner at any place of the links, also where there is none
 pub owner-any : (g : Gateway) → isSound g ≡ true → (l : ℕ) → l < 128 → numberAt (g .owner) l < 16
-unfolding blankFrom
-owner-any g h l b = go (decLt l (g .links))
-  where
-    free : ltb l (g .links) ≡ false → (ltb l (g .links) || eqb (numberAt (g .owner) l) 0) ≡ true → numberAt (g .owner) l ≡ 0
-    free e q = eqb-true (numberAt (g .owner) l) 0 (rw e at q)
-
-    go : Dec (l < g .links) → numberAt (g .owner) l < 16
-    go (yes q) = owner-small (g .iid) (g .owner) (g .links) (table g h) l q
-    go (no q) =
-        let p = links-parts (g .iid) (g .owner) (g .state) (g .ases) (g .links) (parts g h .inLinks) in
-        omega (arith, free (le-ltb l (g .links) (omega arith)) (all-at (λ i. ltb i (g .links) || eqb (numberAt (g .owner) i) 0) 128 (p .blankOwners) l b))
+owner-any g h l b =
+    let n = counts-within g h in
+    let p = links-parts (g .iid) (g .owner) (g .state) (g .ases) (g .links) (parts g h .inLinks) in
+    omega (arith, n .ases, column-any (g .owner) (g .ases) (g .links) 128 (p .owned) (n .someAses) l b)
 
 -- ---- what is decided of the records is the rules' on each such state
 
@@ -84,7 +79,7 @@ pub message-on : (g : Gateway) (s : List ℕ) (r : Reading) {active iid : List �
 unfolding linkMessageEffect
 message-on g s r {iid = iid} {links = links} a x y b c q t = rw (← c, ← b, ← a, place-six iid links r q t ∙ link-of g (r .id) x y, pending-is g (ownerAt g (linkOf g (r .id))))
 
-pub other-on : (g : Gateway) (p : ℕ) (wrong : Bool) (r : Reading) {up member active iid : List ℕ} {i links a : ℕ} {there : Bool} {k : Link} {s : Sender}
-    → g .up ≡ up → g .member ≡ member → g .active ≡ active → g .iid ≡ iid → g .links ≡ links → linkAt g i ≡ k → a ≡ k .owner → s ≡ senderFrom up member active a p
+pub other-on : (g : Gateway) (p : ℕ) (wrong : Bool) (r : Reading) {member active iid : List ℕ} {i links a : ℕ} {there : Bool} {k : Link} {u : Asp} {s : Sender}
+    → aspAt g p ≡ u → g .member ≡ member → g .active ≡ active → g .iid ≡ iid → g .links ≡ links → linkAt g i ≡ k → a ≡ k .owner → s ≡ senderFrom u member active a p
     → Placed links (linkIn links iid r) there i → otherIn there p i k s wrong r ≡ otherEffect g p wrong r
 other-on g p wrong r {i = i} {there = there} u m c x y b e f q = rw (f, e, ← b, ← u, ← m, ← c) (other-in g p wrong r there i (rw (← x, ← y) at q))

@@ -20,17 +20,18 @@ use Rattle.state_ranges.specs.declared.Named.{Named}
 use Rattle.state_sets.specs.Inner.Bits.{flagsOf}
 use Rattle.state_ranges.specs.Inner.Names.{Names}
 use Rattle.event_decision.specs.Inner.Decides.{Decides, act}
+use Rattle.rules_event.specs.declared.Asp.{Asp}
 use Rattle.rules_event.specs.declared.Decision.{Decision}
+use Rattle.rules_event.specs.Records.{aspAt}
 use Rattle.rules_event.specs.Effect.{Effect, send, error, error2}
 use Rattle.rules_event.specs.Identifiers.{firstRefused, ownersGood}
 use Rattle.rules_event.specs.Asp.{asesOf, otherMode, partEffect, trafficEffect}
 use Rattle.event_traffic.specs.Inner.Named.{refusedPars, goodPars, refused-is, good-is}
 
--- the state g has these columns
-pub record TrafficColumns (links : ℕ) (up wholelists member mode iid owner : List ℕ) (g : Gateway) : Type 0 where
+-- the state g has these columns, and s for ASP p
+pub record TrafficColumns (links p : ℕ) (s : Asp) (member mode iid owner : List ℕ) (g : Gateway) : Type 0 where
   pub links-is : g .links ≡ links
-  pub up-is : g .up ≡ up
-  pub wholelists-is : g .wholelists ≡ wholelists
+  pub asp-is : aspAt g p ≡ s
   pub member-is : g .member ≡ member
   pub mode-is : g .mode ≡ mode
   pub iid-is : g .iid ≡ iid
@@ -62,7 +63,7 @@ module _ {e : Named} {ids : Bool} {first : Refused} {good mine : List Bool} wher
   aims-named t n = record { named = λ h. n; all = λ h. absurd (false≢true (sym h ∙ not-false ids t)) }
 
 -- the same of the state g, by the rules
-pub aims-on : {links : ℕ} {up wholelists member mode iid owner : List ℕ} (g : Gateway) (p : ℕ) (ps : List Par) {e : Named} {ids : Bool} → TrafficColumns links up wholelists member mode iid owner g
+pub aims-on : {links : ℕ} {s : Asp} {member mode iid owner : List ℕ} (g : Gateway) (p : ℕ) (ps : List Par) {e : Named} {ids : Bool} → TrafficColumns links p s member mode iid owner g
     → Aims e ids (refusedPars (isRefused iid owner member links p) ps) (goodPars (isOwnedBy iid owner links) (columnOf member p) ps) (columnOf member p)
     → Aims e ids (firstRefused g p ps) (ownersGood g p ps) (asesOf g p)
 aims-on g p ps h a =

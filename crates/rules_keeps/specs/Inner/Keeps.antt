@@ -5,11 +5,9 @@ use mathlib.Core.Path.{_≡_, refl, _∙_, sym}
 use mathlib.Core.Bool.{Bool, true, false, _||_, _&&_, cond, not, false≢true}
 use mathlib.Core.List.{List}
 use native.Mathlib.Omega.{arith}
-use native.Mathlib.Decide.{decLt, ℕ-discrete}
 use lib.Dec.{eqb, leb, ltb}
-use lib.ListN.{length, set}
-use lib.Seq.{set-out, getD-set-same, getD-set-other}
-use borrow.Author.Tests.{eq-eqb, ne-eqb, eqb-true, ltb-true, lt-ltb, leb-true, le-leb}
+use lib.ListN.{set}
+use borrow.Author.Tests.{eq-eqb, ne-eqb, eqb-true, lt-ltb, leb-true, le-leb}
 use Rattle.laws.specs.Below.{one, allBelow, anyBelow, countBelow}
 use Rattle.laws.specs.Inner.Below.{all-at, all-of, any-not}
 use Rattle.laws.specs.Columns.{flagAt, isSet, numberAt}
@@ -17,7 +15,8 @@ use Rattle.laws.specs.Inner.Columns.{getD-tabulate}
 use Rattle.laws.specs.Inner.Every.{and-left, and-right, and-both, count-not}
 use Rattle.laws.specs.Inner.Count.{count-ext, count-some}
 use Rattle.state_tables.specs.declared.Gateway.{Gateway}
-use Rattle.state_tables.specs.Sound.{pair, blankFrom, flagIf, differs, flagWithin, soundAsps, memberAt, activeAt, soundRow, activeIn, modeAt, waitingAt, overrideAt, soundAs, soundAses, allUnder, soundLinks, isSound}
+use Rattle.state_tables.specs.Sound.{pair, blankFrom, flagIf, differs, soundColumn, soundAsps, memberAt, activeAt, soundRow, activeIn, modeAt, waitingAt, overrideAt, soundAs, soundAses, soundLinks, soundColumns, isSound}
+use Rattle.state_tables.specs.Inner.Column.{fits-inside, fits-zero, column-turned, column-set}
 use Rattle.state_tables.specs.Inner.Laws.{parts, whole, Server, server, links-parts, flag-set, counts-within, member-within}
 use Rattle.rules_server.specs.declared.AsRecord.{AsRecord}
 use Rattle.rules_server.specs.declared.Change.{Change}
@@ -152,21 +151,12 @@ InPlan asps (Deactivate p) = Unit {0}
 InPlan asps (Activate p) = Unit {0}
 InPlan asps Recover = Unit {0}
 
-ups-kept : (k : Change) (up : List ℕ) (asps : ℕ) → InPlan asps k → (q : ℕ) → q < 16 → flagWithin up asps q ≡ true → flagWithin (upAfter k up) asps q ≡ true
-unfolding flagWithin
-ups-kept (AspUp p) up asps i q b h = rw (flag-at up p 1 q b) (go (eqb q p) refl)
-  where
-    go : (t : Bool) → eqb q p ≡ t → flagIf (cond t 1 (numberAt up q)) (ltb q asps) ≡ true
-    go true e = lt-ltb q asps (omega (arith, eqb-true q p e))
-    go false e = h
-ups-kept (AspDown p) up asps i q b h = rw (flag-at up p 0 q b) (go (eqb q p))
-  where
-    go : (t : Bool) → flagIf (cond t 0 (numberAt up q)) (ltb q asps) ≡ true
-    go true = refl
-    go false = h
-ups-kept (Deactivate p) up asps i q b h = h
-ups-kept (Activate p) up asps i q b h = h
-ups-kept Recover up asps i q b h = h
+ups-kept : (k : Change) (up : List ℕ) (asps : ℕ) → InPlan asps k → soundColumn up 2 asps 16 ≡ true → soundColumn (upAfter k up) 2 asps 16 ≡ true
+ups-kept (AspUp p) up asps i h = column-turned up 2 asps 16 h (upAfter (AspUp p) up) p 1 (flag-at up p 1) (fits-inside 2 asps p 1 i (omega arith))
+ups-kept (AspDown p) up asps i h = column-turned up 2 asps 16 h (upAfter (AspDown p) up) p 0 (flag-at up p 0) (fits-zero 2 asps p (omega arith))
+ups-kept (Deactivate p) up asps i h = h
+ups-kept (Activate p) up asps i h = h
+ups-kept Recover up asps i h = h
 
 module _ (g : Gateway) (k : Change) (named : List Bool) (h : isSound g ≡ true) (own : NamesOwn k (g .member) named) (i : InPlan (g .asps) k) (allowed : (a : ℕ) → a < 16 → flagAt named a ≡ true → Allowed (ltb a (g .ases)) k (recordOf g a)) where
   in-as : (a : ℕ) → a < 16 → Sound (g .up) (g .member) (g .active) (g .mode) (g .waiting) (g .asps) (g .ases) a
@@ -191,18 +181,17 @@ module _ (g : Gateway) (k : Change) (named : List Bool) (h : isSound g ≡ true)
   unfolding soundAsps
   asps-kept =
       let d = allBelow (differs (g .aspid)) (g .asps) && blankFrom (g .aspid) (g .asps) 16 in
-      let u = allBelow (flagWithin (g .up) (g .asps)) 16 in
+      let u = soundColumn (g .up) 2 (g .asps) 16 in
       let e = parts g h .inAsps in
-      and-both d _ (and-left d u e)
-      (all-of (flagWithin (upAfter k (g .up)) (g .asps)) 16 (λ q b. ups-kept k (g .up) (g .asps) i q b (all-at (flagWithin (g .up) (g .asps)) 16 (and-right d u e) q b)))
+      and-both d _ (and-left d u e) (ups-kept k (g .up) (g .asps) i (and-right d u e))
 
   pub keeps : isSound (withChange g k named) ≡ true
-  unfolding withChange soundAses
+  unfolding withChange soundAses soundColumns
   keeps =
       whole (withChange g k named) (parts g h .counted) asps-kept
       (all-of (soundAs (upAfter k (g .up)) (g .member) (withChange g k named .active) (g .mode) (withChange g k named .waiting) (g .asps) (g .ases)) 16
       (λ a b. tested (upAfter k (g .up)) (g .member) (withChange g k named .active) (g .mode) (withChange g k named .waiting) (g .asps) (g .ases) a (after-as a b)))
-      (parts g h .inLinks) (parts g h .inKinds) (parts g h .inLists)
+      (parts g h .inLinks) (parts g h .inColumns)
       (units-changed g k named (parts g h .inUnits))
 
 -- ---- kind by kind
@@ -236,36 +225,22 @@ module _ (g : Gateway) (h : isSound g ≡ true) where
 
 -- ---- a link's state
 
-set-small : (c : List ℕ) (l v i n : ℕ) → v < n → numberAt c i < n → numberAt (set c l v) i < n
-set-small c l v i n p q = go (ℕ-discrete i l) (decLt l (length c))
-  where
-    go : Dec (i ≡ l) → Dec (l < length c) → numberAt (set c l v) i < n
-    go (yes z) (yes w) = rw (z, getD-set-same c l v 0 w) p
-    go (yes z) (no w) = rw (set-out c l v (omega arith)) q
-    go (no z) w = rw (getD-set-other c l i v 0 z) q
-
 links-kept : (iid owner state : List ℕ) (ases links l v : ℕ) → l < links → v < 4 → soundLinks iid owner state ases links ≡ true → soundLinks iid owner (set state l v) ases links ≡ true
-unfolding soundLinks allUnder blankFrom
+unfolding soundLinks
 links-kept iid owner state ases links l v b w h =
     let x = links-parts iid owner state ases links h in
-    and-both _ _
-    (and-both _ _ (and-both _ _ (x .order) (x .owned))
-    (all-of (λ i. ltb (numberAt (set state l v) i) 4) links (λ i q. lt-ltb (numberAt (set state l v) i) 4 (set-small state l v i 4 w (ltb-true (numberAt state i) 4 (all-at (λ i. ltb (numberAt state i) 4) links (x .known) i q))))))
-    (and-both _ _ (and-both _ _ (x .blankIds) (x .blankOwners))
-    (all-of (λ i. ltb i links || eqb (numberAt (set state l v) i) 0) 128 (λ i q. go i (decLt i links) (all-at (λ i. ltb i links || eqb (numberAt state i) 0) 128 (x .blankStates) i q))))
-  where
-    go : (i : ℕ) → Dec (i < links) → (ltb i links || eqb (numberAt state i) 0) ≡ true → (ltb i links || eqb (numberAt (set state l v) i) 0) ≡ true
-    go i (yes z) e = rw (lt-ltb i links z)
-    go i (no z) e = rw (getD-set-other state l i v 0 (λ y. omega arith)) e
+    and-both _ _ (and-both _ _ (x .order) (x .blankIds)) (and-both _ _ (x .owned) (column-set state 4 links 128 (x .known) l v b w))
 
 pub keeps-link : (g : Gateway) (l v : ℕ) → isSound g ≡ true → l < g .links → v < 4 → isSound (withLink g l v) ≡ true
-keeps-link g l v h b w = whole (withLink g l v) (parts g h .counted) (parts g h .inAsps) (parts g h .inAses) (links-kept (g .iid) (g .owner) (g .state) (g .ases) (g .links) l v b w (parts g h .inLinks)) (parts g h .inKinds) (parts g h .inLists) (parts g h .inUnits)
+unfolding soundColumns
+keeps-link g l v h b w = whole (withLink g l v) (parts g h .counted) (parts g h .inAsps) (parts g h .inAses) (links-kept (g .iid) (g .owner) (g .state) (g .ases) (g .links) l v b w (parts g h .inLinks)) (parts g h .inColumns) (parts g h .inUnits)
 
 -- ---- a unit more
 
 pub keeps-unit : (g : Gateway) (a : ℕ) (x : Arrival) → isSound g ≡ true → a < 16 → isSet (g .waiting) a ≡ true → numberAt (g .held .count) a < 8 → UnitOf (g .iid) (g .owner) (g .links) a x → isSound (withUnit g a x) ≡ true
+unfolding soundColumns
 keeps-unit g a x h b w room good =
     let z = parts g h in
     let s = sizes (g .held) (g .waiting) (g .iid) (g .owner) (g .links) (z .inUnits) in
-    whole (withUnit g a x) (z .counted) (z .inAsps) (z .inAses) (z .inLinks) (z .inKinds) (z .inLists)
+    whole (withUnit g a x) (z .counted) (z .inAsps) (z .inAses) (z .inLinks) (z .inColumns)
     (units-joined (g .held) (withUnit g a x .held) (g .waiting) (g .iid) (g .owner) (g .links) a x b w room good (joined-with (g .held) a x s b room) (sized-with (g .held) a x s) (z .inUnits))

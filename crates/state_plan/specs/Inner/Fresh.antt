@@ -14,31 +14,17 @@ use Rattle.laws.specs.Below.{allBelow}
 use Rattle.laws.specs.Inner.Below.{all-at, all-of}
 use Rattle.laws.specs.Columns.{numberAt}
 use Rattle.laws.specs.Inner.Columns.{getD-tabulate}
-use Rattle.laws.specs.Inner.Every.{count-not}
-use Rattle.state_tables.specs.Sound.{pair, countsIn, blankFrom, flagIf, flagWithin, soundAsps, memberAt, activeAt, soundRow, activeIn, modeAt, waitingAt, overrideAt, soundAs, soundAses, allUnder, soundLinks, soundKinds, soundLists, isSound}
+use Rattle.laws.specs.Inner.Every.{count-not, and-both}
+use Rattle.state_tables.specs.Sound.{pair, countsIn, blankFrom, flagIf, soundAsps, memberAt, activeAt, soundRow, activeIn, modeAt, waitingAt, overrideAt, soundAs, soundAses, soundLinks, soundKinds, soundLists, soundColumns, isSound}
 use Rattle.state_tables.specs.Inner.Laws.{whole}
+use Rattle.state_tables.specs.Inner.Column.{blank-at, column-made, column-zeros}
 use Rattle.state_tables.specs.Inner.Sound.{no-units-sound}
 use Rattle.state_tables.specs.declared.Gateway.{Gateway}
 use Rattle.state_plan.specs.Plan.{count, layoutOk, bit, bitsFrom, modesOk, masksOk, Tables, tablesOf, rowsOk, members, fresh, refused, accepted, built, loadOf, aspIds, masks, lists, modes, linkIds, owners, kinds}
-use Rattle.state_plan.specs.Inner.Laws.{Layout, layout, Rows, rows, column-blank, under-small}
-
--- a place beyond the count holds zero
-blank-at : (c : List ℕ) (n end : ℕ) → blankFrom c n end ≡ true → (i : ℕ) → i < end → n ≤ i → numberAt c i ≡ 0
-unfolding blankFrom
-blank-at c n end h i b g =
-    let e : eqb (numberAt c i) 0 ≡ true = rw (le-ltb i n g) at (all-at (λ i. ltb i n || eqb (numberAt c i) 0) end h i b) in
-    eqb-true (numberAt c i) 0 e
+use Rattle.state_plan.specs.Inner.Laws.{Layout, layout, Rows, rows, column-blank}
 
 zero-at : (n i : ℕ) → i < n → numberAt (replicate n 0) i ≡ 0
 zero-at n i b = getD-replicate {A = ℕ} n i 0 0 b
-
-blank-zero : (n end : ℕ) → blankFrom (replicate end 0) n end ≡ true
-unfolding blankFrom
-blank-zero n end = all-of _ end (λ i b. rw (zero-at end i b) (go (ltb i n)))
-  where
-    go : (u : Bool) → (u || true) ≡ true
-    go true = refl
-    go false = refl
 
 -- the bits from a on are none if those from an earlier place are none
 bits-none : (x m a : ℕ) → m ≤ a → bitsFrom x m ≡ 0 → bitsFrom x a ≡ 0
@@ -54,15 +40,6 @@ small-flag x h = go (ℕ-discrete x 0)
     go : Dec (x ≡ 0) → flagIf x true ≡ true
     go (yes z) = rw z
     go (no z) = let e : x ≡ 1 = omega arith in rw e
-
--- a column of numbers below 2, with zeros beyond them, is one of flags
-fresh-flags : (c : List ℕ) (n end : ℕ) → allUnder c 2 n ≡ true → blankFrom c n end ≡ true → allBelow (flagWithin c n) end ≡ true
-unfolding flagWithin
-fresh-flags c n end u h = all-of _ end (λ i b. go i b (decLt i n))
-  where
-    go : (i : ℕ) → i < end → Dec (i < n) → flagIf (numberAt c i) (ltb i n) ≡ true
-    go i b (yes s) = rw (lt-ltb i n s) (small-flag (numberAt c i) (under-small c 2 n u i s))
-    go i b (no s) = rw (blank-at c n end h i b (omega arith))
 
 -- ---- table by table, for counts within limits, rows in order and zeros beyond them
 
@@ -93,8 +70,8 @@ module _ (t : Tables) (r : Rows t) where
   owner = t .owner
 
   fresh-asps : blankFrom aspid n 16 ≡ true → soundAsps aspid (replicate 16 0) n ≡ true
-  unfolding soundAsps flagWithin
-  fresh-asps h = rw (r .differ, h) (all-of _ 16 (λ q b. rw (zero-at 16 q b)))
+  unfolding soundAsps
+  fresh-asps h = rw (r .differ, h) (column-zeros 2 n 16 (omega arith))
 
   -- a member is one of the plan's
   fresh-member : blankFrom mask n 16 ≡ true → (a q : ℕ) → a < 16 → q < 16 → memberAt (members mask) n m a q ≡ true
@@ -144,13 +121,9 @@ module _ (t : Tables) (r : Rows t) where
       any true = refl
       any false = refl
 
-  all-idle : k ≤ 128 → allUnder (replicate 128 0) 4 k ≡ true
-  unfolding allUnder
-  all-idle b = all-of _ k (λ l d. rw (zero-at 128 l (omega arith)))
-
-  fresh-links : k ≤ 128 → blankFrom iid k 128 ≡ true → blankFrom owner k 128 ≡ true → soundLinks iid owner (replicate 128 0) m k ≡ true
+  fresh-links : blankFrom iid k 128 ≡ true → blankFrom owner k 128 ≡ true → soundLinks iid owner (replicate 128 0) m k ≡ true
   unfolding soundLinks
-  fresh-links b h g = rw (r .order, r .owned, all-idle b, h, g, blank-zero k 128)
+  fresh-links h g = rw (r .order, h, column-made owner m k 128 (r .owned) g) (column-zeros 4 k 128 (omega arith))
 
 -- ---- the whole
 
@@ -172,7 +145,7 @@ abbrev pub freshOf : List ℕ → Gateway
 freshOf s = fresh (tablesOf s)
 
 pub fresh-sound : (s : List ℕ) → layoutOk s ≡ true → rowsOf s ≡ true → isSound (freshOf s) ≡ true
-unfolding fresh soundAses soundKinds soundLists aspIds masks lists modes linkIds owners kinds
+unfolding fresh soundAses soundColumns soundKinds soundLists aspIds masks lists modes linkIds owners kinds
 fresh-sound s h g =
     let l = layout s h in
     let n = count s 0 in
@@ -183,9 +156,8 @@ fresh-sound s h g =
     whole (freshOf s) (counts-in s l)
     (fresh-asps t r (column-blank 16 n _))
     (all-of _ 16 (fresh-as t r (column-blank 16 n _) (column-blank 16 m _)))
-    (fresh-links t r (l .links) (column-blank 128 k _) (column-blank 128 k _))
-    (fresh-flags (kinds s) k 128 (r .sorted) (column-blank 128 k _))
-    (fresh-flags (lists s) n 16 (r .ruled) (column-blank 16 n _))
+    (fresh-links t r (column-blank 128 k _) (column-blank 128 k _))
+    (and-both _ _ (column-made (kinds s) 2 k 128 (r .sorted) (column-blank 128 k _)) (column-made (lists s) 2 n 16 (r .ruled) (column-blank 16 n _)))
     (no-units-sound (freshOf s .waiting) (freshOf s .iid) (freshOf s .owner) (freshOf s .links))
 
 -- a loaded plan gives a sound state

@@ -7,7 +7,7 @@ use mathlib.Core.List.{List}
 use native.Mathlib.Omega.{arith}
 use lib.Dec.{eqb, leb, ltb}
 use lib.ListN.{length}
-use borrow.Author.Tests.{ltb-true, leb-true, eqb-true, lt-ltb}
+use borrow.Author.Tests.{leb-true, eqb-true, lt-ltb}
 use Rattle.laws.specs.Below.{allBelow}
 use Rattle.laws.specs.Inner.Below.{all-at, all-of}
 use Rattle.laws.specs.Columns.{numberAt}
@@ -130,7 +130,3 @@ unfolding modesOk
 mode-small mode n h i b =
     leb-true (numberAt mode i) 3
     (and-right (leb 1 (numberAt mode i)) (leb (numberAt mode i) 3) (all-at (λ i. leb 1 (numberAt mode i) && leb (numberAt mode i) 3) n h i b))
-
-pub under-small : (c : List ℕ) (end n : ℕ) → allUnder c end n ≡ true → (i : ℕ) → i < n → numberAt c i < end
-unfolding allUnder
-under-small c end n h i b = ltb-true (numberAt c i) end (all-at (λ i. ltb (numberAt c i) end) n h i b)

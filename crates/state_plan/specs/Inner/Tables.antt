@@ -18,8 +18,9 @@ use Rattle.laws.specs.Columns.{numberAt}
 use Rattle.laws.specs.Inner.Columns.{is-tabulate, HalfCol}
 use Rattle.codec_wire.specs.Number.{be}
 use Rattle.state_tables.specs.Sound.{ascends, allUnder}
+use Rattle.state_tables.specs.Inner.Column.{under-at}
 use Rattle.state_plan.specs.Plan.{high, low, column, bitsFrom, modesOk, masksOk, linkKinds, listRules}
-use Rattle.state_plan.specs.Inner.Laws.{column-at, mode-small, under-small}
+use Rattle.state_plan.specs.Inner.Laws.{column-at, mode-small}
 
 -- the word of row i, if that of the first row stands at a position
 abbrev pub wordOf : List ℕ → ℕ → ℕ → ℕ → ℕ
@@ -167,4 +168,4 @@ pub mode-bytes : (n : ℕ) (f : ℕ → ℕ) → n ≤ 16 → modesOk (column 16
 mode-bytes n f b h i l = omega (arith, column-at 16 n f i l b, mode-small (column 16 n f) n h i l)
 
 pub under-bytes : (places n m : ℕ) (f : ℕ → ℕ) → n ≤ places → m ≤ 16 → allUnder (column places n f) m n ≡ true → AllIn f n 256
-under-bytes places n m f b k h i l = omega (arith, column-at places n f i l b, under-small (column places n f) m n h i l)
+under-bytes places n m f b k h i l = omega (arith, column-at places n f i l b, under-at (column places n f) m n h i l)

@@ -5,11 +5,8 @@ use mathlib.Core.Path.{_≡_, refl, sym, ap, _∙_}
 use mathlib.Core.Bool.{true}
 use native.Mathlib.Omega.{arith}
 use borrow.Author.Needs.{needs}
-use lib.Dec.{ltb}
-use borrow.Author.Tests.{ltb-true}
-use Rattle.laws.specs.Inner.Below.{all-at}
-use Rattle.laws.specs.Columns.{numberAt}
 use Rattle.state_tables.specs.Sound.{allUnder}
+use Rattle.state_tables.specs.Inner.Column.{under-at}
 use Rattle.state_sets.specs.Inner.Bits.{flagsOf, flags-long}
 use Rattle.state_ranges.specs.Inner.Owners.{Walking, walk-start, walk-jump, walk-step, walk-looked, walk-owners}
 use Rattle.state_ranges.proofs.owners_between.Statement.{statement}
@@ -34,10 +31,9 @@ loop-again c =
 
 -- the owner of the place is an AS
 owner-at : (c : tie.After-wide2 Inv-loop μ-loop) → c .wide2 .result < 16
-unfolding allUnder
 owner-at c =
     let i = c .before .before .before .before .before .before .before .before .loop .inv in
-    rw (c .wide2 .ensures) (ltb-true _ 16 (all-at (λ l. ltb (numberAt (c .before .before .before .before .before .before .before .before .before .args .owner .now) l) 16) _ (i .3) _ (c .before .before .before .before .before .before .before .loop-test .taken)))
+    rw (c .wide2 .ensures) (under-at _ 16 _ (i .3) _ (c .before .before .before .before .before .before .before .loop-test .taken))
 
 loop-again-2 : tie.Need-loop-again-2 Inv-loop μ-loop
 loop-again-2 c =

@@ -2,20 +2,17 @@
 use mathlib.Core.Path.{refl}
 use borrow.Author.Needs.{needs}
 use Rattle.laws.specs.Inner.Choice.{at-eq, at-ne}
-use Rattle.state_sound.specs.Inner.Sound.{rowFit}
+use Rattle.state_sound.specs.Inner.Sound.{rowSeen}
 use Rattle.state_sound.proofs.row_ok.Statement.{statement}
 use Rattle.state_sound.proofs.row_ok.Tie as tie
 
 returns : tie.Need-returns
-unfolding rowFit
+unfolding rowSeen
 returns c = at-eq _ _ _ _ (c .if1 .taken) refl
 
-ids-ok-requires : tie.Need-ids-ok-requires
-ids-ok-requires c κs = (search needs, c .before .before .pre .1, search needs, search needs)
-
 returns-2 : tie.Need-returns-2
-unfolding rowFit
+unfolding rowSeen
 returns-2 c = at-ne _ _ _ _ (c .before .before .before .if1 .left) (rw (c .before .before .fields-ok .ensures, c .before .ids-ok .ensures, c .blank .ensures))
 
 pub row-ok-spec : {M : Type 1} → statement M
-row-ok-spec = tie.close (tie.spec returns (search needs) (λ c κs. search needs) ids-ok-requires (search needs) (search needs) (search needs) (λ c κs. search needs) returns-2)
+row-ok-spec = tie.close (tie.spec returns (search needs) (λ c κs. search needs) (λ c κs. search needs) (search needs) (search needs) (search needs) (λ c κs. search needs) returns-2)

@@ -1,10 +1,12 @@
 -- The units held, asked column by column and row by row, and that this is what a sound state asks of them.
 -- Assumes nothing.
-use Prim.Native.Nat.{ℕ, _+_, _*_, _-_}
+use Prim.Native.Nat.{ℕ, _+_, _*_, _-_, _/_, _<_}
+use mathlib.Core.Path.{_≡_}
 use mathlib.Core.Bool.{Bool, true, _||_, _&&_, cond}
 use mathlib.Core.List.{List}
-use lib.Dec.{eqb, leb}
-use Rattle.laws.specs.Below.{allBelow}
+use lib.Dec.{eqb, leb, ltb}
+use lib.ListN.{length}
+use Rattle.laws.specs.Below.{allBelow, one}
 use Rattle.laws.specs.Columns.{numberAt, isSet}
 use Rattle.state_tables.specs.Sound.{isLinkOf, isSound}
 use Rattle.state_tables.specs.State.{gatewayOf, unitsOf}
@@ -62,6 +64,22 @@ idAt id iid owner links a k = isLinkOf iid owner links a (numberAt id (a * 8 + k
 unfoldable pub idsFit : List ℕ → List ℕ → List ℕ → ℕ → ℕ → ℕ → Bool
 idsFit id iid owner links a = allBelow (idAt id iid owner links a)
 
+-- Place i of what is marked, where the units of AS a were looked through up to unit k for the identifier x.
+abbrev pub markedAt : List ℕ → ℕ → ℕ → ℕ → List ℕ → ℕ → ℕ
+markedAt id x a k old i = cond ((leb (a * 8) i && ltb i (a * 8 + k)) && eqb (numberAt id i) x) 1 (numberAt old i)
+
+pub record Marked (id : List ℕ) (x a k : ℕ) (old new : List ℕ) : Type 0 where
+  pub long : length new ≡ 128
+  pub at : (i : ℕ) → i < 128 → numberAt new i ≡ markedAt id x a k old i
+
+-- marked are the units of which the link is one of the first so many, and of their own AS
+pub record Seen (id iid owner : List ℕ) (links : ℕ) (seen : List ℕ) : Type 0 where
+  pub long : length seen ≡ 128
+  pub at : (i : ℕ) → i < 128 → numberAt seen i ≡ one (isLinkOf iid owner links (i / 8) (numberAt id i))
+
+unfoldable pub seenFit : List ℕ → ℕ → ℕ → Bool
+seenFit seen a n = allBelow (λ k. eqb (numberAt seen (a * 8 + k)) 1) n
+
 -- an AS that holds none has blank places
 unfoldable pub emptyFit : List ℕ → List ℕ → List ℕ → List ℕ → List ℕ → ℕ → ℕ → Bool
 emptyFit tag length marked id correlation n a = cond (eqb n 0) (blankPlaces tag length marked id correlation (a * 8) 8) true
@@ -77,6 +95,12 @@ unfoldable pub rowFit : List ℕ → List ℕ → List ℕ → List ℕ → List
 rowFit tag length marked id correlation iid owner links n a =
     cond (eqb n 0) true
     (fieldsFit tag length marked correlation (a * 8) n && (idsFit id iid owner links a n && blankPlaces tag length marked id correlation (a * 8 + n) (8 - n)))
+
+-- the same, of the units marked
+unfoldable pub rowSeen : List ℕ → List ℕ → List ℕ → List ℕ → List ℕ → List ℕ → ℕ → ℕ → Bool
+rowSeen tag length marked id correlation seen n a =
+    cond (eqb n 0) true
+    (fieldsFit tag length marked correlation (a * 8) n && (seenFit seen a n && blankPlaces tag length marked id correlation (a * 8 + n) (8 - n)))
 
 abbrev pub rowAt : List ℕ → List ℕ → List ℕ → List ℕ → List ℕ → List ℕ → List ℕ → List ℕ → ℕ → ℕ → Bool
 rowAt count tag length marked id correlation iid owner links a = rowFit tag length marked id correlation iid owner links (numberAt count a) a

@@ -11,14 +11,14 @@ asps-ok-requires c κs = c .before .places .ensures
 ases-ok-requires : tie.Need-ases-ok-requires
 ases-ok-requires c κs = c .before .before .before .places .ensures
 
-flags-within-requires : tie.Need-flags-within-requires
-flags-within-requires c κs = (c .before .before .before .before .before .before .before .places .ensures, search needs, search needs)
+links-ok-requires : tie.Need-links-ok-requires
+links-ok-requires c κs = c .before .before .before .before .before .places .ensures
 
-flags-within-requires-2 : tie.Need-flags-within-requires-2
-flags-within-requires-2 c κs = (c .before .before .before .before .before .before .before .before .before .before .places .ensures, search needs, search needs)
+columns-ok-requires : tie.Need-columns-ok-requires
+columns-ok-requires c κs = c .before .before .before .before .before .before .before .places .ensures
 
 returns : tie.Need-returns
-returns c = joined _ _ _ _ _ _ _ _ (c .before .before .before .before .before .before .before .before .before .before .before .before .counts-ok .ensures) refl (c .before .before .before .before .before .before .before .before .before .asps-ok .ensures) (c .before .before .before .before .before .before .before .ases-ok .ensures) (c .before .before .before .before .before .before .links-ok .ensures) (c .before .before .before .flags-within .ensures) (c .flags-within2 .ensures)
+returns c = joined _ _ _ _ _ _ _ (c .before .before .before .before .before .before .before .before .before .counts-ok .ensures) refl (c .before .before .before .before .before .before .asps-ok .ensures) (c .before .before .before .before .ases-ok .ensures) (c .before .before .links-ok .ensures) (c .columns-ok .ensures)
 
 pub tables-ok-spec : {M : Type 1} → statement M
-tables-ok-spec = tie.close (tie.spec (search needs) (search needs) asps-ok-requires ases-ok-requires (search needs) flags-within-requires flags-within-requires-2 returns)
+tables-ok-spec = tie.close (tie.spec (search needs) (search needs) asps-ok-requires ases-ok-requires links-ok-requires columns-ok-requires returns)

@@ -12,7 +12,8 @@ use Rattle.laws.specs.Below.{allBelow}
 use Rattle.laws.specs.Columns.{numberAt, isSet}
 use Rattle.laws.specs.Inner.Every.{and-left, and-right}
 use Rattle.state_tables.specs.declared.Gateway.{Gateway}
-use Rattle.state_tables.specs.Sound.{pair, countsIn, blankFrom, flagIf, flagWithin, soundAsps, memberAt, activeAt, soundRow, activeIn, modeAt, waitingAt, overrideAt, soundAs, soundAses, ascends, allUnder, soundLinks, soundKinds, soundLists, soundTables, soundUnits, isSound, zeros}
+use Rattle.state_tables.specs.Sound.{pair, countsIn, blankFrom, flagIf, soundColumn, soundAsps, memberAt, activeAt, soundRow, activeIn, modeAt, waitingAt, overrideAt, soundAs, soundAses, ascends, soundLinks, soundKinds, soundLists, soundColumns, soundTables, soundUnits, isSound, zeros}
+use Rattle.state_tables.specs.Inner.Column.{column-under}
 use Rattle.state_tables.specs.Laws.{Limits}
 
 pub limits : (n m k : ℕ) → countsIn n m k ≡ true → Limits n m k
@@ -36,8 +37,7 @@ pub record Parts (g : Gateway) : Type 0 where
   pub inAsps : soundAsps (g .aspid) (g .up) (g .asps) ≡ true
   pub inAses : soundAses (g .up) (g .member) (g .active) (g .mode) (g .waiting) (g .asps) (g .ases) ≡ true
   pub inLinks : soundLinks (g .iid) (g .owner) (g .state) (g .ases) (g .links) ≡ true
-  pub inKinds : soundKinds (g .highspeed) (g .links) ≡ true
-  pub inLists : soundLists (g .wholelists) (g .asps) ≡ true
+  pub inColumns : soundColumns g ≡ true
   pub inUnits : soundUnits (g .held) (g .waiting) (g .iid) (g .owner) (g .links) ≡ true
 
 module _ (g : Gateway) where
@@ -56,11 +56,8 @@ module _ (g : Gateway) where
   abbrev linksOf : Bool
   linksOf = soundLinks (g .iid) (g .owner) (g .state) (g .ases) (g .links)
 
-  abbrev kindsOf : Bool
-  kindsOf = soundKinds (g .highspeed) (g .links)
-
-  abbrev listsOf : Bool
-  listsOf = soundLists (g .wholelists) (g .asps)
+  abbrev columnsOf : Bool
+  columnsOf = soundColumns g
 
   abbrev unitsIn : Bool
   unitsIn = soundUnits (g .held) (g .waiting) (g .iid) (g .owner) (g .links)
@@ -69,34 +66,32 @@ module _ (g : Gateway) where
   unfolding isSound soundTables
   parts i =
       let h = and-left (soundTables g) unitsIn i in
-      let c = and-left (countsOf && spareOf) (aspsOf && (asesOf && (linksOf && (kindsOf && listsOf)))) h in
-      let r = and-right (countsOf && spareOf) (aspsOf && (asesOf && (linksOf && (kindsOf && listsOf)))) h in
-      let s = and-right aspsOf (asesOf && (linksOf && (kindsOf && listsOf))) r in
-      let l = and-right asesOf (linksOf && (kindsOf && listsOf)) s in
-      let f = and-right linksOf (kindsOf && listsOf) l in
+      let c = and-left (countsOf && spareOf) (aspsOf && (asesOf && (linksOf && columnsOf))) h in
+      let r = and-right (countsOf && spareOf) (aspsOf && (asesOf && (linksOf && columnsOf))) h in
+      let s = and-right aspsOf (asesOf && (linksOf && columnsOf)) r in
+      let l = and-right asesOf (linksOf && columnsOf) s in
       record {
         counts = limits (g .asps) (g .ases) (g .links) (and-left countsOf spareOf c);
         counted = c;
-        inAsps = and-left aspsOf (asesOf && (linksOf && (kindsOf && listsOf))) r;
-        inAses = and-left asesOf (linksOf && (kindsOf && listsOf)) s;
-        inLinks = and-left linksOf (kindsOf && listsOf) l;
-        inKinds = and-left kindsOf listsOf f;
-        inLists = and-right kindsOf listsOf f;
+        inAsps = and-left aspsOf (asesOf && (linksOf && columnsOf)) r;
+        inAses = and-left asesOf (linksOf && columnsOf) s;
+        inLinks = and-left linksOf columnsOf l;
+        inColumns = and-right linksOf columnsOf l;
         inUnits = and-right (soundTables g) unitsIn i;
       }
 
   -- the same together
-  pub whole : (countsOf && spareOf) ≡ true → aspsOf ≡ true → asesOf ≡ true → linksOf ≡ true → kindsOf ≡ true → listsOf ≡ true → unitsIn ≡ true → isSound g ≡ true
+  pub whole : (countsOf && spareOf) ≡ true → aspsOf ≡ true → asesOf ≡ true → linksOf ≡ true → columnsOf ≡ true → unitsIn ≡ true → isSound g ≡ true
   unfolding isSound soundTables
-  whole p q r s k w t = rw (p, q, r, s, k, w, t)
+  whole p q r s k t = rw (p, q, r, s, k, t)
 
   -- groups that were tested for counts within the tables
-  pub joined : (c e x y z k w : Bool) → c ≡ countsOf → e ≡ spareOf → (g .asps ≤ 16 → x ≡ aspsOf) → (g .ases ≤ 16 → y ≡ asesOf) → (g .links ≤ 128 → z ≡ linksOf) → k ≡ allBelow (flagWithin (g .highspeed) (g .links)) 128 → w ≡ allBelow (flagWithin (g .wholelists) (g .asps)) 16 → ((c && e) && (x && (y && (z && (k && w))))) ≡ soundTables g
-  unfolding soundTables soundKinds soundLists
-  joined true e x y z k w h s p q r t u =
+  pub joined : (c e x y z k : Bool) → c ≡ countsOf → e ≡ spareOf → (g .asps ≤ 16 → x ≡ aspsOf) → (g .ases ≤ 16 → y ≡ asesOf) → (g .links ≤ 128 → z ≡ linksOf) → k ≡ (soundKinds (g .highspeed) (g .links) && soundLists (g .wholelists) (g .asps)) → ((c && e) && (x && (y && (z && k)))) ≡ soundTables g
+  unfolding soundTables soundColumns
+  joined true e x y z k h s p q r t =
       let l = limits (g .asps) (g .ases) (g .links) (sym h) in
-      rw (← h, s, p (l .asps), q (l .ases), r (l .links), t, u)
-  joined false e x y z k w h s p q r t u = rw (← h)
+      rw (← h, s, p (l .asps), q (l .ases), r (l .links), t)
+  joined false e x y z k h s p q r t = rw (← h)
 
 -- identifiers strictly ascending, from each to the next and so from any to any later
 pub ascends-next : (c : List ℕ) (n : ℕ) → ascends c n ≡ true → (l : ℕ) → l + 1 < n → numberAt c l < numberAt c (l + 1)
@@ -119,31 +114,20 @@ ascends-any c n h i j p q =
 -- the links, condition by condition
 pub record Links (iid owner state : List ℕ) (ases links : ℕ) : Type 0 where
   pub order : ascends iid links ≡ true
-  pub owned : allUnder owner ases links ≡ true
-  pub known : allUnder state 4 links ≡ true
   pub blankIds : blankFrom iid links 128 ≡ true
-  pub blankOwners : blankFrom owner links 128 ≡ true
-  pub blankStates : blankFrom state links 128 ≡ true
+  pub owned : soundColumn owner ases links 128 ≡ true
+  pub known : soundColumn state 4 links 128 ≡ true
 
 pub links-parts : (iid owner state : List ℕ) (ases links : ℕ) → soundLinks iid owner state ases links ≡ true → Links iid owner state ases links
 unfolding soundLinks
 links-parts iid owner state ases links h =
     let a = ascends iid links in
-    let b = allUnder owner ases links in
-    let c = allUnder state 4 links in
-    let x = blankFrom iid links 128 in
-    let y = blankFrom owner links 128 in
-    let z = blankFrom state links 128 in
-    let l = and-left ((a && b) && c) ((x && y) && z) h in
-    let r = and-right ((a && b) && c) ((x && y) && z) h in
-    record {
-      order = and-left a b (and-left (a && b) c l);
-      owned = and-right a b (and-left (a && b) c l);
-      known = and-right (a && b) c l;
-      blankIds = and-left x y (and-left (x && y) z r);
-      blankOwners = and-right x y (and-left (x && y) z r);
-      blankStates = and-right (x && y) z r;
-    }
+    let b = blankFrom iid links 128 in
+    let x = soundColumn owner ases links 128 in
+    let y = soundColumn state 4 links 128 in
+    let l = and-left (a && b) (x && y) h in
+    let r = and-right (a && b) (x && y) h in
+    record { order = and-left a b l; blankIds = and-right a b l; owned = and-left x y r; known = and-right x y r }
 
 -- one AS, condition by condition
 pub record Server (up member active mode waiting : List ℕ) (asps ases a : ℕ) : Type 0 where
@@ -183,11 +167,8 @@ identifiers-ascend g h =
     ascends-any (g .iid) (g .links) (links-parts (g .iid) (g .owner) (g .state) (g .ases) (g .links) (parts g h .inLinks) .order)
 
 pub owner-within : (g : Gateway) → isSound g ≡ true → (l : ℕ) → l < g .links → numberAt (g .owner) l < g .ases
-unfolding allUnder
 owner-within g h l b =
-    ltb-true (numberAt (g .owner) l) (g .ases)
-    (all-at (λ l. ltb (numberAt (g .owner) l) (g .ases)) (g .links)
-    (links-parts (g .iid) (g .owner) (g .state) (g .ases) (g .links) (parts g h .inLinks) .owned) l b)
+    column-under (g .owner) (g .ases) (g .links) 128 (links-parts (g .iid) (g .owner) (g .state) (g .ases) (g .links) (parts g h .inLinks) .owned) l (omega (arith, counts-within g h .links)) b
 
 -- a flag that is set is allowed to be
 pub flag-set : (x : ℕ) (b : Bool) → flagIf x b ≡ true → eqb x 1 ≡ true → b ≡ true

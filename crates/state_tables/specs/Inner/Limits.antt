@@ -9,7 +9,7 @@ use native.Mathlib.Omega.{arith}
 use native.Mathlib.Decide.{decLt}
 use native.Mathlib.Nat.{not-suc-le-zero}
 use lib.ListN.{replicate}
-use lib.Dec.{leb, ltb}
+use lib.Dec.{leb, ltb, eqb}
 use borrow.Author.Tests.{lt-ltb, le-ltb, lt-leb, le-leb, ne-eqb}
 use Rattle.laws.specs.Below.{allBelow, anyBelow, one}
 use Rattle.laws.specs.Columns.{numberAt, isSet, tabulate}
@@ -64,6 +64,12 @@ half-zeros f = record { long = refl; new = λ i b. absurd (not-suc-le-zero b); o
 pub place-at : (i : ℕ) → i < 128 → numberAt places i ≡ i
 unfolding places
 place-at i b = getD-tabulate 128 (λ i. i) i 0 b
+
+-- what is under its limit is under the bound inside the count, and 0 beyond it
+pub under-limit : (x : ℕ) (b : Bool) (most : ℕ) → ltb x (limit b most) ≡ cond b (ltb x most) (eqb x 0)
+under-limit x true most = refl
+under-limit zero false most = refl
+under-limit (suc x) false most = rw (le-ltb (suc x) 1 (omega arith), ne-eqb (suc x) 0 (λ e. omega arith))
 
 -- a flag is under its limit
 pub flag-limit : (x : ℕ) (b : Bool) → ltb x (limit b 2) ≡ flagIf x b
