@@ -1,5 +1,6 @@
 // The gateway with its events as methods, by value: each copies the columns that events change, lends them
 // to the event where they then lie, and hands back a node with them for the next event.
+use codec_wire::HEADER;
 use codec_write::Written;
 use state_tables::Gateway;
 use state_tables::Units;
@@ -7,7 +8,11 @@ ghost use Rattle.rules_event.specs.Event.{message, lost, recovery, linkUp, link
 ghost use Rattle.rules_event.specs.Entry.{MeetsRules};
 ghost use Rattle.event_asked.specs.Happened.{happened, event};
 ghost use Rattle.send_message.specs.Send.{Sends};
-ghost use Rattle.abi_node.specs.Next.{outcomeOf};
+ghost use Prim.Native.Nat.{_<_};
+ghost use Rattle.abi_node.specs.Next.{outcomeOf, headed};
+
+// The most bytes that the parameters of a message may have, of 2,048 in all (Rule 2.1).
+const MOST_PARAMETERS: usize = 2040;
 
 // (An `impl` stands in the crate of its type: hence the struct around the state.)
 #[repr(C)]
@@ -138,6 +143,58 @@ impl Node {
         ensures { λ r. ⌜ MeetsRules (self .gateway) (event (message p (bare 4 2)) (now (words .entry)) (now (hold .entry))) (now (words .entry)) (now (words .exit)) (now (hold .entry)) (now (hold .exit)) (outcomeOf r) ⌝ }
     {
         self.plain(p, 4, 2, hold, words)
+    }
+
+    // The message of ASP p that has a class, a type and parameters, whose bytes are lent. One that is too
+    // long to read is answered as any message that the reader refuses with 7.
+    fn headed(
+        self,
+        p: usize,
+        class: u8,
+        msgtype: u8,
+        pars: &[u8],
+        hold: &mut [u8],
+        words: &mut [u32],
+    ) -> Next
+        requires { ⌜ 0 < class ⌝ }
+        ensures { λ r. ⌜ MeetsRules (self .gateway) (event (message p (headed class msgtype (now (pars .entry)))) (now (words .entry)) (now (hold .entry))) (now (words .entry)) (now (words .exit)) (now (hold .entry)) (now (hold .exit)) (outcomeOf r) ⌝ }
+    {
+        if MOST_PARAMETERS < pars.len() {
+            return self.happen(event_asked::MESSAGE, p, &[0; 1], hold, words);
+        }
+        let size = HEADER + pars.len();
+        let mut block = [0u8; 2048];
+        codec_put::put_header(&mut block, 0, class, msgtype, size as u32);
+        codec_put::put_bytes(&mut block, HEADER, pars);
+        self.happen(event_asked::MESSAGE, p, &block[..size], hold, words)
+    }
+
+    // Up of ASP p with parameters: its identifier, a text.
+    pub fn up_with(self, p: usize, pars: &[u8], hold: &mut [u8], words: &mut [u32]) -> Next
+        ensures { λ r. ⌜ MeetsRules (self .gateway) (event (message p (headed 3 1 (now (pars .entry)))) (now (words .entry)) (now (hold .entry))) (now (words .entry)) (now (words .exit)) (now (hold .entry)) (now (hold .exit)) (outcomeOf r) ⌝ }
+    {
+        self.headed(p, 3, 1, pars, hold, words)
+    }
+
+    // Down of ASP p with parameters: a text.
+    pub fn down_with(self, p: usize, pars: &[u8], hold: &mut [u8], words: &mut [u32]) -> Next
+        ensures { λ r. ⌜ MeetsRules (self .gateway) (event (message p (headed 3 2 (now (pars .entry)))) (now (words .entry)) (now (hold .entry))) (now (words .entry)) (now (words .exit)) (now (hold .entry)) (now (hold .exit)) (outcomeOf r) ⌝ }
+    {
+        self.headed(p, 3, 2, pars, hold, words)
+    }
+
+    // Active of ASP p with parameters: a traffic mode, identifiers, a text.
+    pub fn active_with(self, p: usize, pars: &[u8], hold: &mut [u8], words: &mut [u32]) -> Next
+        ensures { λ r. ⌜ MeetsRules (self .gateway) (event (message p (headed 4 1 (now (pars .entry)))) (now (words .entry)) (now (hold .entry))) (now (words .entry)) (now (words .exit)) (now (hold .entry)) (now (hold .exit)) (outcomeOf r) ⌝ }
+    {
+        self.headed(p, 4, 1, pars, hold, words)
+    }
+
+    // Inactive of ASP p with parameters: identifiers, a text.
+    pub fn inactive_with(self, p: usize, pars: &[u8], hold: &mut [u8], words: &mut [u32]) -> Next
+        ensures { λ r. ⌜ MeetsRules (self .gateway) (event (message p (headed 4 2 (now (pars .entry)))) (now (words .entry)) (now (hold .entry))) (now (words .entry)) (now (words .exit)) (now (hold .entry)) (now (hold .exit)) (outcomeOf r) ⌝ }
+    {
+        self.headed(p, 4, 2, pars, hold, words)
     }
 
     // The association of ASP p is lost.
