@@ -51,16 +51,16 @@ abbrev to-asked : tie.After-refused → tie.After-asked
 to-asked c = to-asked-from (to-sound c)
 
 abbrev to-own : tie.After-decided → tie.After-wide
-to-own c = (c .before .before .before .before .before .before .before .before .before .before .before)
+to-own c = (c .before .before .before .before .before .before .before .before .before .before)
 
 abbrev to-held : tie.After-decided → tie.After-wide2
-to-held c = (c .before .before .before .before .before .before .before)
+to-held c = (c .before .before .before .before .before .before)
 
 abbrev to-wide : tie.After-decided → tie.After-wide3
-to-wide c = (c .before .before .before)
+to-wide c = (c .before .before)
 
 abbrev to-refused : tie.After-decided → tie.After-refused
-to-refused c = (c .before .before .before .before .before .before .before .before .before .before .before .before .before)
+to-refused c = (c .before .before .before .before .before .before .before .before .before .before .before .before)
 
 abbrev to-settle : tie.After-first → tie.After-settle
 to-settle c = (c .before .before)
@@ -130,7 +130,7 @@ module _ (c : tie.After-decided) where
   lent = state-of first-one
 
   not-refused : to-refused c .refused .result ≡ 0
-  not-refused = (c .before .before .before .before .before .before .before .before .before .before .before .before) .if1 .left
+  not-refused = (c .before .before .before .before .before .before .before .before .before .before .before) .if1 .left
 
   accepted-at : Accepted (isSound lent) (inPlan lent (happens first-one)) (lending (length (first-one .args .words .now)) (first-one .args .size))
   accepted-at = whole (to-refused c) not-refused
@@ -147,9 +147,9 @@ module _ (c : tie.After-decided) where
 
 decided-requires : tie.Need-decided-requires
 decided-requires c κs =
-    let r = (c .before .before .before .before .before .before .before .before .before .before .before .before) in
-    let z = (c .before .before .before .before .before .before .before .before .before .before .before) .if1 .left in
-    let w = (c .before .before) .wide3 .ensures in
+    let r = (c .before .before .before .before .before .before .before .before .before .before .before) in
+    let z = (c .before .before .before .before .before .before .before .before .before .before) .if1 .left in
+    let w = (c .before) .wide3 .ensures in
     let g = state-of (to-start r) in
     let a = to-asked r .asked .ensures in
     let t = whole r z in
