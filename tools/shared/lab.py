@@ -9,6 +9,7 @@ import pathlib
 import random
 import re
 import select
+import shutil
 import signal
 import socket
 import subprocess
@@ -17,7 +18,8 @@ import threading
 import time
 
 ROOT = pathlib.Path(__file__).resolve().parents[2]
-# M2UA_BIN names the folder of another m2ua-gateway and m2ua-asp to be tried
+# M2UA_BIN names the folder of another m2ua-gateway and m2ua-asp to be tried; M2UA_KEEP one to which all files
+# of a lab that failed are copied
 BIN = pathlib.Path(os.environ.get("M2UA_BIN", ROOT / "rust/m2ua-gateway/target/release"))
 REPLAY = ROOT / "target/bin/replay"
 LINK_SIDE = 255
@@ -110,6 +112,8 @@ class Lab:
         if kind is not None:
             lines = [line for line in self.text().splitlines() if ": Error 6 (" not in line]
             print("\n".join(lines[-30:]))
+            if keep := os.environ.get("M2UA_KEEP"):
+                shutil.copytree(self.dir, keep, dirs_exist_ok=True, ignore=lambda folder, names: [n for n in names if pathlib.Path(folder, n).is_socket()])
         self.folder.cleanup()
 
     def text(self, start=0):
