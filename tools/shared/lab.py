@@ -4,6 +4,7 @@ and fro with what `replay` says.
 What is compared: the daemon's journal has each event in its sequence. `replay`, which is proved, says the
 orders of each, as words and as bytes. So of each association it is known what has to come out of it; the
 controllers' records say what did."""
+import contextlib
 import os
 import pathlib
 import random
@@ -357,11 +358,43 @@ def orders_of(answer):
     return [tuple(int(n) for n in one.split(",")) for one in re.findall(r"\(([0-9,]+)\)", answer)]
 
 
-def replayed(script, to):
-    """Runs a file of commands through `replay`: the answers, line by line."""
-    with open(script, "rb") as lines, open(to, "wb") as out:
-        subprocess.run([REPLAY], stdin=lines, stdout=out, check=True)
-    return open(to)
+def replayed(lines):
+    """The answers of `replay` to commands, line by line. All of it goes through pipes: a comparison needs no
+    room, where the journal of a million messages and what is asked about it would fill a small machine."""
+    faults = []
+
+    def feed():
+        try:
+            process.stdin.writelines(lines)
+        except BrokenPipeError:
+            pass  # whoever asked has seen enough, or `replay` has ended: its status says so
+        except Exception as why:  # of the lines themselves
+            faults.append(why)
+        with contextlib.suppress(BrokenPipeError):
+            process.stdin.close()
+
+    process = subprocess.Popen([REPLAY], stdin=subprocess.PIPE, stdout=subprocess.PIPE, text=True)
+    feeder = threading.Thread(target=feed, daemon=True)
+    feeder.start()
+    try:
+        yield from process.stdout
+    except GeneratorExit:
+        process.kill()
+        raise
+    finally:
+        feeder.join()
+        process.stdout.close()
+        process.wait()
+    for why in faults:
+        raise why
+    need(process.returncode == 0, f"replay ended with {process.returncode}")
+
+
+def events_of(lab, journals):
+    """The lines of journals, one file behind the other."""
+    for name in journals:
+        with open(lab.dir / name) as lines:
+            yield from lines
 
 
 class Tape:
@@ -517,7 +550,7 @@ def is_data(line):
     return line.startswith("linkmsg ") and line.split()[2][4:8] == "0601"
 
 
-def scripted(journal, answers, states, out):
+def scripted(journal, answers, states):
     """A script that asks for the bytes of each order to an ASP, then runs the event, and asks for the state
     where it is wanted."""
     events = (line for line in journal if not line.startswith("#"))
@@ -526,21 +559,18 @@ def scripted(journal, answers, states, out):
         # a plan has an answer without orders
         run, number = (run + 1, 0) if line.startswith("plan ") else (run, number + 1)
         places = [place for place, order in enumerate(orders_of(answer)) if order[0] != LINK_SIDE]
-        out.write("".join(f"bytes {place} 2048 {line}" for place in places) + line)
-        out.write("state\n" * (((run, number) in states) + Units.asks(line, answer)))
+        yield "".join(f"bytes {place} 2048 {line}" for place in places) + line
+        yield "state\n" * (((run, number) in states) + Units.asks(line, answer))
 
 
 def compared(lab, whole=True, dumps=(), journals=("journal",)):
     """Compares the records of all controllers, and dumps, with what `replay` says of the journal, which may
     lie in several files. whole: nobody was killed, so nothing may be missing."""
     states = {(dump["run"], sum(int(n) for n in dump["events"].split()[::2])): dump for dump in dumps}
-    journal, first, script, second = (lab.dir / name for name in ("all-journals", "answers-1", "script", "answers-2"))
-    journal.write_text("".join((lab.dir / name).read_text() for name in journals))
-    replayed(journal, first).close()
-    with open(journal) as lines, open(first) as answers, open(script, "w") as out:
-        scripted(lines, answers, states, out)
-    with open(journal) as lines, replayed(script, second) as answers:
-        return Comparison(lab, whole, states).over(lines, answers) | {"dumps": len(states)}
+    lines = lambda: events_of(lab, journals)
+    answers = replayed(scripted(lines(), replayed(lines()), states))
+    with contextlib.closing(answers):
+        return Comparison(lab, whole, states).over(lines(), answers) | {"dumps": len(states)}
 
 
 class Comparison:
