@@ -130,8 +130,18 @@ class Lab:
         if self.sctp:
             # SCTP makes an association before the daemon has heard of it: one that ends until then it never
             # has
-            until(lambda: f" {name}: association (" in self.text(start), f"the association of {name} begins")
+            try:
+                until(lambda: f" {name}: association (" in self.text(start), f"the association of {name} begins")
+            except Failure as why:
+                raise Failure(f"{why}; {self.why_not(made, start)}") from why
         return made
+
+    def why_not(self, controller, start):
+        """What the log says of a controller, and the controller itself."""
+        lines = [line for line in self.text(start).splitlines() if f" {controller.name}: " in line or " sctp: " in line]
+        ended = controller.process.poll()
+        said = "it is there" if ended is None else f"it ended with {ended}: {controller.process.stderr.read().strip()}"
+        return f"{said}; the log: {lines[-5:]}"
 
     def where(self, port):
         """How a controller comes by SCTP, from a port of its own."""
@@ -577,7 +587,7 @@ class Comparison:
     """A journal followed line by line, with the answers of `replay` to each."""
 
     def __init__(self, lab, whole, states):
-        self.lab, self.whole, self.states, self.run, self.number = lab, whole, states, 0, 0
+        self.lab, self.whole, self.states, self.run, self.number, self.lost = lab, whole, states, 0, 0, set()
         self.tapes = {name: Tape(name, lab.sctp and name != "links") for name in [*lab.names, "links"]}
         self.units = Units(lab.plan.read_text())
         self.counts = {"runs": 0, "events": 0, "orders": 0, "associations": 0}
@@ -601,15 +611,22 @@ class Comparison:
 
     def begin(self):
         """A run of the daemon: its state is fresh."""
-        self.run, self.number = self.run + 1, 0
+        self.run, self.number, self.lost = self.run + 1, 0, set()
         self.units.begin()
         for name, tape in self.tapes.items():
             tape.run(segments_of(self.lab, name, self.run), self.whole and self.run not in self.lab.killed)
 
     def note(self, socket, what):
-        tape = self.tapes[socket.removeprefix("asp-")]
-        self.counts["associations"] += what == "begins"
-        tape.begin() if what == "begins" else tape.end()
+        """An association begins or ends. The loss of one is an event before the next one of the ASP begins:
+        else what others order for the ASP, before its loss, would go to one that has not come up."""
+        name = socket.removeprefix("asp-")
+        if what == "begins":
+            need(name not in self.lost, f"an association of {name} begins before the loss of the one before it")
+            self.counts["associations"] += 1
+            self.tapes[name].begin()
+        else:
+            self.lost |= {name} - {"links"}
+            self.tapes[name].end()
 
     def event(self, line, answers):
         """One event: what was sent, what is due of its orders, and a dump behind it."""
@@ -619,6 +636,8 @@ class Comparison:
         self.number += 1
         self.counts["events"] += 1
         parts = line.split()
+        if parts[0] == "lost":
+            self.lost.discard(self.lab.names[int(parts[1])])
         if parts[0] == "msg":
             self.tapes[self.lab.names[int(parts[1])]].event(parts[3])
         elif parts[0] == "linkmsg":
