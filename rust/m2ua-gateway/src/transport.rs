@@ -254,7 +254,8 @@ impl Association {
         !matches!(self, Association::Sctp(_))
     }
 
-    /// Whether the other end has closed, whatever is still unread. Of libusrsctp it is known when all is read.
+    /// Whether the other end has closed, whatever is still unread. Of libusrsctp it is known when all is
+    /// read.
     pub fn is_over(&self) -> bool {
         match self {
             Association::Packets(socket) => os::is_over(socket),
