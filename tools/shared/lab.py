@@ -383,7 +383,8 @@ def replayed(lines):
         with contextlib.suppress(BrokenPipeError):
             process.stdin.close()
 
-    process = subprocess.Popen([REPLAY], stdin=subprocess.PIPE, stdout=subprocess.PIPE, text=True)
+    # wide pipes: on one processor each turn of the two costs as much as many lines
+    process = subprocess.Popen([REPLAY], stdin=subprocess.PIPE, stdout=subprocess.PIPE, text=True, pipesize=1 << 20)
     feeder = threading.Thread(target=feed, daemon=True)
     feeder.start()
     try:
