@@ -4,11 +4,13 @@ and fro with what `replay` says.
 What is compared: the daemon's journal has each event in its sequence. `replay`, which is proved, says the
 orders of each, as words and as bytes. So of each association it is known what has to come out of it; the
 controllers' records say what did."""
+import contextlib
 import os
 import pathlib
 import random
 import re
 import select
+import shutil
 import signal
 import socket
 import subprocess
@@ -17,7 +19,8 @@ import threading
 import time
 
 ROOT = pathlib.Path(__file__).resolve().parents[2]
-# M2UA_BIN names the folder of another m2ua-gateway and m2ua-asp to be tried
+# M2UA_BIN names the folder of another m2ua-gateway and m2ua-asp to be tried; M2UA_KEEP one to which all files
+# of a lab that failed are copied
 BIN = pathlib.Path(os.environ.get("M2UA_BIN", ROOT / "rust/m2ua-gateway/target/release"))
 REPLAY = ROOT / "target/bin/replay"
 LINK_SIDE = 255
@@ -110,6 +113,8 @@ class Lab:
         if kind is not None:
             lines = [line for line in self.text().splitlines() if ": Error 6 (" not in line]
             print("\n".join(lines[-30:]))
+            if keep := os.environ.get("M2UA_KEEP"):
+                shutil.copytree(self.dir, keep, dirs_exist_ok=True, ignore=lambda folder, names: [n for n in names if pathlib.Path(folder, n).is_socket()])
         self.folder.cleanup()
 
     def text(self, start=0):
@@ -125,8 +130,18 @@ class Lab:
         if self.sctp:
             # SCTP makes an association before the daemon has heard of it: one that ends until then it never
             # has
-            until(lambda: f" {name}: association (" in self.text(start), f"the association of {name} begins")
+            try:
+                until(lambda: f" {name}: association (" in self.text(start), f"the association of {name} begins")
+            except Failure as why:
+                raise Failure(f"{why}; {self.why_not(made, start)}") from why
         return made
+
+    def why_not(self, controller, start):
+        """What the log says of a controller, and the controller itself."""
+        lines = [line for line in self.text(start).splitlines() if f" {controller.name}: " in line or " sctp: " in line]
+        ended = controller.process.poll()
+        said = "it is there" if ended is None else f"it ended with {ended}: {controller.process.stderr.read().strip()}"
+        return f"{said}; the log: {lines[-5:]}"
 
     def where(self, port):
         """How a controller comes by SCTP, from a port of its own."""
@@ -353,11 +368,44 @@ def orders_of(answer):
     return [tuple(int(n) for n in one.split(",")) for one in re.findall(r"\(([0-9,]+)\)", answer)]
 
 
-def replayed(script, to):
-    """Runs a file of commands through `replay`: the answers, line by line."""
-    with open(script, "rb") as lines, open(to, "wb") as out:
-        subprocess.run([REPLAY], stdin=lines, stdout=out, check=True)
-    return open(to)
+def replayed(lines):
+    """The answers of `replay` to commands, line by line. All of it goes through pipes: a comparison needs no
+    room, where the journal of a million messages and what is asked about it would fill a small machine."""
+    faults = []
+
+    def feed():
+        try:
+            process.stdin.writelines(lines)
+        except BrokenPipeError:
+            pass  # whoever asked has seen enough, or `replay` has ended: its status says so
+        except Exception as why:  # of the lines themselves
+            faults.append(why)
+        with contextlib.suppress(BrokenPipeError):
+            process.stdin.close()
+
+    # wide pipes: on one processor each turn of the two costs as much as many lines
+    process = subprocess.Popen([REPLAY], stdin=subprocess.PIPE, stdout=subprocess.PIPE, text=True, pipesize=1 << 20)
+    feeder = threading.Thread(target=feed, daemon=True)
+    feeder.start()
+    try:
+        yield from process.stdout
+    except GeneratorExit:
+        process.kill()
+        raise
+    finally:
+        feeder.join()
+        process.stdout.close()
+        process.wait()
+    for why in faults:
+        raise why
+    need(process.returncode == 0, f"replay ended with {process.returncode}")
+
+
+def events_of(lab, journals):
+    """The lines of journals, one file behind the other."""
+    for name in journals:
+        with open(lab.dir / name) as lines:
+            yield from lines
 
 
 class Tape:
@@ -513,7 +561,7 @@ def is_data(line):
     return line.startswith("linkmsg ") and line.split()[2][4:8] == "0601"
 
 
-def scripted(journal, answers, states, out):
+def scripted(journal, answers, states):
     """A script that asks for the bytes of each order to an ASP, then runs the event, and asks for the state
     where it is wanted."""
     events = (line for line in journal if not line.startswith("#"))
@@ -522,28 +570,25 @@ def scripted(journal, answers, states, out):
         # a plan has an answer without orders
         run, number = (run + 1, 0) if line.startswith("plan ") else (run, number + 1)
         places = [place for place, order in enumerate(orders_of(answer)) if order[0] != LINK_SIDE]
-        out.write("".join(f"bytes {place} 2048 {line}" for place in places) + line)
-        out.write("state\n" * (((run, number) in states) + Units.asks(line, answer)))
+        yield "".join(f"bytes {place} 2048 {line}" for place in places) + line
+        yield "state\n" * (((run, number) in states) + Units.asks(line, answer))
 
 
 def compared(lab, whole=True, dumps=(), journals=("journal",)):
     """Compares the records of all controllers, and dumps, with what `replay` says of the journal, which may
     lie in several files. whole: nobody was killed, so nothing may be missing."""
     states = {(dump["run"], sum(int(n) for n in dump["events"].split()[::2])): dump for dump in dumps}
-    journal, first, script, second = (lab.dir / name for name in ("all-journals", "answers-1", "script", "answers-2"))
-    journal.write_text("".join((lab.dir / name).read_text() for name in journals))
-    replayed(journal, first).close()
-    with open(journal) as lines, open(first) as answers, open(script, "w") as out:
-        scripted(lines, answers, states, out)
-    with open(journal) as lines, replayed(script, second) as answers:
-        return Comparison(lab, whole, states).over(lines, answers) | {"dumps": len(states)}
+    lines = lambda: events_of(lab, journals)
+    answers = replayed(scripted(lines(), replayed(lines()), states))
+    with contextlib.closing(answers):
+        return Comparison(lab, whole, states).over(lines(), answers) | {"dumps": len(states)}
 
 
 class Comparison:
     """A journal followed line by line, with the answers of `replay` to each."""
 
     def __init__(self, lab, whole, states):
-        self.lab, self.whole, self.states, self.run, self.number = lab, whole, states, 0, 0
+        self.lab, self.whole, self.states, self.run, self.number, self.lost = lab, whole, states, 0, 0, set()
         self.tapes = {name: Tape(name, lab.sctp and name != "links") for name in [*lab.names, "links"]}
         self.units = Units(lab.plan.read_text())
         self.counts = {"runs": 0, "events": 0, "orders": 0, "associations": 0}
@@ -567,15 +612,22 @@ class Comparison:
 
     def begin(self):
         """A run of the daemon: its state is fresh."""
-        self.run, self.number = self.run + 1, 0
+        self.run, self.number, self.lost = self.run + 1, 0, set()
         self.units.begin()
         for name, tape in self.tapes.items():
             tape.run(segments_of(self.lab, name, self.run), self.whole and self.run not in self.lab.killed)
 
     def note(self, socket, what):
-        tape = self.tapes[socket.removeprefix("asp-")]
-        self.counts["associations"] += what == "begins"
-        tape.begin() if what == "begins" else tape.end()
+        """An association begins or ends. The loss of one is an event before the next one of the ASP begins:
+        else what others order for the ASP, before its loss, would go to one that has not come up."""
+        name = socket.removeprefix("asp-")
+        if what == "begins":
+            need(name not in self.lost, f"an association of {name} begins before the loss of the one before it")
+            self.counts["associations"] += 1
+            self.tapes[name].begin()
+        else:
+            self.lost |= {name} - {"links"}
+            self.tapes[name].end()
 
     def event(self, line, answers):
         """One event: what was sent, what is due of its orders, and a dump behind it."""
@@ -585,6 +637,8 @@ class Comparison:
         self.number += 1
         self.counts["events"] += 1
         parts = line.split()
+        if parts[0] == "lost":
+            self.lost.discard(self.lab.names[int(parts[1])])
         if parts[0] == "msg":
             self.tapes[self.lab.names[int(parts[1])]].event(parts[3])
         elif parts[0] == "linkmsg":

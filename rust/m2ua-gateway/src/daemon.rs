@@ -144,13 +144,20 @@ impl Daemon {
                 let p = n as usize;
                 self.outside.peers[p].unblock();
                 if ready.is_closed() && self.outside.peers[p].paused {
-                    // what it sent last is not waited for
-                    self.outside.lose(p, "the association is over");
+                    self.lose_unread(p);
                 }
                 self.read(p);
             }
         }
         true
+    }
+
+    /// A peer of which nothing is read for the moment has gone: what it sent last is not waited for. The loss
+    /// is an event before anything else is, and before the peer is let in again: else what others order for
+    /// it would go to an association that has not come up.
+    fn lose_unread(&mut self, p: usize) {
+        self.outside.lose(p, "the association is over");
+        self.deliver();
     }
 
     /// Takes messages of a peer, each with all that follows from it.
@@ -400,10 +407,17 @@ impl Daemon {
     }
 
     /// Takes all that a peer has sent by now. One that was killed and comes again does so when its old
-    /// association is over: then the end of that is among it, and the new one is not a second one.
+    /// association is over: then the end of that is among it, and the new one is not a second one. Where
+    /// nothing is read of the peer for the moment, the association itself is asked.
     fn drain(&mut self, p: usize) {
         for _ in 0..DRAIN {
-            if self.outside.peers[p].association.is_none() || self.outside.is_full(p) {
+            let Some(association) = &self.outside.peers[p].association else {
+                return;
+            };
+            if self.outside.is_full(p) {
+                if association.is_over() {
+                    self.lose_unread(p);
+                }
                 return;
             }
             self.read(p);

@@ -397,6 +397,17 @@ pub fn is_closed(fd: &OwnedFd) -> (bool, bool) {
     (one.seen & POLLHUP != 0, one.seen & POLLERR != 0)
 }
 
+/// Whether the other end of a socket has closed, whatever is still unread.
+pub fn is_over(fd: &impl AsRawFd) -> bool {
+    let mut one = PollFd {
+        fd: fd.as_raw_fd(),
+        events: POLLRDHUP,
+        seen: 0,
+    };
+    // Safety: one entry is lent.
+    unsafe { poll(&mut one, 1, 0) > 0 && one.seen & (POLLRDHUP | POLLHUP | POLLERR) != 0 }
+}
+
 /// Sends one packet whole, or none of it: `WouldBlock` where there is no room.
 pub fn transmit(fd: &OwnedFd, bytes: &[u8]) -> Result<()> {
     // Safety: the slice is lent whole.

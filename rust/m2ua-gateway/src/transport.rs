@@ -254,6 +254,16 @@ impl Association {
         !matches!(self, Association::Sctp(_))
     }
 
+    /// Whether the other end has closed, whatever is still unread. Of libusrsctp it is known when all is
+    /// read.
+    pub fn is_over(&self) -> bool {
+        match self {
+            Association::Packets(socket) => os::is_over(socket),
+            Association::Kernel(association) => os::is_over(association),
+            Association::Sctp(_) => false,
+        }
+    }
+
     /// The name of the transport.
     pub fn transport(&self) -> &'static str {
         match self {

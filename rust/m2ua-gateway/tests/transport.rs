@@ -31,6 +31,22 @@ fn received(association: &mut Association, batch: &mut Batch) -> Vec<(Received, 
         .collect()
 }
 
+/// Whether the other end has closed is known before all is read.
+#[test]
+fn an_end_is_known_behind_what_is_unread() {
+    let ((mut here, there), mut batch) = (pair("over"), Batch::new());
+    os::transmit(&there, b"unread").unwrap();
+    assert!(!here.is_over());
+    here.send(b"unread there too");
+    drop(there);
+    assert!(here.is_over());
+    let kinds: Vec<Received> = received(&mut here, &mut batch)
+        .iter()
+        .map(|(r, _)| *r)
+        .collect();
+    assert!(!kinds.is_empty() && here.is_over(), "{kinds:?}");
+}
+
 #[test]
 fn boundaries_are_kept_and_the_end_is_told() {
     let ((mut here, there), mut batch) = (pair("bounds"), Batch::new());
