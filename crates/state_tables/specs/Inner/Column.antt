@@ -1,5 +1,5 @@
--- The laws of a column of numbers below a bound (`soundColumn`), each once: of its places, and of what makes it
--- and keeps it so. A column of flags has the bound 2.
+-- The laws of a column of numbers below a bound (`soundColumn`), each once: of its places, and of what makes
+-- it and keeps it so. A column of flags has the bound 2.
 -- Assumes nothing.
 use Prim.Native.Nat.{ℕ, _<_, _≤_}
 use mathlib.Core.Path.{_≡_, refl, sym, _∙_}
