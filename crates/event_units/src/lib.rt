@@ -13,7 +13,7 @@ ghost use Rattle.event_units.specs.Inner.Going.{going};
 
 // The ASes that let their units go: they have some, the event names them, and they wait no longer. `waiting`
 // is the column after the event.
-pub fn goes<'a>(count: &'a [u8; 16], named: [bool; 16], waiting: &'a [u8; 16]) -> [bool; 16]
+fn let_go<'a>(count: &'a [u8; 16], named: [bool; 16], waiting: &'a [u8; 16]) -> [bool; 16]
     ensures { λ r. ⌜ r ≡ going (now (count .entry)) named (now (waiting .entry)) ⌝ }
 {
     let mut r = [false; 16];
@@ -21,6 +21,17 @@ pub fn goes<'a>(count: &'a [u8; 16], named: [bool; 16], waiting: &'a [u8; 16]) -
         r[a] = (0 < count[a]) & (named[a] & !(waiting[a] == 1));
     }
     r
+}
+
+// The same. Mostly none are held: then `waiting`, of which the event has just written a byte, is not read in
+// one piece, for which the processor would have to wait.
+pub fn goes<'a>(count: &'a [u8; 16], named: [bool; 16], waiting: &'a [u8; 16]) -> [bool; 16]
+    ensures { λ r. ⌜ r ≡ going (now (count .entry)) named (now (waiting .entry)) ⌝ }
+{
+    if state_sound::none_counted(count) {
+        return [false; 16];
+    }
+    let_go(count, named, waiting)
 }
 
 fn unless(t: bool, x: u8) -> u8

@@ -57,7 +57,7 @@ fn blank<'a>(
     x & y
 }
 
-fn none_counted(count: &[u8; 16]) -> bool
+pub fn none_counted(count: &[u8; 16]) -> bool
     ensures { λ r. ⌜ r ≡ noneCounted (now (count .entry)) ⌝ }
 {
     let mut ok = true;

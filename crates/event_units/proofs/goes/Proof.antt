@@ -1,34 +1,15 @@
--- `event_units::goes`: the ASes passed. Assumes nothing.
-use Prim.Native.Nat.{_≤_, _-_}
-use mathlib.Core.Path.{refl}
-use mathlib.Core.Bool.{_&&_, not}
-use native.Mathlib.Omega.{arith}
+-- `event_units::goes`: none where none are held. Assumes nothing.
+use mathlib.Core.Path.{_∙_, sym}
 use borrow.Author.Needs.{needs}
-use lib.Dec.{ltb}
-use Rattle.laws.specs.Columns.{flagAt, isSet, numberAt}
-use Rattle.laws.specs.Inner.Columns.{Half, half-end, half-more, half-none}
-use Rattle.event_units.specs.Inner.Going.{going}
+use Rattle.event_units.specs.Inner.Going.{none-going}
 use Rattle.event_units.proofs.goes.Statement.{statement}
 use Rattle.event_units.proofs.goes.Tie as tie
 
-abbrev Inv-loop : tie.InvT-loop
-Inv-loop count waiting named r₀ a₀ r a = Half (λ i. ltb 0 (numberAt count i) && (flagAt named i && not (isSet waiting i))) (flagAt r₀) 16 a r × (a ≤ 16)
+returns : tie.Need-returns
+returns c = none-going _ _ _ (sym (c .before .none-counted .ensures) ∙ c .if1 .taken)
 
-abbrev μ-loop : tie.MeasureT-loop
-μ-loop count waiting named r₀ a₀ r a = 16 - a
-
-loop-holds : tie.Need-loop-holds Inv-loop μ-loop
-loop-holds c = (half-none _ 16 _ refl, omega arith)
-
-loop-again : tie.Need-loop-again Inv-loop μ-loop
-loop-again c = (half-more _ (c .before .before .before .loop .inv .0) (omega arith) refl, search needs)
-
-returns : tie.Need-returns Inv-loop μ-loop
-unfolding going
-returns c = half-end (c .before .loop .inv .0) (c .loop-test .left)
+returns-2 : tie.Need-returns-2
+returns-2 c = c .let-go .ensures
 
 pub goes-spec : {M : Type 1} → statement M
-goes-spec =
-    tie.close
-    (tie.spec Inv-loop μ-loop loop-holds (search needs) (search needs) (search needs) (search needs) (search needs)
-    (search needs) loop-again returns)
+goes-spec = tie.close (tie.spec (λ c κs. search needs) returns (λ c κs. search needs) returns-2)

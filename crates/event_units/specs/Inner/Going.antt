@@ -7,11 +7,13 @@ use mathlib.Core.List.{List}
 use native.Mathlib.Omega.{arith}
 use native.Mathlib.Decide.{decLt}
 use lib.Dec.{eqb, ltb}
-use lib.ListN.{length, List·getD-eq-default}
+use lib.ListN.{length, replicate, getD-replicate, List·getD-eq-default}
+use borrow.Author.Tests.{eqb-true}
 use Rattle.laws.specs.Below.{one}
-use Rattle.laws.specs.Inner.Below.{any-not}
+use Rattle.laws.specs.Inner.Below.{any-not, all-at}
 use Rattle.laws.specs.Columns.{flagAt, isSet, numberAt, tabulate}
-use Rattle.laws.specs.Inner.Columns.{getD-tabulate, length-tabulate}
+use Rattle.laws.specs.Inner.Columns.{getD-tabulate, length-tabulate, is-tabulate}
+use Rattle.state_sound.specs.Inner.Sound.{noneCounted}
 use Rattle.state_tables.specs.declared.Gateway.{Gateway}
 use Rattle.rules_server.specs.declared.Change.{Change}
 use Rattle.rules_server.specs.Record.{recordOf, some}
@@ -32,6 +34,13 @@ going count named waiting = tabulate 16 (goesAt count named waiting)
 going-length : (count : List ℕ) (named : List Bool) (w : List ℕ) → length (going count named w) ≡ 16
 unfolding going
 going-length count named w = length-tabulate 16 (goesAt count named w)
+
+-- where no AS holds a unit, none lets one go
+pub none-going : (count : List ℕ) (named : List Bool) (w : List ℕ) → noneCounted count ≡ true → replicate 16 false ≡ going count named w
+unfolding going noneCounted
+none-going count named w h =
+    is-tabulate false (replicate 16 false) 16 (goesAt count named w) refl
+    (λ a b. getD-replicate {A = Bool} 16 a false false b ∙ rw (eqb-true (numberAt count a) 0 (all-at (λ a. eqb (numberAt count a) 0) 16 h a b)))
 
 -- the mark after the event, of an AS that is named
 waits-no-more : (t : Bool) (w : Bool) (x : ℕ) → (t && not (eqb (cond t (one w) x) 1)) ≡ (t && not w)
