@@ -47,7 +47,7 @@ computed = (
   record { reader = reader-samples; takes-over = refl; in-part = refl; whole = refl; overrides = refl; pends = refl; recovers = refl; holds = refl; sends-held = refl; retrieves = refl; too-large = refl; confirms = refl; refuses = refl },
   record { ases = refl; links = (refl, refl, refl); first = (refl, refl); second = (refl, refl) },
   record { ases = refl; links = (refl, refl, refl); first = (refl, refl); second = (refl, refl) },
-  record { taken = refl; not-taken = refl; given = refl; given-none = refl; handed = refl },
+  record { taken = refl; not-taken = refl; others = (refl, refl); given = refl; given-none = refl; handed = refl },
 )
 
 pub samples : Samples

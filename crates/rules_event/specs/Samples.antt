@@ -12,7 +12,7 @@ use Rattle.state_tables.specs.declared.Gateway.{Gateway}
 use Rattle.rules_action.specs.Words.{action, linkSide}
 use Rattle.codec_read.specs.Samples.{active, ReaderSamples}
 use Rattle.rules_event.specs.Event.{EventKind, message, recovery, linkMessage, lending, Event, bare}
-use Rattle.rules_event.specs.Effect.{holdBytes, takesIn}
+use Rattle.rules_event.specs.Effect.{send, setLink, holdBytes, takesIn}
 use Rattle.rules_event.specs.Entry.{actions, next}
 use Rattle.rules_event.specs.Rules.{effectOf, leastRoom, refusal}
 use Rattle.rules_event.specs.Calls.{answer, rulesAnswer}
@@ -125,6 +125,8 @@ pub record Pinned : Type 0 where
   -- Data for AS 0 while that is pending is taken in; a message of ASP 0 is not
   pub taken : takesIn (effectOf g₅ (linkMessage unit)) ≡ true
   pub not-taken : takesIn (effectOf g₁ (message 0 m)) ≡ false
+  -- nor are actions alone, or a link that comes to a state
+  pub others : (takesIn (send []) ≡ false) × (takesIn (setLink 0 1 []) ≡ false)
   -- what M of ASP 0 gives, and a Retrieval Confirm that is refused
   pub given : rulesAnswer (record { gateway = g₁; hold = [] }) (sampleEvent (message 0 m)) ≡ record { refusal = 0; count = 2; words = 0 ∷ 1027 ∷ 0 ∷ 0 ∷ 0 ∷ 1 ∷ 0 ∷ 65539 ∷ [] }
   pub given-none : rulesAnswer (record { gateway = g₂; hold = [] }) (sampleEvent (linkMessage (confirm 128))) ≡ record { refusal = 102; count = 0; words = [] }
