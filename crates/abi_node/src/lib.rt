@@ -1,11 +1,11 @@
 // The gateway with its events as methods, by value: each copies the columns that events change, lends them
 // to the event where they then lie, and hands back a node with them for the next event.
-ghost use Rattle.rules_event.specs.Event.{message, lost, recovery, linkUp, linkDown, linkMessage, bare};
+ghost use Rattle.rules_event.specs.Event.{message, lost, recovery, link_up, link_down, link_message, bare};
 ghost use Rattle.rules_event.specs.Entry.{MeetsRules};
 ghost use Rattle.event_asked.specs.Happened.{happened, event};
 ghost use Rattle.send_message.specs.Send.{Sends};
 ghost use Rattle.std.specs.Prelude.{◌<◌};
-ghost use Rattle.abi_node.specs.Next.{outcomeOf, headed};
+ghost use Rattle.abi_node.specs.Next.{outcome_of, headed};
 
 use codec_wire::HEADER;
 use codec_write::Written;
@@ -33,7 +33,7 @@ pub struct Next {
 impl Node {
     // Every event.
     fn happen(self, kind: u32, i: usize, msg: &[u8], hold: &mut [u8], words: &mut [u32]) -> Next
-        ensures { MeetsRules self.gateway (event (happened kind i msg.now) words.old hold.old) words.old words.new hold.old hold.new (outcomeOf result) }
+        ensures { MeetsRules self.gateway (event (happened kind i msg.now) words.old hold.old) words.old words.new hold.old hold.new (outcome_of result) }
     {
         let mut g = self.gateway;
         let asps = g.asps;
@@ -101,14 +101,14 @@ impl Node {
 
     // A message of ASP p.
     pub fn message(self, p: usize, msg: &[u8], hold: &mut [u8], words: &mut [u32]) -> Next
-        ensures { MeetsRules self.gateway (event (message p msg.now) words.old hold.old) words.old words.new hold.old hold.new (outcomeOf result) }
+        ensures { MeetsRules self.gateway (event (message p msg.now) words.old hold.old) words.old words.new hold.old hold.new (outcome_of result) }
     {
         self.happen(event_asked::MESSAGE, p, msg, hold, words)
     }
 
     // The message of ASP p that has a class and a type, and no parameters.
     fn plain(self, p: usize, class: u8, msgtype: u8, hold: &mut [u8], words: &mut [u32]) -> Next
-        ensures { MeetsRules self.gateway (event (message p (bare class msgtype)) words.old hold.old) words.old words.new hold.old hold.new (outcomeOf result) }
+        ensures { MeetsRules self.gateway (event (message p (bare class msgtype)) words.old hold.old) words.old words.new hold.old hold.new (outcome_of result) }
     {
         self.happen(
             event_asked::MESSAGE,
@@ -121,28 +121,28 @@ impl Node {
 
     // Up of ASP p.
     pub fn up(self, p: usize, hold: &mut [u8], words: &mut [u32]) -> Next
-        ensures { MeetsRules self.gateway (event (message p (bare 3 1)) words.old hold.old) words.old words.new hold.old hold.new (outcomeOf result) }
+        ensures { MeetsRules self.gateway (event (message p (bare 3 1)) words.old hold.old) words.old words.new hold.old hold.new (outcome_of result) }
     {
         self.plain(p, 3, 1, hold, words)
     }
 
     // Down of ASP p.
     pub fn down(self, p: usize, hold: &mut [u8], words: &mut [u32]) -> Next
-        ensures { MeetsRules self.gateway (event (message p (bare 3 2)) words.old hold.old) words.old words.new hold.old hold.new (outcomeOf result) }
+        ensures { MeetsRules self.gateway (event (message p (bare 3 2)) words.old hold.old) words.old words.new hold.old hold.new (outcome_of result) }
     {
         self.plain(p, 3, 2, hold, words)
     }
 
     // Active of ASP p, in all of its ASes.
     pub fn active(self, p: usize, hold: &mut [u8], words: &mut [u32]) -> Next
-        ensures { MeetsRules self.gateway (event (message p (bare 4 1)) words.old hold.old) words.old words.new hold.old hold.new (outcomeOf result) }
+        ensures { MeetsRules self.gateway (event (message p (bare 4 1)) words.old hold.old) words.old words.new hold.old hold.new (outcome_of result) }
     {
         self.plain(p, 4, 1, hold, words)
     }
 
     // Inactive of ASP p, in all of its ASes.
     pub fn inactive(self, p: usize, hold: &mut [u8], words: &mut [u32]) -> Next
-        ensures { MeetsRules self.gateway (event (message p (bare 4 2)) words.old hold.old) words.old words.new hold.old hold.new (outcomeOf result) }
+        ensures { MeetsRules self.gateway (event (message p (bare 4 2)) words.old hold.old) words.old words.new hold.old hold.new (outcome_of result) }
     {
         self.plain(p, 4, 2, hold, words)
     }
@@ -159,7 +159,7 @@ impl Node {
         words: &mut [u32],
     ) -> Next
         requires { 0 < class }
-        ensures { MeetsRules self.gateway (event (message p (headed class msgtype pars.now)) words.old hold.old) words.old words.new hold.old hold.new (outcomeOf result) }
+        ensures { MeetsRules self.gateway (event (message p (headed class msgtype pars.now)) words.old hold.old) words.old words.new hold.old hold.new (outcome_of result) }
     {
         if MOST_PARAMETERS < pars.len() {
             return self.happen(event_asked::MESSAGE, p, &[0; 1], hold, words);
@@ -173,63 +173,63 @@ impl Node {
 
     // Up of ASP p with parameters: its identifier, a text.
     pub fn up_with(self, p: usize, pars: &[u8], hold: &mut [u8], words: &mut [u32]) -> Next
-        ensures { MeetsRules self.gateway (event (message p (headed 3 1 pars.now)) words.old hold.old) words.old words.new hold.old hold.new (outcomeOf result) }
+        ensures { MeetsRules self.gateway (event (message p (headed 3 1 pars.now)) words.old hold.old) words.old words.new hold.old hold.new (outcome_of result) }
     {
         self.headed(p, 3, 1, pars, hold, words)
     }
 
     // Down of ASP p with parameters: a text.
     pub fn down_with(self, p: usize, pars: &[u8], hold: &mut [u8], words: &mut [u32]) -> Next
-        ensures { MeetsRules self.gateway (event (message p (headed 3 2 pars.now)) words.old hold.old) words.old words.new hold.old hold.new (outcomeOf result) }
+        ensures { MeetsRules self.gateway (event (message p (headed 3 2 pars.now)) words.old hold.old) words.old words.new hold.old hold.new (outcome_of result) }
     {
         self.headed(p, 3, 2, pars, hold, words)
     }
 
     // Active of ASP p with parameters: a traffic mode, identifiers, a text.
     pub fn active_with(self, p: usize, pars: &[u8], hold: &mut [u8], words: &mut [u32]) -> Next
-        ensures { MeetsRules self.gateway (event (message p (headed 4 1 pars.now)) words.old hold.old) words.old words.new hold.old hold.new (outcomeOf result) }
+        ensures { MeetsRules self.gateway (event (message p (headed 4 1 pars.now)) words.old hold.old) words.old words.new hold.old hold.new (outcome_of result) }
     {
         self.headed(p, 4, 1, pars, hold, words)
     }
 
     // Inactive of ASP p with parameters: identifiers, a text.
     pub fn inactive_with(self, p: usize, pars: &[u8], hold: &mut [u8], words: &mut [u32]) -> Next
-        ensures { MeetsRules self.gateway (event (message p (headed 4 2 pars.now)) words.old hold.old) words.old words.new hold.old hold.new (outcomeOf result) }
+        ensures { MeetsRules self.gateway (event (message p (headed 4 2 pars.now)) words.old hold.old) words.old words.new hold.old hold.new (outcome_of result) }
     {
         self.headed(p, 4, 2, pars, hold, words)
     }
 
     // The association of ASP p is lost.
     pub fn lost(self, p: usize, hold: &mut [u8], words: &mut [u32]) -> Next
-        ensures { MeetsRules self.gateway (event (lost p) words.old hold.old) words.old words.new hold.old hold.new (outcomeOf result) }
+        ensures { MeetsRules self.gateway (event (lost p) words.old hold.old) words.old words.new hold.old hold.new (outcome_of result) }
     {
         self.happen(event_asked::LOST, p, &[0; 1], hold, words)
     }
 
     // The recovery time of AS a is over.
     pub fn recovery(self, a: usize, hold: &mut [u8], words: &mut [u32]) -> Next
-        ensures { MeetsRules self.gateway (event (recovery a) words.old hold.old) words.old words.new hold.old hold.new (outcomeOf result) }
+        ensures { MeetsRules self.gateway (event (recovery a) words.old hold.old) words.old words.new hold.old hold.new (outcome_of result) }
     {
         self.happen(event_asked::RECOVERY, a, &[0; 1], hold, words)
     }
 
     // The link at index l is up.
     pub fn link_up(self, l: usize, hold: &mut [u8], words: &mut [u32]) -> Next
-        ensures { MeetsRules self.gateway (event (linkUp l) words.old hold.old) words.old words.new hold.old hold.new (outcomeOf result) }
+        ensures { MeetsRules self.gateway (event (link_up l) words.old hold.old) words.old words.new hold.old hold.new (outcome_of result) }
     {
         self.happen(event_asked::LINK_UP, l, &[0; 1], hold, words)
     }
 
     // The link at index l is down.
     pub fn link_down(self, l: usize, hold: &mut [u8], words: &mut [u32]) -> Next
-        ensures { MeetsRules self.gateway (event (linkDown l) words.old hold.old) words.old words.new hold.old hold.new (outcomeOf result) }
+        ensures { MeetsRules self.gateway (event (link_down l) words.old hold.old) words.old words.new hold.old hold.new (outcome_of result) }
     {
         self.happen(event_asked::LINK_DOWN, l, &[0; 1], hold, words)
     }
 
     // A message of the link side.
     pub fn link_message(self, msg: &[u8], hold: &mut [u8], words: &mut [u32]) -> Next
-        ensures { MeetsRules self.gateway (event (linkMessage msg.now) words.old hold.old) words.old words.new hold.old hold.new (outcomeOf result) }
+        ensures { MeetsRules self.gateway (event (link_message msg.now) words.old hold.old) words.old words.new hold.old hold.new (outcome_of result) }
     {
         self.happen(event_asked::LINK_MESSAGE, 0, msg, hold, words)
     }
@@ -310,14 +310,14 @@ impl Node {
 
     // Of the link at index l that is up.
     pub fn link_up_order(self, l: usize, hold: &[u8], place: usize, out: &mut [u8]) -> Written
-        ensures { Sends self.gateway hold.now (linkUp l) place out.old result out.new }
+        ensures { Sends self.gateway hold.now (link_up l) place out.old result out.new }
     {
         self.order(event_asked::LINK_UP, l, &[0; 1], hold, place, out)
     }
 
     // Of the link at index l that is down.
     pub fn link_down_order(self, l: usize, hold: &[u8], place: usize, out: &mut [u8]) -> Written
-        ensures { Sends self.gateway hold.now (linkDown l) place out.old result out.new }
+        ensures { Sends self.gateway hold.now (link_down l) place out.old result out.new }
     {
         self.order(event_asked::LINK_DOWN, l, &[0; 1], hold, place, out)
     }
@@ -330,7 +330,7 @@ impl Node {
         place: usize,
         out: &mut [u8],
     ) -> Written
-        ensures { Sends self.gateway hold.now (linkMessage msg.now) place out.old result out.new }
+        ensures { Sends self.gateway hold.now (link_message msg.now) place out.old result out.new }
     {
         self.order(event_asked::LINK_MESSAGE, 0, msg, hold, place, out)
     }

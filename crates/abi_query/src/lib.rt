@@ -3,9 +3,9 @@
 ghost use Rattle.std.specs.Prelude.{◌≡◌, ◌&&◌, not};
 ghost use Rattle.laws.specs.Below.{one};
 ghost use Rattle.laws.specs.Columns.{is_set};
-ghost use Rattle.codec_read.specs.Meaning.{dataAt};
-ghost use Rattle.state_tables.specs.State.{gatewayOf, unitsOf};
-ghost use Rattle.abi_query.specs.Query.{param_at, asStateAt, linkPlace, newIn, waits};
+ghost use Rattle.codec_read.specs.Meaning.{data_at};
+ghost use Rattle.state_tables.specs.State.{gateway_of, units_of};
+ghost use Rattle.abi_query.specs.Query.{param_at, as_state_at, link_place, new_in, waits};
 
 use codec_read::DataAt;
 use codec_wire::HEADER;
@@ -53,7 +53,7 @@ pub extern "C" fn m2ua_abi() -> u32
 // Where the protocol data of a message lies (Rule 1.7).
 #[unsafe(no_mangle)]
 pub extern "C" fn m2ua_data(msg: &[u8]) -> DataAt
-    ensures { result ≡ dataAt msg.now }
+    ensures { result ≡ data_at msg.now }
 {
     codec_read::data_at(msg)
 }
@@ -97,7 +97,7 @@ pub extern "C" fn m2ua_as_state_at<'a>(
     correlation: &'a [u32; 128],
     a: usize,
 ) -> Answer
-    ensures { result ≡ asStateAt (gatewayOf asps ases links spare aspid.now up.now member.now active.now mode.now waiting.now iid.now owner.now state.now highspeed.now wholelists.now (unitsOf count.now tag.now len.now marked.now id.now correlation.now)) a }
+    ensures { result ≡ as_state_at (gateway_of asps ases links spare aspid.now up.now member.now active.now mode.now waiting.now iid.now owner.now state.now highspeed.now wholelists.now (units_of count.now tag.now len.now marked.now id.now correlation.now)) a }
 {
     let sound = state_sound::sound_of(
         asps,
@@ -167,7 +167,7 @@ pub extern "C" fn m2ua_link_place_at<'a>(
     correlation: &'a [u32; 128],
     wanted: u32,
 ) -> Answer
-    ensures { result ≡ linkPlace (gatewayOf asps ases links spare aspid.now up.now member.now active.now mode.now waiting.now iid.now owner.now state.now highspeed.now wholelists.now (unitsOf count.now tag.now len.now marked.now id.now correlation.now)) wanted }
+    ensures { result ≡ link_place (gateway_of asps ases links spare aspid.now up.now member.now active.now mode.now waiting.now iid.now owner.now state.now highspeed.now wholelists.now (units_of count.now tag.now len.now marked.now id.now correlation.now)) wanted }
 {
     let sound = state_sound::sound_of(
         asps,
@@ -220,7 +220,7 @@ fn unit(t: bool) -> u8
 
 // The ASes that wait in x and not in y.
 fn new_in(x: &[u8; 16], y: &[u8; 16]) -> [u8; 16]
-    ensures { result ≡ newIn x.now y.now }
+    ensures { result ≡ new_in x.now y.now }
 {
     let mut r = [0u8; 16];
     for a in 0..16usize {

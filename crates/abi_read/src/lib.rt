@@ -5,8 +5,8 @@
 ghost use Rattle.std.specs.Prelude.{◌≡◌, cond};
 ghost use Rattle.codec_read.specs.Meaning.{reading_of};
 ghost use Rattle.state_plan.specs.Plan.{load_of};
-ghost use Rattle.state_tables.specs.Sound.{isSound};
-ghost use Rattle.state_tables.specs.State.{gatewayOf, unitsOf};
+ghost use Rattle.state_tables.specs.Sound.{is_sound};
+ghost use Rattle.state_tables.specs.State.{gateway_of, units_of};
 
 use codec_read::Reading;
 use state_plan::Loaded;
@@ -58,7 +58,7 @@ pub extern "C" fn m2ua_is_sound_at<'a>(
     id: &'a [u32; 128],
     correlation: &'a [u32; 128],
 ) -> u32
-    ensures { result ≡ cond (isSound (gatewayOf asps ases links spare aspid.now up.now member.now active.now mode.now waiting.now iid.now owner.now state.now highspeed.now wholelists.now (unitsOf count.now tag.now len.now marked.now id.now correlation.now))) 1 0 }
+    ensures { result ≡ cond (is_sound (gateway_of asps ases links spare aspid.now up.now member.now active.now mode.now waiting.now iid.now owner.now state.now highspeed.now wholelists.now (units_of count.now tag.now len.now marked.now id.now correlation.now))) 1 0 }
 {
     let sound = state_sound::sound_of(
         asps,

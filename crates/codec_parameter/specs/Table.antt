@@ -9,18 +9,18 @@ pub data Usage : Type 0 where
   mandatory : Usage
   repeated : Usage
 
-abbrev pub isMandatory : Usage → Bool
-isMandatory forbidden = false
-isMandatory optional = false
-isMandatory mandatory = true
-isMandatory repeated = false
+abbrev pub is_mandatory : Usage → Bool
+is_mandatory forbidden = false
+is_mandatory optional = false
+is_mandatory mandatory = true
+is_mandatory repeated = false
 
 pub record Entry : Type 0 where
   pub tag : ℕ
-  pub use-as : Usage
+  pub use_as : Usage
 
 abbrev pub ◌is◌ : ℕ → Usage → Entry
-◌is◌ t u = record { tag = t; use-as = u }
+◌is◌ t u = record { tag = t; use_as = u }
 
 infix 20 ◌is◌
 -- a row: the class, its types, and their parameters
@@ -84,9 +84,9 @@ among x [] = false
 among x (y ∷ ys) = eqb x y || among x ys
 
 -- the class has a row
-unfoldable pub hasClass : List Row → ℕ → Bool
-hasClass [] c = false
-hasClass (r ∷ rs) c = eqb c r.class || hasClass rs c
+unfoldable pub has_class : List Row → ℕ → Bool
+has_class [] c = false
+has_class (r ∷ rs) c = eqb c r.class || has_class rs c
 
 -- the index of the row of a class and type, from 0; where there is none, the number of rows
 unfoldable pub row_in : List Row → ℕ → ℕ → ℕ
@@ -94,20 +94,20 @@ row_in [] c t = 0
 row_in (r ∷ rs) c t = cond (eqb c r.class && among t r.types) 0 (suc (row_in rs c t))
 
 -- the parameters of the row at an index
-unfoldable pub entriesIn : List Row → ℕ → List Entry
-entriesIn [] i = []
-entriesIn (r ∷ rs) zero = r.entries
-entriesIn (r ∷ rs) (suc i) = entriesIn rs i
+unfoldable pub entries_in : List Row → ℕ → List Entry
+entries_in [] i = []
+entries_in (r ∷ rs) zero = r.entries
+entries_in (r ∷ rs) (suc i) = entries_in rs i
 
 -- the tag that a tag counts as: 0x301 is another 0x300 (Rule 2.14)
 abbrev pub key : ℕ → ℕ
 key t = cond (eqb t 0x301) 0x300 t
 
 -- how a tag stands among the parameters of a row
-unfoldable pub useIn : List Entry → ℕ → Usage
-useIn [] t = forbidden
-useIn (e ∷ es) t = cond (eqb (key t) e.tag) e.use-as (useIn es t)
+unfoldable pub use_in : List Entry → ℕ → Usage
+use_in [] t = forbidden
+use_in (e ∷ es) t = cond (eqb (key t) e.tag) e.use_as (use_in es t)
 
 -- how a tag stands in the messages of the row at an index
 unfoldable pub usage : ℕ → ℕ → Usage
-usage i t = useIn (entriesIn table i) t
+usage i t = use_in (entries_in table i) t

@@ -16,8 +16,8 @@ abbrev pub number_of : ℕ → ℕ → Limits
 number_of a b = record { least = 8 - 4; most = 8 - 4; word = true; low = a; high = b }
 
 -- the tables of Rules 2.15 and 2.16, but 0x1 and 0x8
-unfoldable pub limitsOf : ℕ → Limits
-limitsOf t =
+unfoldable pub limits_of : ℕ → Limits
+limits_of t =
     cond (eqb t 0x4) (bytes_of 4 259)
     (cond (eqb t 0x7) (bytes_of 4 65535)
     (cond (eqb t 0x9) (bytes_of 4 65535)
@@ -34,41 +34,41 @@ limitsOf t =
     (bytes_of 8 8)))))))))))))
 
 -- a wrong value: of a traffic mode 5 (Rule 2.7)
-abbrev pub valueCode : ℕ → ℕ
-valueCode t = cond (eqb t 0xb) 5 17
+abbrev pub value_code : ℕ → ℕ
+value_code t = cond (eqb t 0xb) 5 17
 
 -- a number in its limits m: 0, or the refusal
-unfoldable pub wordCode : Limits → ℕ → ℕ → ℕ
-wordCode m t n = cond (ltb n m.low) (valueCode t) (cond (ltb m.high n) (valueCode t) 0)
+unfoldable pub word_code : Limits → ℕ → ℕ → ℕ
+word_code m t n = cond (ltb n m.low) (value_code t) (cond (ltb m.high n) (value_code t) 0)
 
 -- the length, then the number
-unfoldable pub plainCode : Limits → ℕ → List ℕ → ℕ
-plainCode m t v =
+unfoldable pub plain_code : Limits → ℕ → List ℕ → ℕ
+plain_code m t v =
     cond (ltb (length v) m.least) 18
     (cond (ltb m.most (length v)) 18
     (cond (not m.word) 0
     (cond (ltb (length v) 4) 18
-    (wordCode m t (be 4 v 0)))))
+    (word_code m t (be 4 v 0)))))
 
 -- 0x1 where one identifier stands (Rule 2.12)
-abbrev pub oneId : List ℕ → ℕ
-oneId v = cond (eqb (length v) 4) 0 18
+abbrev pub one_id : List ℕ → ℕ
+one_id v = cond (eqb (length v) 4) 0 18
 
 -- 0x1, which stands in the message as said; among ids it has one identifier or more (Rule 2.11)
-unfoldable pub idCode : Usage → List ℕ → ℕ
-idCode forbidden v = oneId v
-idCode optional v = oneId v
-idCode mandatory v = oneId v
-idCode repeated v = cond (ltb (length v) 4) 18 (cond (eqb (length v % 4) 0) 0 18)
+unfoldable pub id_code : Usage → List ℕ → ℕ
+id_code forbidden v = one_id v
+id_code optional v = one_id v
+id_code mandatory v = one_id v
+id_code repeated v = cond (ltb (length v) 4) 18 (cond (eqb (length v % 4) 0) 0 18)
 
 -- 0x8: one or more pairs, none of which stops below its start (Rules 2.11, 2.16)
-unfoldable pub rangeCode : List ℕ → ℕ
-rangeCode v =
+unfoldable pub range_code : List ℕ → ℕ
+range_code v =
     cond (ltb (length v) 8) 18
     (cond (eqb (length v % 8) 0)
     (cond (all_below (λ k. leb (be 4 v (k * 8)) (be 4 v (k * 8 + 4))) (length v / 8)) 0 17)
     18)
 
 -- the length and value of a tag that stands in the message as u says
-unfoldable pub bodyCode : Usage → ℕ → List ℕ → ℕ
-bodyCode u t v = cond (eqb t 0x1) (idCode u v) (cond (eqb t 0x8) (rangeCode v) (plainCode (limitsOf t) t v))
+unfoldable pub body_code : Usage → ℕ → List ℕ → ℕ
+body_code u t v = cond (eqb t 0x1) (id_code u v) (cond (eqb t 0x8) (range_code v) (plain_code (limits_of t) t v))

@@ -2,10 +2,10 @@
 ghost use Rattle.std.specs.Prelude.{◌≡◌, ◌+◌, ◌≤◌, ◌<◌, length};
 ghost use Rattle.laws.specs.Choice.{◌orElse◌};
 ghost use Rattle.codec_wire.specs.Number.{be};
-ghost use Rattle.codec_parameter.specs.Table.{table, hasClass, row_in};
-ghost use Rattle.codec_parameter.specs.Value.{bytes_of, number_of, limitsOf, plainCode, wordCode, valueCode, idCode, rangeCode, bodyCode};
-ghost use Rattle.codec_parameter.specs.Inner.Slot.{slot, info, infoOf, rowBits, useBits, usageOf, packedUse, asked, allAsked};
-ghost use Rattle.codec_parameter.specs.Check.{textCode, allowedCode, parCode};
+ghost use Rattle.codec_parameter.specs.Table.{table, has_class, row_in};
+ghost use Rattle.codec_parameter.specs.Value.{bytes_of, number_of, limits_of, plain_code, word_code, value_code, id_code, range_code, body_code};
+ghost use Rattle.codec_parameter.specs.Inner.Slot.{slot, info, info_of, row_bits, use_bits, usage_of, packed_use, asked, all_asked};
+ghost use Rattle.codec_parameter.specs.Check.{text_code, allowed_code, par_code};
 
 use codec_wire::{
     FIELD_ERROR, INVALID_VALUE, UNEXPECTED_PARAMETER, UNSUPPORTED_IDENTIFIER, UNSUPPORTED_MODE,
@@ -52,7 +52,7 @@ pub struct RowInfo {
 
 // The class is listed.
 pub fn class_ok(c: u8) -> bool
-    ensures { result ≡ hasClass table c }
+    ensures { result ≡ has_class table c }
 {
     match c {
         0 => true,
@@ -67,7 +67,7 @@ pub fn class_ok(c: u8) -> bool
 // base is the class's first row.
 fn row_in(rows: u64, base: usize, t: u8) -> usize
     requires { base < 17 }
-    ensures { result ≡ rowBits rows base t }
+    ensures { result ≡ row_bits rows base t }
 {
     if 15 < t {
         return NO_ROW;
@@ -100,7 +100,7 @@ fn packed_row(uses: u64, musts: u32) -> RowInfo
 
 // A row, packed.
 pub fn row_info(row: usize) -> RowInfo
-    ensures { result ≡ infoOf row }
+    ensures { result ≡ info_of row }
 {
     match row {
         0 => packed_row(0x203400c, 12),
@@ -145,7 +145,7 @@ pub fn slot_of(t: u16) -> usize
 // How the tag of a slot may stand.
 fn use_at(uses: u64, k: usize) -> u64
     requires { k < 32 }
-    ensures { result ≡ useBits uses k }
+    ensures { result ≡ use_bits uses k }
 {
     (uses >> (2 * k)) % 4
 }
@@ -177,7 +177,7 @@ fn number_of(low: u32, high: u32) -> Limits
 
 // The limits of a tag's value.
 fn limits_of(t: u16) -> Limits
-    ensures { result ≡ limitsOf t }
+    ensures { result ≡ limits_of t }
 {
     match t {
         0x4 => bytes_of(4, 259),
@@ -199,7 +199,7 @@ fn limits_of(t: u16) -> Limits
 
 // The refusal of a value that is out of its limits.
 fn value_code(t: u16) -> u32
-    ensures { result ≡ valueCode t }
+    ensures { result ≡ value_code t }
 {
     if t == TRAFFIC_MODE {
         UNSUPPORTED_MODE
@@ -210,7 +210,7 @@ fn value_code(t: u16) -> u32
 
 // A number in its limits: 0, or the refusal.
 fn word_code(m: Limits, t: u16, n: u32) -> u32
-    ensures { result ≡ wordCode m t n }
+    ensures { result ≡ word_code m t n }
 {
     if n < m.low {
         return value_code(t);
@@ -223,14 +223,14 @@ fn word_code(m: Limits, t: u16, n: u32) -> u32
 
 fn word_at(m: Limits, t: u16, v: &[u8]) -> u32
     requires { 4 ≤ length v.now }
-    ensures { result ≡ wordCode m t (be 4 v.now 0) }
+    ensures { result ≡ word_code m t (be 4 v.now 0) }
 {
     word_code(m, t, codec_wire::get32(v, 0))
 }
 
 // A value in its limits: 0, or the refusal.
 fn plain_code(m: Limits, t: u16, v: &[u8]) -> u32
-    ensures { result ≡ plainCode m t v.now }
+    ensures { result ≡ plain_code m t v.now }
 {
     if v.len() < m.least {
         return FIELD_ERROR;
@@ -248,14 +248,14 @@ fn plain_code(m: Limits, t: u16, v: &[u8]) -> u32
 }
 
 fn plain_of(t: u16, v: &[u8]) -> u32
-    ensures { result ≡ plainCode (limitsOf t) t v.now }
+    ensures { result ≡ plain_code (limits_of t) t v.now }
 {
     plain_code(limits_of(t), t, v)
 }
 
 // Interface identifiers: one in a link message, else one or more (Rules 2.11 and 2.12).
 fn id_code(u: u64, v: &[u8]) -> u32
-    ensures { result ≡ idCode (usageOf u) v.now }
+    ensures { result ≡ id_code (usage_of u) v.now }
 {
     if u == REPEATED {
         if v.len() < 4 {
@@ -269,7 +269,7 @@ fn id_code(u: u64, v: &[u8]) -> u32
 
 // Ranges of interface identifiers: pairs of a start and a stop.
 fn range_code(v: &[u8]) -> u32
-    ensures { result ≡ rangeCode v.now }
+    ensures { result ≡ range_code v.now }
 {
     if v.len() < 8 {
         return FIELD_ERROR;
@@ -292,7 +292,7 @@ fn range_code(v: &[u8]) -> u32
 
 // The length and value of a tag that may stand as u says.
 fn body_code(u: u64, t: u16, v: &[u8]) -> u32
-    ensures { result ≡ bodyCode (usageOf u) t v.now }
+    ensures { result ≡ body_code (usage_of u) t v.now }
 {
     if t == INTERFACE_ID {
         return id_code(u, v);
@@ -305,7 +305,7 @@ fn body_code(u: u64, t: u16, v: &[u8]) -> u32
 
 // A text identifier, refused (Rule 2.13). u is how identifiers stand in the message.
 fn text_code(u: u64, first: bool) -> u32
-    ensures { result ≡ textCode (usageOf u) first }
+    ensures { result ≡ text_code (usage_of u) first }
 {
     if u == REPEATED {
         return UNSUPPORTED_IDENTIFIER;
@@ -322,7 +322,7 @@ fn text_code(u: u64, first: bool) -> u32
 // May a parameter stand there (Rules 2.12 to 2.14)? u1 is how identifiers stand in the message, u how this
 // tag does.
 fn allowed_code(u1: u64, u: u64, first: bool, again: bool, t: u16) -> u32
-    ensures { result ≡ allowedCode (usageOf u1) (usageOf u) first again t }
+    ensures { result ≡ allowed_code (usage_of u1) (usage_of u) first again t }
 {
     if t == TEXT_ID {
         return text_code(u1, first);
@@ -347,7 +347,7 @@ fn allowed_code(u1: u64, u: u64, first: bool, again: bool, t: u16) -> u32
 
 // A parameter that may stand there or not, and then its length and value.
 fn par_code(allowed: u32, u: u64, t: u16, v: &[u8]) -> u32
-    ensures { result ≡ allowed or_else bodyCode (usageOf u) t v.now }
+    ensures { result ≡ allowed or_else body_code (usage_of u) t v.now }
 {
     if allowed == 0 {
         return body_code(u, t, v);
@@ -359,7 +359,7 @@ fn par_code(allowed: u32, u: u64, t: u16, v: &[u8]) -> u32
 // its slot, tag and value.
 pub fn par_at(uses: u64, first: bool, again: bool, k: usize, t: u16, v: &[u8]) -> u32
     requires { k < 32 }
-    ensures { result ≡ parCode (packedUse uses 1) (packedUse uses k) first again t v.now }
+    ensures { result ≡ par_code (packed_use uses 1) (packed_use uses k) first again t v.now }
 {
     let u = use_at(uses, k);
     par_code(allowed_code(use_at(uses, 1), u, first, again, t), u, t, v)
@@ -378,7 +378,7 @@ fn met_at(met: &[bool; 32], k: usize) -> bool
 
 // Each of three packed slots is met.
 pub fn musts_met(musts: u32, met: &[bool; 32]) -> bool
-    ensures { result ≡ allAsked musts met.now }
+    ensures { result ≡ all_asked musts met.now }
 {
     let m = musts as usize;
     met_at(met, m % 32) & met_at(met, m / 32 % 32) & met_at(met, m / 1024 % 32)

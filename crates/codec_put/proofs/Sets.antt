@@ -10,57 +10,57 @@ use lib.ListN.{length, get_or, take, drop, set, length-append}
 use lib.Seq.{sets, take-suc, length-take-le, length-sets, sets-eq, take_at, get_or-take}
 use Rattle.codec_put.specs.Bytes.{overlay}
 
-pub over-append : (l xs ys : List ℕ) (i : ℕ) → overlay (overlay l i xs) (i + length xs) ys ≡ overlay l i (xs ++ ys)
+pub over_append : (l xs ys : List ℕ) (i : ℕ) → overlay (overlay l i xs) (i + length xs) ys ≡ overlay l i (xs ++ ys)
 unfolding overlay
-over-append l [] ys i = rw (add-zero i)
-over-append l (x ∷ xs) ys i = let e : i + suc (length xs) ≡ suc i + length xs = omega arith in rw e (over-append (set l i x) xs ys (suc i))
+over_append l [] ys i = rw (add-zero i)
+over_append l (x ∷ xs) ys i = let e : i + suc (length xs) ≡ suc i + length xs = omega arith in rw e (over_append (set l i x) xs ys (suc i))
 
 -- one byte more
-pub over-more : (l v : List ℕ) (i k : ℕ) → k < length v → set (overlay l i (take k v)) (i + k) (get_or v k 0) ≡ overlay l i (take (k + 1) v)
+pub over_more : (l v : List ℕ) (i k : ℕ) → k < length v → set (overlay l i (take k v)) (i + k) (get_or v k 0) ≡ overlay l i (take (k + 1) v)
 unfolding overlay
-over-more l v i k h =
+over_more l v i k h =
     let e : length (take k v) ≡ k = length-take-le k v (omega arith) in
-    sym (rw (add-one, take-suc v k 0, ← over-append l (take k v) (get_or v k 0 ∷ []) i, e))
+    sym (rw (add-one, take-suc v k 0, ← over_append l (take k v) (get_or v k 0 ∷ []) i, e))
 
 -- the same at the start
 pub first_more : (l v : List ℕ) (k : ℕ) → k < length v → set (overlay l 0 (take k v)) k (get_or v k 0) ≡ overlay l 0 (take (k + 1) v)
-first_more l v k h = rw (zero-add k) at (over-more l v 0 k h)
+first_more l v k h = rw (zero-add k) at (over_more l v 0 k h)
 
 -- two runs, the second where the first ends
-pub over-two : (l xs ys l₁ l₂ : List ℕ) (i j : ℕ) → l₁ ≡ overlay l i xs → j ≡ i + length xs → l₂ ≡ overlay l₁ j ys → l₂ ≡ overlay l i (xs ++ ys)
-over-two l xs ys l₁ l₂ i j e₁ ej e₂ = rw (e₂, e₁, ej) (over-append l xs ys i)
+pub over_two : (l xs ys l₁ l₂ : List ℕ) (i j : ℕ) → l₁ ≡ overlay l i xs → j ≡ i + length xs → l₂ ≡ overlay l₁ j ys → l₂ ≡ overlay l i (xs ++ ys)
+over_two l xs ys l₁ l₂ i j e₁ ej e₂ = rw (e₂, e₁, ej) (over_append l xs ys i)
 
 pub length_over : (l : List ℕ) (i : ℕ) (vs : List ℕ) → length (overlay l i vs) ≡ length l
 unfolding overlay
 length_over l i vs = length-sets l i vs
 
 -- what was written at the start stands there
-pub take-over : (l vs : List ℕ) → length vs ≤ length l → take (length vs) (overlay l 0 vs) ≡ vs
+pub take_over : (l vs : List ℕ) → length vs ≤ length l → take (length vs) (overlay l 0 vs) ≡ vs
 unfolding overlay
-take-over l vs h = rw (sets-eq vs l 0 (omega arith)) (take_at vs (drop (0 + length vs) l) (length vs) refl)
+take_over l vs h = rw (sets-eq vs l 0 (omega arith)) (take_at vs (drop (0 + length vs) l) (length vs) refl)
 
 -- a byte of a list that begins with v
-pub begins-at : (l v : List ℕ) (k : ℕ) → take (length v) l ≡ v → k < length v → get_or l k 0 ≡ get_or v k 0
-begins-at l v k e h = sym (get_or-take (length v) l k 0 h) ∙ ap (λ x. get_or x k 0) e
+pub begins_at : (l v : List ℕ) (k : ℕ) → take (length v) l ≡ v → k < length v → get_or l k 0 ≡ get_or v k 0
+begins_at l v k e h = sym (get_or-take (length v) l k 0 h) ∙ ap (λ x. get_or x k 0) e
 
 -- four bytes at a position, and what follows them
-pub over-four : (l ys l₂ : List ℕ) (i a b c d : ℕ) → l₂ ≡ overlay (set (set (set (set l i a) (i + 1) b) (i + 2) c) (i + 3) d) (i + 4) ys → l₂ ≡ overlay l i (a ∷ b ∷ c ∷ d ∷ ys)
+pub over_four : (l ys l₂ : List ℕ) (i a b c d : ℕ) → l₂ ≡ overlay (set (set (set (set l i a) (i + 1) b) (i + 2) c) (i + 3) d) (i + 4) ys → l₂ ≡ overlay l i (a ∷ b ∷ c ∷ d ∷ ys)
 unfolding overlay
-over-four l ys l₂ i a b c d e =
+over_four l ys l₂ i a b c d e =
     let e₂ : i + 2 ≡ suc (suc i) = omega arith in
     let e₃ : i + 3 ≡ suc (suc (suc i)) = omega arith in
     let e₄ : i + 4 ≡ suc (suc (suc (suc i))) = omega arith in
     rw (add-one i, e₂, e₃, e₄) at e
 
 -- four bytes at a position
-pub over-each : (l v : List ℕ) (i : ℕ) → length v ≡ 4 → set (set (set (set l i (get_or v 0 0)) (i + 1) (get_or v 1 0)) (i + 2) (get_or v 2 0)) (i + 3) (get_or v 3 0) ≡ overlay l i v
+pub over_each : (l v : List ℕ) (i : ℕ) → length v ≡ 4 → set (set (set (set l i (get_or v 0 0)) (i + 1) (get_or v 1 0)) (i + 2) (get_or v 2 0)) (i + 3) (get_or v 3 0) ≡ overlay l i v
 unfolding overlay
-over-each l (a ∷ b ∷ c ∷ d ∷ []) i h =
+over_each l (a ∷ b ∷ c ∷ d ∷ []) i h =
     let e₂ : i + 2 ≡ suc (suc i) = omega arith in
     let e₃ : i + 3 ≡ suc (suc (suc i)) = omega arith in
     rw (add-one i, e₂, e₃)
-over-each l [] i h = absurd (omega arith)
-over-each l (a ∷ []) i h = absurd (omega arith)
-over-each l (a ∷ b ∷ []) i h = absurd (omega arith)
-over-each l (a ∷ b ∷ c ∷ []) i h = absurd (omega arith)
-over-each l (a ∷ b ∷ c ∷ d ∷ e ∷ v) i h = absurd (omega arith)
+over_each l [] i h = absurd (omega arith)
+over_each l (a ∷ []) i h = absurd (omega arith)
+over_each l (a ∷ b ∷ []) i h = absurd (omega arith)
+over_each l (a ∷ b ∷ c ∷ []) i h = absurd (omega arith)
+over_each l (a ∷ b ∷ c ∷ d ∷ e ∷ v) i h = absurd (omega arith)

@@ -20,28 +20,28 @@ abbrev pub par : ℕ → List ℕ → Par
 par t v = record { tag = t; body = v }
 
 -- how many bytes a parameter takes whose value has n
-abbrev pub parSize : ℕ → ℕ
-parSize n = padded (4 + n)
+abbrev pub par_size : ℕ → ℕ
+par_size n = padded (4 + n)
 
 -- a parameter as it is written (Rules 1.3, 1.4 and 3.1): the padding is zeros
-unfoldable pub parBytes : Par → List ℕ
-parBytes p =
+unfoldable pub par_bytes : Par → List ℕ
+par_bytes p =
     bytes16 p.tag
     ++ (bytes16 (4 + length p.body)
     ++ (p.body
-    ++ replicate (parSize (length p.body) - (4 + length p.body)) 0))
+    ++ replicate (par_size (length p.body) - (4 + length p.body)) 0))
 
 -- parameters one after the other, in the list's order
-unfoldable pub parsBytes : List Par → List ℕ
-parsBytes [] = []
-parsBytes (p ∷ ps) = parBytes p ++ parsBytes ps
+unfoldable pub pars_bytes : List Par → List ℕ
+pars_bytes [] = []
+pars_bytes (p ∷ ps) = par_bytes p ++ pars_bytes ps
 
 -- the header (Rule 1.2) as it is written: the spare byte is 0
-abbrev pub headBytes : ℕ → ℕ → ℕ → List ℕ
-headBytes c t n = 1 ∷ 0 ∷ c ∷ t ∷ bytes32 n
+abbrev pub head_bytes : ℕ → ℕ → ℕ → List ℕ
+head_bytes c t n = 1 ∷ 0 ∷ c ∷ t ∷ bytes32 n
 
 -- a parameter of the tag t and the value v is written over out at a position: the position after it, and the
 -- whole buffer
 pub record PutAt (out : List ℕ) (at t : ℕ) (v : List ℕ) (r : ℕ) (out' : List ℕ) : Type 0 where
-  pub next : r ≡ at + parSize (length v)
-  pub bytes : out' ≡ overlay out at (parBytes (par t v))
+  pub next : r ≡ at + par_size (length v)
+  pub bytes : out' ≡ overlay out at (par_bytes (par t v))

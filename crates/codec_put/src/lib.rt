@@ -1,7 +1,7 @@
 // Writes numbers, one parameter and the message header into a buffer. Each promise is an equation on the
 // whole buffer.
 ghost use Rattle.std.specs.Prelude.{◌≡◌, ◌++◌, ◌+◌, ◌≤◌, ◌<◌, length, replicate};
-ghost use Rattle.codec_put.specs.Bytes.{overlay, bytes16, bytes32, parSize, headBytes, PutAt};
+ghost use Rattle.codec_put.specs.Bytes.{overlay, bytes16, bytes32, par_size, head_bytes, PutAt};
 
 // A 16-bit number, written at a position.
 pub fn put16(out: &mut [u8], at: usize, n: u16)
@@ -123,7 +123,7 @@ fn put_value(out: &mut [u8], at: usize, v: &[u8], pad: usize)
 
 // A parameter, written at a position; the position after it. Its value may be a part of a received message.
 pub fn put_param(out: &mut [u8], at: usize, tag: u16, v: &[u8]) -> usize
-    requires { (length v.now ≤ 65531) × (at + parSize (length v.now) ≤ length out.old) }
+    requires { (length v.now ≤ 65531) × (at + par_size (length v.now) ≤ length out.old) }
     ensures { PutAt out.old at tag v.now result out.new }
 {
     let n = 4 + v.len();
@@ -146,7 +146,7 @@ pub fn put_number(out: &mut [u8], at: usize, tag: u16, n: u32) -> usize
 // The header of a message of n bytes, written at a position.
 pub fn put_header(out: &mut [u8], at: usize, class: u8, msgtype: u8, n: u32)
     requires { at + 8 ≤ length out.old }
-    ensures { out.new ≡ overlay out.old at (headBytes class msgtype n) }
+    ensures { out.new ≡ overlay out.old at (head_bytes class msgtype n) }
 {
     out[at] = 1;
     out[at + 1] = 0;

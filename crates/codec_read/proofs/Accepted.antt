@@ -11,13 +11,13 @@ use borrow.Author.Tests.{ltb-false, eqb-true, not-false}
 use Rattle.laws.specs.Choice.{◌orElse◌, ◌if◌}
 use Rattle.codec_wire.specs.Number.{be}
 use Rattle.codec_wire.specs.Walk.{walk}
-use Rattle.codec_parameter.specs.Table.{table, hasClass, row_in}
-use Rattle.codec_read.specs.Verdict.{most, check1, check2, check3, check4, check5, check6, parsCode, lastChecks, verdict}
+use Rattle.codec_parameter.specs.Table.{table, has_class, row_in}
+use Rattle.codec_read.specs.Verdict.{most, check1, check2, check3, check4, check5, check6, pars_code, last_checks, verdict}
 
 -- of two numbers that are checked in turn, both are 0 where the first that applies is
-pub or-none : (a b : ℕ) → (a or_else b) ≡ 0 → (a ≡ 0) × (b ≡ 0)
-or-none zero b e = (refl, e)
-or-none (suc a) b e = absurd (omega arith)
+pub or_none : (a b : ℕ) → (a or_else b) ≡ 0 → (a ≡ 0) × (b ≡ 0)
+or_none zero b e = (refl, e)
+or_none (suc a) b e = absurd (omega arith)
 
 pub if_none : (n : ℕ) (b : Bool) → ((suc n) if b) ≡ 0 → b ≡ false
 if_none n true e = absurd (omega arith)
@@ -27,28 +27,28 @@ pub record Accepted (s : List ℕ) : Type 0 where
   pub long : 8 ≤ length s
   pub small : length s ≤ most
   pub version : get_or s 0 0 ≡ 1
-  pub listed : hasClass table (get_or s 2 0) ≡ true
+  pub listed : has_class table (get_or s 2 0) ≡ true
   pub known : eqb (row_in table (get_or s 2 0) (get_or s 3 0)) 17 ≡ false
   pub field : be 4 s 4 ≡ length s
   pub walked : (walk s 8).code ≡ 0
-  pub pars-ok : parsCode (get_or s 2 0) (get_or s 3 0) (walk s 8).pars ≡ 0
+  pub pars_ok : pars_code (get_or s 2 0) (get_or s 3 0) (walk s 8).pars ≡ 0
 
-or-false : (u v : Bool) → (u || v) ≡ false → (u ≡ false) × (v ≡ false)
-or-false true v h = absurd (false≢true (sym h))
-or-false false v h = (refl, h)
+or_false : (u v : Bool) → (u || v) ≡ false → (u ≡ false) × (v ≡ false)
+or_false true v h = absurd (false≢true (sym h))
+or_false false v h = (refl, h)
 
 pub accepted : (s : List ℕ) → verdict s ≡ 0 → Accepted s
-unfolding verdict lastChecks table
+unfolding verdict last_checks table
 accepted s e =
     let c = get_or s 2 0 in
-    let a₁ = or-none (check1 s) _ e in
-    let a₂ = or-none (check2 s) _ a₁.1 in
-    let a₃ = or-none (check3 c) _ a₂.1 in
-    let a₄ = or-none (check4 (row_in table c (get_or s 3 0))) _ a₃.1 in
-    let a₅ = or-none (check5 s) _ a₄.1 in
-    let a₆ = or-none (check6 s) _ a₅.1 in
-    let o = or-false _ _ (if_none 6 _ a₁.0) in
-    let f = or-false _ _ (if_none 6 _ a₅.0) in
+    let a₁ = or_none (check1 s) _ e in
+    let a₂ = or_none (check2 s) _ a₁.1 in
+    let a₃ = or_none (check3 c) _ a₂.1 in
+    let a₄ = or_none (check4 (row_in table c (get_or s 3 0))) _ a₃.1 in
+    let a₅ = or_none (check5 s) _ a₄.1 in
+    let a₆ = or_none (check6 s) _ a₅.1 in
+    let o = or_false _ _ (if_none 6 _ a₁.0) in
+    let f = or_false _ _ (if_none 6 _ a₅.0) in
     record {
       long = ltb-false _ _ o.0;
       small = ltb-false _ _ o.1;
@@ -57,5 +57,5 @@ accepted s e =
       known = if_none 3 _ a₄.0;
       field = eqb-true _ _ (not-false _ f.0);
       walked = a₆.0;
-      pars-ok = a₆.1;
+      pars_ok = a₆.1;
     }

@@ -9,18 +9,18 @@ use lib.Dec.{ltb, eqb}
 use native.Mathlib.Omega.{arith}
 use borrow.Author.Tests.{ne_eqb, eqb-false}
 use Rattle.codec_wire.specs.Number.{be}
-use Rattle.codec_parameter.specs.Table.{table, hasClass, row_in}
+use Rattle.codec_parameter.specs.Table.{table, has_class, row_in}
 use Rattle.laws.specs.Choice.{◌orElse◌, ◌if◌}
-use Rattle.codec_read.specs.Verdict.{most, check2, check3, check4, check5, lastChecks, verdict}
+use Rattle.codec_read.specs.Verdict.{most, check2, check3, check4, check5, last_checks, verdict}
 use Rattle.codec_read.specs.Meaning.{unreadable, outcome, reading_of}
-use Rattle.codec_read.specs.Inner.Seen.{rowCode, rowOutcome, kindOutcome, checksOutcome}
+use Rattle.codec_read.specs.Inner.Seen.{row_code, row_outcome, kind_outcome, checks_outcome}
 use Rattle.codec_read.specs.declared.Reading.{Reading}
 
 -- a check that applies decides; else the rest does
-first-applies : (n : ℕ) (b : Bool) (m : ℕ) (s : List ℕ) → outcome (((suc n) if b) or_else m) s ≡ cond b (unreadable (suc n)) (outcome m s)
+first_applies : (n : ℕ) (b : Bool) (m : ℕ) (s : List ℕ) → outcome (((suc n) if b) or_else m) s ≡ cond b (unreadable (suc n)) (outcome m s)
 unfolding outcome
-first-applies n true m s = rw (ne_eqb (suc n) 0 (λ e. omega arith))
-first-applies n false m s = refl
+first_applies n true m s = rw (ne_eqb (suc n) 0 (λ e. omega arith))
+first_applies n false m s = refl
 
 -- two reasons for one number
 either : {X : Type 0} (a b : Bool) (x y : X) → cond (a || b) x y ≡ cond a x (cond b x y)
@@ -32,40 +32,40 @@ turned true x y = refl
 turned false x y = refl
 
 -- one number for three checks, or one after the other
-in-turn : (listed none same whole : Bool) (s : List ℕ)
-    → (let n = cond (not listed) 3 (cond none 4 (cond same (cond whole 0 7) 7)) in cond (eqb n 0) (outcome (lastChecks s) s) (unreadable n))
-    ≡ cond (not listed) (unreadable 3) (cond none (unreadable 4) (cond same (cond whole (outcome (lastChecks s) s) (unreadable 7)) (unreadable 7)))
-in-turn false none same whole s = refl
-in-turn true true same whole s = refl
-in-turn true false false whole s = refl
-in-turn true false true false s = refl
-in-turn true false true true s = refl
+in_turn_lem : (listed none same whole : Bool) (s : List ℕ)
+    → (let n = cond (not listed) 3 (cond none 4 (cond same (cond whole 0 7) 7)) in cond (eqb n 0) (outcome (last_checks s) s) (unreadable n))
+    ≡ cond (not listed) (unreadable 3) (cond none (unreadable 4) (cond same (cond whole (outcome (last_checks s) s) (unreadable 7)) (unreadable 7)))
+in_turn_lem false none same whole s = refl
+in_turn_lem true true same whole s = refl
+in_turn_lem true false false whole s = refl
+in_turn_lem true false true false s = refl
+in_turn_lem true false true true s = refl
 
-order_row : (s : List ℕ) → outcome (check3 (get_or s 2 0) or_else (check4 (row_in table (get_or s 2 0) (get_or s 3 0)) or_else (check5 s or_else lastChecks s))) s ≡ kindOutcome s
-unfolding rowOutcome rowCode table
+order_row : (s : List ℕ) → outcome (check3 (get_or s 2 0) or_else (check4 (row_in table (get_or s 2 0) (get_or s 3 0)) or_else (check5 s or_else last_checks s))) s ≡ kind_outcome s
+unfolding row_outcome row_code table
 order_row s =
-    first-applies 2 (not (hasClass table (get_or s 2 0))) _ s
-    ∙ ap (cond (not (hasClass table (get_or s 2 0))) (unreadable 3)) (first-applies 3 (eqb (row_in table (get_or s 2 0) (get_or s 3 0)) 17) _ s
-    ∙ ap (cond (eqb (row_in table (get_or s 2 0) (get_or s 3 0)) 17) (unreadable 4)) (first-applies 6 (not (eqb (be 4 s 4) (length s)) || not (eqb (length s % 4) 0)) (lastChecks s) s
-    ∙ either (not (eqb (be 4 s 4) (length s))) (not (eqb (length s % 4) 0)) (unreadable 7) (outcome (lastChecks s) s)
+    first_applies 2 (not (has_class table (get_or s 2 0))) _ s
+    ∙ ap (cond (not (has_class table (get_or s 2 0))) (unreadable 3)) (first_applies 3 (eqb (row_in table (get_or s 2 0) (get_or s 3 0)) 17) _ s
+    ∙ ap (cond (eqb (row_in table (get_or s 2 0) (get_or s 3 0)) 17) (unreadable 4)) (first_applies 6 (not (eqb (be 4 s 4) (length s)) || not (eqb (length s % 4) 0)) (last_checks s) s
+    ∙ either (not (eqb (be 4 s 4) (length s))) (not (eqb (length s % 4) 0)) (unreadable 7) (outcome (last_checks s) s)
     ∙ turned (eqb (be 4 s 4) (length s)) (unreadable 7) _
-    ∙ ap (λ (x : Reading). cond (eqb (be 4 s 4) (length s)) x (unreadable 7)) (turned (eqb (length s % 4) 0) (unreadable 7) (outcome (lastChecks s) s))))
-    ∙ sym (in-turn (hasClass table (get_or s 2 0)) (eqb (row_in table (get_or s 2 0) (get_or s 3 0)) 17) (eqb (be 4 s 4) (length s)) (eqb (length s % 4) 0) s)
+    ∙ ap (λ (x : Reading). cond (eqb (be 4 s 4) (length s)) x (unreadable 7)) (turned (eqb (length s % 4) 0) (unreadable 7) (outcome (last_checks s) s))))
+    ∙ sym (in_turn_lem (has_class table (get_or s 2 0)) (eqb (row_in table (get_or s 2 0) (get_or s 3 0)) 17) (eqb (be 4 s 4) (length s)) (eqb (length s % 4) 0) s)
 
-pub order_same : (s : List ℕ) → checksOutcome s ≡ reading_of s
-unfolding checksOutcome reading_of verdict
+pub order_same : (s : List ℕ) → checks_outcome s ≡ reading_of s
+unfolding checks_outcome reading_of verdict
 order_same s =
     sym
-    (first-applies 6 (ltb (length s) 8 || ltb most (length s)) _ s
+    (first_applies 6 (ltb (length s) 8 || ltb most (length s)) _ s
     ∙ either (ltb (length s) 8) (ltb most (length s)) (unreadable 7) _
-    ∙ ap (λ (x : Reading). cond (ltb (length s) 8) (unreadable 7) (cond (ltb most (length s)) (unreadable 7) x)) (first-applies 0 (not (eqb (get_or s 0 0) 1)) _ s
+    ∙ ap (λ (x : Reading). cond (ltb (length s) 8) (unreadable 7) (cond (ltb most (length s)) (unreadable 7) x)) (first_applies 0 (not (eqb (get_or s 0 0) 1)) _ s
     ∙ turned (eqb (get_or s 0 0) 1) (unreadable 1) _
     ∙ ap (λ (x : Reading). cond (eqb (get_or s 0 0) 1) x (unreadable 1)) (order_row s)))
 
 -- where the checks 3 to 5 find nothing, there is a row
-pub row-known : (listed : Bool) (i n len : ℕ) → i ≤ 17 → rowCode listed i n len ≡ 0 → i < 17
-unfolding rowCode
-row-known listed i n len h e = go listed (eqb i 17) refl e
+pub row_known : (listed : Bool) (i n len : ℕ) → i ≤ 17 → row_code listed i n len ≡ 0 → i < 17
+unfolding row_code
+row_known listed i n len h e = go listed (eqb i 17) refl e
   where
     go : (a b : Bool) → eqb i 17 ≡ b → (let m : ℕ = cond (not a) 3 (cond b 4 (cond (eqb n len) (cond (eqb (len % 4) 0) 0 7) 7)) in m ≡ 0) → i < 17
     go false b q z = omega arith

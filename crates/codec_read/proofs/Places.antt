@@ -10,18 +10,18 @@ use lib.ListN.{length, take, drop, length-take, length-drop}
 use lib.Dec.{eqb}
 use denote.Enum.Declared.{tag_of, declared}
 use Rattle.codec_wire.specs.contracts.Step.{enum}
-use Rattle.codec_wire.specs.Walk.{Par, padded, walk, stepAt}
+use Rattle.codec_wire.specs.Walk.{Par, padded, walk, step_at}
 use Rattle.codec_wire.specs.declared.Step.{Step}
 use Rattle.codec_wire.specs.declared.Step.TheVariants.{Param, End, Fault}
-use Rattle.codec_wire.proofs.Steps.{step-next, Next, pars-next, pars-stop, walk_step}
+use Rattle.codec_wire.proofs.Steps.{step_next, Next, pars_next, pars_stop, walk_step}
 use Rattle.codec_parameter.specs.Table.{key}
 use Rattle.codec_read.specs.declared.DataAt.{DataAt}
 use Rattle.codec_read.specs.declared.Found.{Found}
-use Rattle.codec_read.specs.Meaning.{bodyIn, foundIn, place_of, data_of, dataAt, LiesAt, DataLies}
+use Rattle.codec_read.specs.Meaning.{body_in, found_in, place_of, data_of, data_at, LiesAt, DataLies}
 
 -- a tag counts as 0x300: it is one of the two
-pub data-key : (u : ℕ) → eqb (key u) 0x300 ≡ (eqb u 0x300 || eqb u 0x301)
-data-key u = go (eqb u 0x301) (eqb u 0x300) refl
+pub data_key : (u : ℕ) → eqb (key u) 0x300 ≡ (eqb u 0x300 || eqb u 0x301)
+data_key u = go (eqb u 0x301) (eqb u 0x300) refl
   where
     go : (b c : Bool) → eqb u 0x300 ≡ c → eqb (cond b 0x300 u) 0x300 ≡ (c || b)
     go true true e = refl
@@ -30,50 +30,50 @@ data-key u = go (eqb u 0x301) (eqb u 0x300) refl
     go false false e = e
 
 -- a parameter stands at a position
-module _ (s : List ℕ) (at t l n : ℕ) (e : stepAt s at ≡ Param t l n) where
-  body-length : length (take (at + l - (at + 4)) (drop (at + 4) s)) ≡ at + l - (at + 4)
-  body-length = let k = step-next s at t l n e in simp (length-take, length-drop) (omega arith)
+module _ (s : List ℕ) (at t l n : ℕ) (e : step_at s at ≡ Param t l n) where
+  body_length : length (take (at + l - (at + 4)) (drop (at + 4) s)) ≡ at + l - (at + 4)
+  body_length = let k = step_next s at t l n e in simp (length-take, length-drop) (omega arith)
 
-  next-is : at + padded (4 + (at + l - (at + 4))) ≡ n
-  next-is = let k = step-next s at t l n e in let m : 4 + (at + l - (at + 4)) ≡ l = omega arith in ap (λ (x : ℕ). at + padded x) m ∙ sym k.place
+  next_is : at + padded (4 + (at + l - (at + 4))) ≡ n
+  next_is = let k = step_next s at t l n e in let m : 4 + (at + l - (at + 4)) ≡ l = omega arith in ap (λ (x : ℕ). at + padded x) m ∙ sym k.place
 
-  pub found-next : (x y : ℕ) → foundIn x y at (walk s at).pars ≡ cond (eqb t x || eqb t y) (record { found = 1; tag = t; start = at + 4; length = at + l - (at + 4) }) (foundIn x y n (walk s n).pars)
-  unfolding foundIn
-  found-next x y = rw (pars-next s at t l n e, body-length, next-is)
+  pub found_next : (x y : ℕ) → found_in x y at (walk s at).pars ≡ cond (eqb t x || eqb t y) (record { found = 1; tag = t; start = at + 4; length = at + l - (at + 4) }) (found_in x y n (walk s n).pars)
+  unfolding found_in
+  found_next x y = rw (pars_next s at t l n e, body_length, next_is)
 
-  found-lies : LiesAt s (record { start = at + 4; length = at + l - (at + 4) }) (take (at + l - (at + 4)) (drop (at + 4) s))
-  found-lies = let k = step-next s at t l n e in record { bytes = refl; within = omega arith }
+  found_lies : LiesAt s (record { start = at + 4; length = at + l - (at + 4) }) (take (at + l - (at + 4)) (drop (at + 4) s))
+  found_lies = let k = step_next s at t l n e in record { bytes = refl; within = omega arith }
 
 -- the parameters end there
-pub found-stop : (s : List ℕ) (at x y : ℕ) (w : Step) → stepAt s at ≡ w → (tag_of (declared enum) w ≡ 1) ⊎ (tag_of (declared enum) w ≡ 2)
-    → foundIn x y at (walk s at).pars ≡ record { found = 0; tag = 0; start = 0; length = 0 }
-unfolding foundIn
-found-stop s at x y w e h = ap (foundIn x y at) (pars-stop s at w e h)
+pub found_stop : (s : List ℕ) (at x y : ℕ) (w : Step) → step_at s at ≡ w → (tag_of (declared enum) w ≡ 1) ⊎ (tag_of (declared enum) w ≡ 2)
+    → found_in x y at (walk s at).pars ≡ record { found = 0; tag = 0; start = 0; length = 0 }
+unfolding found_in
+found_stop s at x y w e h = ap (found_in x y at) (pars_stop s at w e h)
 
 either : {s v v' : List ℕ} (d d' : Found) (b : Bool) → LiesAt s (place_of d) v → LiesAt s (place_of d') v' → LiesAt s (place_of (cond b d d')) (cond b v v')
 either d d' true h k = h
 either d d' false h k = k
 
 -- protocol data lies where the walk says
-lies : (s : List ℕ) (at : ℕ) → LiesAt s (place_of (foundIn 0x300 0x301 at (walk s at).pars)) (bodyIn 0x300 (walk s at).pars)
-unfolding foundIn bodyIn
+lies : (s : List ℕ) (at : ℕ) → LiesAt s (place_of (found_in 0x300 0x301 at (walk s at).pars)) (body_in 0x300 (walk s at).pars)
+unfolding found_in body_in
 lies s at = go (suc (length s - at)) at (omega arith)
   where
     nothing : LiesAt s (record { start = 0; length = 0 }) []
     nothing = record { bytes = refl; within = omega arith }
 
-    on : (at : ℕ) (w : Step) → stepAt s at ≡ w → ((n : ℕ) → at < n → n ≤ length s → LiesAt s (place_of (foundIn 0x300 0x301 n (walk s n).pars)) (bodyIn 0x300 (walk s n).pars))
-        → LiesAt s (place_of (foundIn 0x300 0x301 at (walk s at).pars)) (bodyIn 0x300 (walk s at).pars)
+    on : (at : ℕ) (w : Step) → step_at s at ≡ w → ((n : ℕ) → at < n → n ≤ length s → LiesAt s (place_of (found_in 0x300 0x301 n (walk s n).pars)) (body_in 0x300 (walk s n).pars))
+        → LiesAt s (place_of (found_in 0x300 0x301 at (walk s at).pars)) (body_in 0x300 (walk s at).pars)
     on at (Param u l n) e ih =
-        let k : Next s at l n = step-next s at u l n e in
-        rw (pars-next s at u l n e, body-length s at u l n e, next-is s at u l n e, data-key u) (either _ _ (eqb u 0x300 || eqb u 0x301) (found-lies s at u l n e) (ih n (omega arith) (omega arith)))
+        let k : Next s at l n = step_next s at u l n e in
+        rw (pars_next s at u l n e, body_length s at u l n e, next_is s at u l n e, data_key u) (either _ _ (eqb u 0x300 || eqb u 0x301) (found_lies s at u l n e) (ih n (omega arith) (omega arith)))
     on at End e ih = rw (walk_step s at End e) nothing
     on at Fault e ih = rw (walk_step s at Fault e) nothing
 
-    go : (f at : ℕ) → length s - at < f → LiesAt s (place_of (foundIn 0x300 0x301 at (walk s at).pars)) (bodyIn 0x300 (walk s at).pars)
+    go : (f at : ℕ) → length s - at < f → LiesAt s (place_of (found_in 0x300 0x301 at (walk s at).pars)) (body_in 0x300 (walk s at).pars)
     go zero at h = absurd (omega arith)
-    go (suc f) at h = on at (stepAt s at) refl (λ n a b. go f n (omega arith))
+    go (suc f) at h = on at (step_at s at) refl (λ n a b. go f n (omega arith))
 
-pub data-lies : DataLies
-unfolding data_of dataAt
-data-lies s = lies s 8
+pub data_lies : DataLies
+unfolding data_of data_at
+data_lies s = lies s 8

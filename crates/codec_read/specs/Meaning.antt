@@ -4,8 +4,8 @@ use Rattle.std.specs.Prelude.{◌≡◌, ℕ, ◌+◌, ◌≤◌, Bool, true, fa
 use Rattle.laws.specs.Below.{one}
 use Rattle.codec_wire.specs.Walk.{Par, padded, walk}
 use Rattle.codec_parameter.specs.Table.{key}
-use Rattle.codec_parameter.specs.Value.{limitsOf}
-use Rattle.codec_read.specs.Verdict.{has, number, isRetrievalRequest, isRetrievalConfirm, verdict}
+use Rattle.codec_parameter.specs.Value.{limits_of}
+use Rattle.codec_read.specs.Verdict.{has, number, is_retrieval_request, is_retrieval_confirm, verdict}
 use Rattle.codec_read.specs.declared.Reading.{Reading}
 use Rattle.codec_read.specs.declared.DataAt.{DataAt}
 use Rattle.codec_read.specs.declared.Found.{Found}
@@ -61,38 +61,38 @@ reading_of s = outcome (verdict s) s
 -- The sequence number that reading gives: only a Retrieval Request and a Retrieval Confirm have one, within
 -- its limits (Rules 2.16, 2.17); where none is given it is 0.
 pub record SequenceNumber (r : Reading) : Type 0 where
-  pub only : r.sequenced ≡ 1 → (isRetrievalRequest r.class r.msgtype || isRetrievalConfirm r.class r.msgtype) ≡ true
-  pub most : r.sequence ≤ (limitsOf 0x307).high
+  pub only : r.sequenced ≡ 1 → (is_retrieval_request r.class r.msgtype || is_retrieval_confirm r.class r.msgtype) ≡ true
+  pub most : r.sequence ≤ (limits_of 0x307).high
   pub none : r.sequenced ≡ 0 → r.sequence ≡ 0
 
 abbrev pub SequenceNumbers : Type 0
 SequenceNumbers = (s : List ℕ) → SequenceNumber (reading_of s)
 
 -- the value of the first parameter of a tag; nothing where there is none
-unfoldable pub bodyIn : ℕ → List Par → List ℕ
-bodyIn t [] = []
-bodyIn t (p ∷ ps) = cond (eqb (key p.tag) (key t)) p.body (bodyIn t ps)
+unfoldable pub body_in : ℕ → List Par → List ℕ
+body_in t [] = []
+body_in t (p ∷ ps) = cond (eqb (key p.tag) (key t)) p.body (body_in t ps)
 
 -- the first parameter that has one of two tags, if the first of all stands at a position: that there is one,
 -- its tag, and where its value lies
-unfoldable pub foundIn : ℕ → ℕ → ℕ → List Par → Found
-foundIn t u at [] = record { found = 0; tag = 0; start = 0; length = 0 }
-foundIn t u at (p ∷ ps) =
+unfoldable pub found_in : ℕ → ℕ → ℕ → List Par → Found
+found_in t u at [] = record { found = 0; tag = 0; start = 0; length = 0 }
+found_in t u at (p ∷ ps) =
     cond (eqb p.tag t || eqb p.tag u) (record { found = 1; tag = p.tag; start = at + 4; length = length p.body })
-    (foundIn t u (at + padded (4 + length p.body)) ps)
+    (found_in t u (at + padded (4 + length p.body)) ps)
 
 abbrev pub place_of : Found → DataAt
 place_of f = record { start = f.start; length = f.length }
 
 -- the protocol data (Rule 1.7): its bytes, its tag, 0x300 or 0x301, and where the bytes lie in the message
 unfoldable pub data_of : List ℕ → List ℕ
-data_of s = bodyIn 0x300 (walk s 8).pars
+data_of s = body_in 0x300 (walk s 8).pars
 
-unfoldable pub dataTag : List ℕ → ℕ
-dataTag s = (foundIn 0x300 0x301 8 (walk s 8).pars).tag
+unfoldable pub data_tag : List ℕ → ℕ
+data_tag s = (found_in 0x300 0x301 8 (walk s 8).pars).tag
 
-unfoldable pub dataAt : List ℕ → DataAt
-dataAt s = place_of (foundIn 0x300 0x301 8 (walk s 8).pars)
+unfoldable pub data_at : List ℕ → DataAt
+data_at s = place_of (found_in 0x300 0x301 8 (walk s 8).pars)
 
 -- bytes are those that lie in a message at a place
 pub record LiesAt (s : List ℕ) (d : DataAt) (v : List ℕ) : Type 0 where
@@ -101,4 +101,4 @@ pub record LiesAt (s : List ℕ) (d : DataAt) (v : List ℕ) : Type 0 where
 
 -- the two say the same
 abbrev pub DataLies : Type 0
-DataLies = (s : List ℕ) → LiesAt s (dataAt s) (data_of s)
+DataLies = (s : List ℕ) → LiesAt s (data_at s) (data_of s)

@@ -18,11 +18,11 @@ up version len = version ∷ 0x00 ∷ 0x03 ∷ 0x01 ∷ 0x00 ∷ 0x00 ∷ 0x00 �
 
 pub record ReaderSamples : Type 0 where
   -- M is accepted; not with its range turned around, and not with a mode that there is not
-  pub m-reads : verdict (active 1 0x64 0x73) ≡ 0
+  pub m_reads : verdict (active 1 0x64 0x73) ≡ 0
   pub traded : verdict (active 1 0x73 0x64) ≡ 17
-  pub mode-4 : verdict (active 4 0x64 0x73) ≡ 5
+  pub mode_4 : verdict (active 4 0x64 0x73) ≡ 5
   -- nothing at all; an Up; one whose length field says more than there is; the same of another version
   pub no_bytes : verdict [] ≡ 7
-  pub up-reads : verdict (up 1 8) ≡ 0
-  pub up-length-12 : verdict (up 1 12) ≡ 7
-  pub version-2 : verdict (up 2 12) ≡ 1
+  pub up_reads : verdict (up 1 8) ≡ 0
+  pub up_length_12 : verdict (up 1 12) ≡ 7
+  pub version_2 : verdict (up 2 12) ≡ 1

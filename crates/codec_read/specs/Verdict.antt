@@ -5,8 +5,8 @@ use Rattle.std.specs.Prelude.{ℕ, zero, suc, ◌+◌, ◌%◌, Bool, true, fals
 use Rattle.laws.specs.Choice.{◌orElse◌, ◌if◌}
 use Rattle.codec_wire.specs.Number.{be}
 use Rattle.codec_wire.specs.Walk.{Par, walk}
-use Rattle.codec_parameter.specs.Table.{isMandatory, Entry, table, hasClass, row_in, entriesIn, key, usage}
-use Rattle.codec_parameter.specs.Check.{parCode}
+use Rattle.codec_parameter.specs.Table.{is_mandatory, Entry, table, has_class, row_in, entries_in, key, usage}
+use Rattle.codec_parameter.specs.Check.{par_code}
 
 -- the most bytes of a message (Rule 2.1)
 abbrev pub most : ℕ
@@ -38,38 +38,38 @@ is_none (p ∷ ps) = false
 unfoldable pub in_turn : ℕ → List Par → List Par → ℕ
 in_turn i before [] = 0
 in_turn i before (p ∷ ps) =
-    parCode (usage i 0x1) (usage i p.tag) (is_none before) (has p.tag before) p.tag p.body
+    par_code (usage i 0x1) (usage i p.tag) (is_none before) (has p.tag before) p.tag p.body
     or_else in_turn i (before ++ (p ∷ [])) ps
 
 -- ---- check 8
 
 -- each mandatory parameter of a row is there
-unfoldable pub allThere : List Entry → List Par → Bool
-allThere [] ps = true
-allThere (e ∷ es) ps = cond (isMandatory e.use-as) (has e.tag ps && allThere es ps) (allThere es ps)
+unfoldable pub all_there : List Entry → List Par → Bool
+all_there [] ps = true
+all_there (e ∷ es) ps = cond (is_mandatory e.use_as) (has e.tag ps && all_there es ps) (all_there es ps)
 
 -- a sequence number where one is wanted, and only there (Rule 2.17)
 abbrev pub exactly : Bool → Bool → ℕ
 exactly wanted there = cond wanted (cond there 0 22) (cond there 19 0)
 
 -- 6.10, 6.11, and the two retrieval actions (Rule 2.16)
-abbrev pub isRetrievalRequest : ℕ → ℕ → Bool
-isRetrievalRequest c t = eqb c 6 && eqb t 10
+abbrev pub is_retrieval_request : ℕ → ℕ → Bool
+is_retrieval_request c t = eqb c 6 && eqb t 10
 
-abbrev pub isRetrievalConfirm : ℕ → ℕ → Bool
-isRetrievalConfirm c t = eqb c 6 && eqb t 11
+abbrev pub is_retrieval_confirm : ℕ → ℕ → Bool
+is_retrieval_confirm c t = eqb c 6 && eqb t 11
 
-abbrev pub getBsn : ℕ
-getBsn = 1
+abbrev pub get_bsn : ℕ
+get_bsn = 1
 
-abbrev pub getMessages : ℕ
-getMessages = 2
+abbrev pub get_messages : ℕ
+get_messages = 2
 
 -- the sequence number of a Retrieval Request and of a Retrieval Confirm (Rule 2.17)
-unfoldable pub sequenceCode : ℕ → ℕ → List Par → ℕ
-sequenceCode c t ps =
-    cond (isRetrievalRequest c t) (exactly (eqb (number 0x306 ps) getMessages) (has 0x307 ps))
-    (cond (isRetrievalConfirm c t) (exactly (eqb (number 0x306 ps) getBsn && eqb (number 0x308 ps) 0) (has 0x307 ps))
+unfoldable pub sequence_code : ℕ → ℕ → List Par → ℕ
+sequence_code c t ps =
+    cond (is_retrieval_request c t) (exactly (eqb (number 0x306 ps) get_messages) (has 0x307 ps))
+    (cond (is_retrieval_confirm c t) (exactly (eqb (number 0x306 ps) get_bsn && eqb (number 0x308 ps) 0) (has 0x307 ps))
     0)
 
 -- ---- the checks on a whole message
@@ -84,7 +84,7 @@ check2 s = 1 if not (eqb (get_or s 0 0) 1)
 
 -- 3. the class
 abbrev pub check3 : ℕ → ℕ
-check3 c = 3 if not (hasClass table c)
+check3 c = 3 if not (has_class table c)
 
 -- 4. the type: there is no row where the index is the number of rows
 abbrev pub check4 : ℕ → ℕ
@@ -104,15 +104,15 @@ check7 i ps = in_turn i [] ps
 
 -- 8. what is mandatory, then the sequence number
 abbrev pub check8 : ℕ → ℕ → ℕ → List Par → ℕ
-check8 i c t ps = (22 if not (allThere (entriesIn table i) ps)) or_else sequenceCode c t ps
+check8 i c t ps = (22 if not (all_there (entries_in table i) ps)) or_else sequence_code c t ps
 
 -- the checks 7 and 8 of a list of parameters, as the reader and the writer share them
-unfoldable pub parsCode : ℕ → ℕ → List Par → ℕ
-parsCode c t ps = check7 (row_in table c t) ps or_else check8 (row_in table c t) c t ps
+unfoldable pub pars_code : ℕ → ℕ → List Par → ℕ
+pars_code c t ps = check7 (row_in table c t) ps or_else check8 (row_in table c t) c t ps
 
 -- the checks 6 to 8
-unfoldable pub lastChecks : List ℕ → ℕ
-lastChecks s = check6 s or_else parsCode (get_or s 2 0) (get_or s 3 0) (walk s 8).pars
+unfoldable pub last_checks : List ℕ → ℕ
+last_checks s = check6 s or_else pars_code (get_or s 2 0) (get_or s 3 0) (walk s 8).pars
 
 -- the number of the first check that finds something, or 0 (Rule 2.9)
 unfoldable pub verdict : List ℕ → ℕ
@@ -122,4 +122,4 @@ verdict s =
     or_else check3 (get_or s 2 0)
     or_else check4 (row_in table (get_or s 2 0) (get_or s 3 0))
     or_else check5 s
-    or_else lastChecks s
+    or_else last_checks s

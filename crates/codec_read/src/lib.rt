@@ -3,11 +3,11 @@ ghost use Rattle.std.specs.Prelude.{◌≡◌, ◌+◌, ◌≤◌, ◌<◌, cond
 ghost use Rattle.laws.specs.Choice.{◌orElse◌, ◌if◌};
 ghost use Rattle.codec_wire.specs.Walk.{walk};
 ghost use Rattle.codec_parameter.specs.Table.{table, row_in};
-ghost use Rattle.codec_parameter.specs.Inner.Slot.{slot, infoOf};
-ghost use Rattle.codec_read.specs.Verdict.{exactly, head, lastChecks};
+ghost use Rattle.codec_parameter.specs.Inner.Slot.{slot, info_of};
+ghost use Rattle.codec_read.specs.Verdict.{exactly, head, last_checks};
 ghost use Rattle.laws.specs.Below.{one};
-ghost use Rattle.codec_read.specs.Meaning.{unreadable, meaning, outcome, reading_of, foundIn, dataTag, dataAt, data_of};
-ghost use Rattle.codec_read.specs.Inner.Seen.{sequenceAt, end_at, meaningAt, outcomeAt, rowCode, rowOutcome, kindOutcome, checksOutcome, needsNone, is_bare};
+ghost use Rattle.codec_read.specs.Meaning.{unreadable, meaning, outcome, reading_of, found_in, data_tag, data_at, data_of};
+ghost use Rattle.codec_read.specs.Inner.Seen.{sequence_at, end_at, meaning_at, outcome_at, row_code, row_outcome, kind_outcome, checks_outcome, needs_none, is_bare};
 
 use codec_parameter::{NO_ROW, RowInfo};
 use codec_wire::{
@@ -122,7 +122,7 @@ fn exact(wanted: bool, given: bool) -> u32
 
 // The sequence number rules.
 fn sequence_code(c: u8, t: u8, retrieval: u32, res: u32, given: bool) -> u32
-    ensures { result ≡ sequenceAt c t retrieval res given }
+    ensures { result ≡ sequence_at c t retrieval res given }
 {
     if c == LINK_CLASS {
         if t == RETRIEVAL_REQUEST {
@@ -144,7 +144,7 @@ fn sequence_code(c: u8, t: u8, retrieval: u32, res: u32, given: bool) -> u32
 // stores, which takes 5 ns.
 fn meaning_at(c: u8, t: u8, state: u32, met: &[bool; 32], words: &[u32; 32]) -> Reading
     requires { state ≡ get_or words.now (slot 0x302) 0 }
-    ensures { result ≡ meaningAt c t met.now words.now }
+    ensures { result ≡ meaning_at c t met.now words.now }
 {
     Reading {
         code: 0,
@@ -197,7 +197,7 @@ pub fn end_code(musts: u32, c: u8, t: u8, met: &[bool; 32], words: &[u32; 32]) -
 // What a number hands back: the meaning, or the refusal.
 fn outcome_of(code: u32, c: u8, t: u8, state: u32, met: &[bool; 32], words: &[u32; 32]) -> Reading
     requires { state ≡ get_or words.now (slot 0x302) 0 }
-    ensures { result ≡ outcomeAt code c t met.now words.now }
+    ensures { result ≡ outcome_at code c t met.now words.now }
 {
     if code == 0 {
         return meaning_at(c, t, state, met, words);
@@ -207,7 +207,7 @@ fn outcome_of(code: u32, c: u8, t: u8, state: u32, met: &[bool; 32], words: &[u3
 
 // The walk has ended, with the number `fault`.
 fn finish(fault: u32, musts: u32, c: u8, t: u8, met: &[bool; 32], words: &[u32; 32]) -> Reading
-    ensures { result ≡ outcomeAt (fault or_else end_at musts c t met.now words.now) c t met.now words.now }
+    ensures { result ≡ outcome_at (fault or_else end_at musts c t met.now words.now) c t met.now words.now }
 {
     let state = words[STATE];
     outcome_of(
@@ -249,8 +249,8 @@ fn refused_at(s: &[u8], next: usize, code: u32) -> Reading
 
 // The checks 6 to 8 in one walk, of a message whose row is known.
 fn read_pars(s: &[u8], info: RowInfo) -> Reading
-    requires { (8 ≤ length s.now) × ((row_in table (get_or s.now 2 0) (get_or s.now 3 0) < 17) × (info ≡ infoOf (row_in table (get_or s.now 2 0) (get_or s.now 3 0)))) }
-    ensures { result ≡ outcome (lastChecks s.now) s.now }
+    requires { (8 ≤ length s.now) × ((row_in table (get_or s.now 2 0) (get_or s.now 3 0) < 17) × (info ≡ info_of (row_in table (get_or s.now 2 0) (get_or s.now 3 0)))) }
+    ensures { result ≡ outcome (last_checks s.now) s.now }
 {
     let mut met = [false; 32];
     let mut words = [0u32; 32];
@@ -285,7 +285,7 @@ fn read_pars(s: &[u8], info: RowInfo) -> Reading
 
 // The checks 3 to 5, of whether the class is listed, the row, the length field and the number of bytes.
 fn row_code(listed: bool, row: usize, n: u32, len: usize) -> u32
-    ensures { result ≡ rowCode listed row n len }
+    ensures { result ≡ row_code listed row n len }
 {
     if !listed {
         return UNSUPPORTED_CLASS;
@@ -306,7 +306,7 @@ fn row_code(listed: bool, row: usize, n: u32, len: usize) -> u32
 // fields stay in registers.)
 fn read_row(code: u32, row: usize, s: &[u8]) -> Reading
     requires { (8 ≤ length s.now) × ((code ≡ 0 → row < 17) × (row ≡ row_in table (get_or s.now 2 0) (get_or s.now 3 0))) }
-    ensures { result ≡ rowOutcome code s.now }
+    ensures { result ≡ row_outcome code s.now }
 {
     if code != 0 {
         return refused(code);
@@ -317,7 +317,7 @@ fn read_row(code: u32, row: usize, s: &[u8]) -> Reading
 // The checks 3 to 8.
 fn read_kind(s: &[u8]) -> Reading
     requires { 8 ≤ length s.now }
-    ensures { result ≡ kindOutcome s.now }
+    ensures { result ≡ kind_outcome s.now }
 {
     let c = s[2];
     let t = s[3];
@@ -333,7 +333,7 @@ fn read_kind(s: &[u8]) -> Reading
 
 // The checks in their order.
 fn read_checks(s: &[u8]) -> Reading
-    ensures { result ≡ checksOutcome s.now }
+    ensures { result ≡ checks_outcome s.now }
 {
     if s.len() < HEADER {
         return refused(PROTOCOL_ERROR);
@@ -349,7 +349,7 @@ fn read_checks(s: &[u8]) -> Reading
 
 // The types of which a message may have no parameter: all of the classes 3 and 4.
 fn needs_none(c: u8, t: u8) -> bool
-    ensures { result ≡ needsNone c t }
+    ensures { result ≡ needs_none c t }
 {
     ((c == 3) & ((1 <= t) & (t <= 6))) | ((c == 4) & ((1 <= t) & (t <= 4)))
 }
@@ -406,7 +406,7 @@ pub struct Found {
 
 // The first parameter that has one of two tags, from a position on.
 pub fn find(s: &[u8], from: usize, t: u16, u: u16) -> Found
-    ensures { result ≡ foundIn t u from (walk s.now from).pars }
+    ensures { result ≡ found_in t u from (walk s.now from).pars }
 {
     let mut at = from;
     loop {
@@ -436,14 +436,14 @@ pub fn find(s: &[u8], from: usize, t: u16, u: u16) -> Found
 // The protocol data of a message, the SS7 signalling unit: the value of the first 0x300 or 0x301 (Rule 1.7),
 // and which of the two it is.
 pub fn data_unit(s: &[u8]) -> Found
-    ensures { (result.tag ≡ dataTag s.now) × (result.start ≡ (dataAt s.now).start) × (result.length ≡ (dataAt s.now).length) }
+    ensures { (result.tag ≡ data_tag s.now) × (result.start ≡ (data_at s.now).start) × (result.length ≡ (data_at s.now).length) }
 {
     find(s, HEADER, 0x300, 0x301)
 }
 
 // Where the protocol data of a message lies.
 pub fn data_at(s: &[u8]) -> DataAt
-    ensures { result ≡ dataAt s.now }
+    ensures { result ≡ data_at s.now }
 {
     let u = data_unit(s);
     DataAt {

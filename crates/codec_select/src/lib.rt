@@ -1,7 +1,7 @@
 // The parameters of a received message that go out again.
 ghost use Rattle.std.specs.Prelude.{◌≡◌, ◌+◌, ◌≤◌, length};
 ghost use Rattle.codec_wire.specs.Walk.{walk};
-ghost use Rattle.codec_put.specs.Bytes.{parsBytes};
+ghost use Rattle.codec_put.specs.Bytes.{pars_bytes};
 ghost use Rattle.codec_select.specs.Only.{only};
 ghost use Rattle.codec_select.specs.Inner.Picks.{picks, PutPars};
 
@@ -40,7 +40,7 @@ fn picked(which: Which, tag: u16) -> bool
 
 // How many bytes the picked parameters of a message take.
 fn walk_size(msg: &[u8], which: Which) -> usize
-    ensures { (result ≡ length (parsBytes (only (picks which) (walk msg.now 8).pars))) × (result ≤ length msg.now) }
+    ensures { (result ≡ length (pars_bytes (only (picks which) (walk msg.now 8).pars))) × (result ≤ length msg.now) }
 {
     let mut at: usize = HEADER;
     let mut size: usize = 0;
@@ -58,7 +58,7 @@ fn walk_size(msg: &[u8], which: Which) -> usize
 
 // The same; where none are wanted there is no walk.
 pub fn picked_size(msg: &[u8], which: Which) -> usize
-    ensures { (result ≡ length (parsBytes (only (picks which) (walk msg.now 8).pars))) × (result ≤ length msg.now) }
+    ensures { (result ≡ length (pars_bytes (only (picks which) (walk msg.now 8).pars))) × (result ≤ length msg.now) }
 {
     if let Which::Nothing = which {
         return 0;
@@ -68,7 +68,7 @@ pub fn picked_size(msg: &[u8], which: Which) -> usize
 
 // The picked parameters of a message, copied from it to a position on; the position after them.
 fn copy_picked(out: &mut [u8], from: usize, msg: &[u8], which: Which) -> usize
-    requires { from + length (parsBytes (only (picks which) (walk msg.now 8).pars)) ≤ length out.old }
+    requires { from + length (pars_bytes (only (picks which) (walk msg.now 8).pars)) ≤ length out.old }
     ensures { PutPars out.old from (only (picks which) (walk msg.now 8).pars) result out.new }
 {
     let mut at = from;
@@ -89,7 +89,7 @@ fn copy_picked(out: &mut [u8], from: usize, msg: &[u8], which: Which) -> usize
 
 // The same; where none are wanted there is no walk.
 pub fn put_picked(out: &mut [u8], at: usize, msg: &[u8], which: Which) -> usize
-    requires { at + length (parsBytes (only (picks which) (walk msg.now 8).pars)) ≤ length out.old }
+    requires { at + length (pars_bytes (only (picks which) (walk msg.now 8).pars)) ≤ length out.old }
     ensures { PutPars out.old at (only (picks which) (walk msg.now 8).pars) result out.new }
 {
     if let Which::Nothing = which {

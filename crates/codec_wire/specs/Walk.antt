@@ -11,8 +11,8 @@ padded n = (n + 3) / 4 * 4
 
 -- What stands at a position (Rules 1.3 and 1.5): the end, a fault, or a parameter with its tag, its length
 -- field and the position behind its padding.
-unfoldable pub stepAt : List ℕ → ℕ → Step
-stepAt s at =
+unfoldable pub step_at : List ℕ → ℕ → Step
+step_at s at =
     cond (leb (length s) at) End
     (cond (ltb (length s - at) 4) Fault
     (cond (ltb (be 2 s (at + 2)) 4) Fault
@@ -26,10 +26,10 @@ pub record Par : Type 0 where
   pub body : List ℕ
 
 -- the number of a reading (Rule 1.5)
-abbrev pub stepCode : Step → ℕ
-stepCode (Param t l n) = 0
-stepCode End = 0
-stepCode Fault = 18
+abbrev pub step_code : Step → ℕ
+step_code (Param t l n) = 0
+step_code End = 0
+step_code Fault = 18
 
 -- what a walk finds: the parameters up to the end or the fault that stops it, and the number of that
 pub record Walk : Type 0 where
@@ -38,20 +38,20 @@ pub record Walk : Type 0 where
 
 -- one reading, and the walk from the next position on. A value lies behind tag and length, without the
 -- padding (Rule 1.6).
-abbrev pub onStep : List ℕ → ℕ → Step → (ℕ → Walk) → Walk
-onStep s at (Param t l n) rest =
+abbrev pub on_step : List ℕ → ℕ → Step → (ℕ → Walk) → Walk
+on_step s at (Param t l n) rest =
     record { pars = record { tag = t; body = take (l - 4) (drop (at + 4) s) } ∷ (rest n).pars; code = (rest n).code }
-onStep s at End rest = record { pars = []; code = stepCode End }
-onStep s at Fault rest = record { pars = []; code = stepCode Fault }
+on_step s at End rest = record { pars = []; code = step_code End }
+on_step s at Fault rest = record { pars = []; code = step_code Fault }
 
 -- the walk in at most so many readings
-unfoldable pub walkF : ℕ → List ℕ → ℕ → Walk
-walkF zero s at = record { pars = []; code = stepCode Fault }
-walkF (suc f) s at = onStep s at (stepAt s at) (walkF f s)
+unfoldable pub walk_f : ℕ → List ℕ → ℕ → Walk
+walk_f zero s at = record { pars = []; code = step_code Fault }
+walk_f (suc f) s at = on_step s at (step_at s at) (walk_f f s)
 
 -- the walk from a position on. Each parameter takes four bytes at least, so the count never runs out.
 unfoldable pub walk : List ℕ → ℕ → Walk
-walk s at = walkF (suc (length s - at)) s at
+walk s at = walk_f (suc (length s - at)) s at
 
 -- the value of the parameter at a position, whose length field is len; nothing where it does not lie within
 -- the message (Rule 1.6)

@@ -1,7 +1,7 @@
 // The wire format below the messages: big-endian numbers, the walk over parameters, the reading place.
 ghost use Rattle.std.specs.Prelude.{◌≡◌, ◌+◌, ◌≤◌, length};
 ghost use Rattle.codec_wire.specs.Number.{be};
-ghost use Rattle.codec_wire.specs.Walk.{stepAt, stepCode, walk, part_of};
+ghost use Rattle.codec_wire.specs.Walk.{step_at, step_code, walk, part_of};
 
 // The bytes of a message's header; the first parameter stands behind them.
 pub const HEADER: usize = 8;
@@ -56,7 +56,7 @@ pub fn get32(s: &[u8], at: usize) -> u32
 
 // What stands at a position.
 pub fn step_at(s: &[u8], at: usize) -> Step
-    ensures { result ≡ stepAt s.now at }
+    ensures { result ≡ step_at s.now at }
 {
     if s.len() <= at {
         return Step::End;
@@ -84,7 +84,7 @@ pub fn step_at(s: &[u8], at: usize) -> Step
 
 // The number of a reading: that of a fault, or 0.
 pub fn step_code(w: Step) -> u32
-    ensures { result ≡ stepCode w }
+    ensures { result ≡ step_code w }
 {
     match w {
         Step::Fault => FIELD_ERROR,
@@ -150,7 +150,7 @@ pub fn place_at<'a>(msg: &'a [u8], at: usize) -> Place<'a>
 
 // What stands at the place.
 pub fn reading<'a>(p: Place<'a>) -> Step
-    ensures { result ≡ stepAt p.entry.msg.now p.entry.at }
+    ensures { result ≡ step_at p.entry.msg.now p.entry.at }
 {
     step_at(p.msg, p.at)
 }
@@ -165,7 +165,7 @@ pub fn value<'a>(p: Place<'a>, len: usize) -> &'a [u8]
 
 // What stands at a position, read by a place made there.
 pub fn reading_at(s: &[u8], at: usize) -> Step
-    ensures { result ≡ stepAt s.now at }
+    ensures { result ≡ step_at s.now at }
 {
     reading(place_at(s, at))
 }

@@ -6,7 +6,7 @@ use Rattle.codec_wire.specs.Walk.{Par, Walk, walk, padded}
 use Rattle.codec_read.specs.Verdict.{verdict}
 use Rattle.codec_read.specs.Meaning.{meaning, reading_of}
 use Rattle.codec_put.specs.Bytes.{overlay}
-use Rattle.codec_write.specs.Encode.{encode, parsIn, whole, tagsOf, lens_of, values_of}
+use Rattle.codec_write.specs.Encode.{encode, pars_in, whole, tags_of, lens_of, values_of}
 use Rattle.codec_write.specs.Write.{Writes}
 use Rattle.codec_write.specs.declared.Written.{Written}
 
@@ -21,15 +21,15 @@ pub record ReadsBack (c t : ℕ) (ps : List Par) (s : List ℕ) : Type 0 where
 
 -- the position i is padding of one of the parameters ps, which stand one after the other from the position
 -- `at` on: it lies behind the parameter's length and before its padded end
-unfoldable pub isPadding : ℕ → List Par → ℕ → Bool
-isPadding at [] i = false
-isPadding at (p ∷ ps) i =
+unfoldable pub is_padding : ℕ → List Par → ℕ → Bool
+is_padding at [] i = false
+is_padding at (p ∷ ps) i =
     (leb (at + (4 + length p.body)) i && ltb i (at + padded (4 + length p.body)))
-    || isPadding (at + padded (4 + length p.body)) ps i
+    || is_padding (at + padded (4 + length p.body)) ps i
 
 -- a message with the spare byte, its second, and the padding zeroed; every other byte as it was
 unfoldable pub plain : List ℕ → List ℕ
-plain s = tabulate (length s) (λ i. cond (eqb i 1 || isPadding 8 (walk s 8).pars i) 0 (get_or s i 0))
+plain s = tabulate (length s) (λ i. cond (eqb i 1 || is_padding 8 (walk s 8).pars i) 0 (get_or s i 0))
 
 -- a list of bytes
 pub record Bytes (s : List ℕ) : Type 0 where
@@ -45,8 +45,8 @@ pub record WritesBack (s : List ℕ) : Type 0 where
 -- a write that gave a buffer the message s with spare and padding zeroed
 pub record WrittenBack (s out : List ℕ) (r : Written) (out' : List ℕ) : Type 0 where
   pub code_is : r.code ≡ 0
-  pub length-is : r.length ≡ length s
-  pub bytes-are : out' ≡ overlay out 0 (plain s)
+  pub length_is : r.length ≡ length s
+  pub bytes_are : out' ≡ overlay out 0 (plain s)
 
 -- ---- the laws (proofs/RoundTrip.antt)
 
@@ -58,7 +58,7 @@ WalkGivesList = (c t : ℕ) (ps : List Par) → walk (encode c t ps) 8 ≡ recor
 abbrev pub ReadingGivesList : Type 0
 ReadingGivesList =
     (c t : ℕ) (ts ns vs out : List ℕ) (r : Written) (out' : List ℕ) → Writes c t ts ns vs out r out' → r.code ≡ 0
-    → ReadsBack c t (parsIn ts ns vs) (take r.length out')
+    → ReadsBack c t (pars_in ts ns vs) (take r.length out')
 
 -- Every message that is accepted is written back (Rule 3.7).
 abbrev pub WritingGivesBytes : Type 0
@@ -68,10 +68,10 @@ WritingGivesBytes = (s : List ℕ) → Bytes s → verdict s ≡ 0 → WritesBac
 -- parameters that the walk over s finds, and a buffer that is not shorter than s.
 abbrev pub WriteGivesBytes : Type 0
 WriteGivesBytes =
-    (s ts ns vs out : List ℕ) (r : Written) (out' : List ℕ) → Bytes s → verdict s ≡ 0 → whole ts ns vs ≡ true → parsIn ts ns vs ≡ (walk s 8).pars → length s ≤ length out
+    (s ts ns vs out : List ℕ) (r : Written) (out' : List ℕ) → Bytes s → verdict s ≡ 0 → whole ts ns vs ≡ true → pars_in ts ns vs ≡ (walk s 8).pars → length s ≤ length out
     → Writes (get_or s 2 0) (get_or s 3 0) ts ns vs out r out' → WrittenBack s out r out'
 
 -- Every list of parameters can be lent (Rule 3.8).
 abbrev pub EveryListLent : Type 0
 EveryListLent =
-    (ps : List Par) → (whole (tagsOf ps) (lens_of ps) (values_of ps) ≡ true) × (parsIn (tagsOf ps) (lens_of ps) (values_of ps) ≡ ps)
+    (ps : List Par) → (whole (tags_of ps) (lens_of ps) (values_of ps) ≡ true) × (pars_in (tags_of ps) (lens_of ps) (values_of ps) ≡ ps)

@@ -1,11 +1,11 @@
 // Writes M2UA messages from a lent list of tags and values.
 ghost use Rattle.std.specs.Prelude.{◌≡◌, ◌+◌, ◌≤◌, ◌<◌, length};
-ghost use Rattle.codec_parameter.specs.Table.{table, hasClass, row_in};
-ghost use Rattle.codec_parameter.specs.Inner.Slot.{infoOf};
-ghost use Rattle.codec_put.specs.Bytes.{overlay, parsBytes};
-ghost use Rattle.codec_write.specs.Encode.{encode, parsIn};
+ghost use Rattle.codec_parameter.specs.Table.{table, has_class, row_in};
+ghost use Rattle.codec_parameter.specs.Inner.Slot.{info_of};
+ghost use Rattle.codec_put.specs.Bytes.{overlay, pars_bytes};
+ghost use Rattle.codec_write.specs.Encode.{encode, pars_in};
 ghost use Rattle.codec_write.specs.Write.{Writes};
-ghost use Rattle.codec_write.specs.Inner.Write.{sizeIf, Lent, Fits, rowCode, listVerdict, roomCode, Emits};
+ghost use Rattle.codec_write.specs.Inner.Write.{size_if, Lent, Fits, row_code, list_verdict, room_code, Emits};
 
 use codec_parameter::{NO_ROW, RowInfo};
 use codec_wire::{HEADER, MOST, PROTOCOL_ERROR, UNSUPPORTED_CLASS, UNSUPPORTED_TYPE};
@@ -26,7 +26,7 @@ pub struct Written {
 // The length of the message of a whole list; 0 where the list is not whole or the message is over 2,048
 // bytes.
 fn size_of(tags: usize, lens: &[u32], values: usize) -> usize
-    ensures { result ≡ sizeIf tags lens.now values }
+    ensures { result ≡ size_if tags lens.now values }
 {
     if lens.len() != tags {
         return 0;
@@ -58,8 +58,8 @@ fn list_code(
     lens: &[u32],
     values: &[u8],
 ) -> u32
-    requires { (row_in table class msgtype < 17) × (info ≡ infoOf (row_in table class msgtype)) × Lent tags.now lens.now values.now }
-    ensures { result ≡ rowCode (row_in table class msgtype) class msgtype (parsIn tags.now lens.now values.now) }
+    requires { (row_in table class msgtype < 17) × (info ≡ info_of (row_in table class msgtype)) × Lent tags.now lens.now values.now }
+    ensures { result ≡ row_code (row_in table class msgtype) class msgtype (pars_in tags.now lens.now values.now) }
 {
     let mut met = [false; 32];
     let mut words = [0u32; 32];
@@ -95,8 +95,8 @@ fn verdict_of(
     lens: &[u32],
     values: &[u8],
 ) -> u32
-    requires { (row ≤ 17) × (row ≡ row_in table class msgtype) × (size ≡ sizeIf (length tags.now) lens.now (length values.now)) }
-    ensures { result ≡ listVerdict size listed row class msgtype (parsIn tags.now lens.now values.now) }
+    requires { (row ≤ 17) × (row ≡ row_in table class msgtype) × (size ≡ size_if (length tags.now) lens.now (length values.now)) }
+    ensures { result ≡ list_verdict size listed row class msgtype (pars_in tags.now lens.now values.now) }
 {
     if size == 0 {
         return PROTOCOL_ERROR;
@@ -119,7 +119,7 @@ fn verdict_of(
 
 // The reader's number, then 103 where a buffer of so many bytes is short.
 fn with_room(verdict: u32, size: usize, room: usize) -> u32
-    ensures { result ≡ roomCode verdict size room }
+    ensures { result ≡ room_code verdict size room }
 {
     if verdict != 0 {
         return verdict;
@@ -133,7 +133,7 @@ fn with_room(verdict: u32, size: usize, room: usize) -> u32
 // The parameters of a list, written behind the header.
 fn put_pars(out: &mut [u8], size: usize, tags: &[u16], lens: &[u32], values: &[u8])
     requires { Fits tags.now lens.now values.now size out.old }
-    ensures { out.new ≡ overlay out.old 8 (parsBytes (parsIn tags.now lens.now values.now)) }
+    ensures { out.new ≡ overlay out.old 8 (pars_bytes (pars_in tags.now lens.now values.now)) }
 {
     let mut at: usize = HEADER;
     let mut i: usize = 0;
@@ -157,7 +157,7 @@ fn put_message(
     values: &[u8],
 )
     requires { Fits tags.now lens.now values.now size out.old }
-    ensures { out.new ≡ overlay out.old 0 (encode class msgtype (parsIn tags.now lens.now values.now)) }
+    ensures { out.new ≡ overlay out.old 0 (encode class msgtype (pars_in tags.now lens.now values.now)) }
 {
     codec_put::put_header(out, 0, class, msgtype, size as u32);
     put_pars(out, size, tags, lens, values);
@@ -175,7 +175,7 @@ fn emit(
     out: &mut [u8],
 ) -> Written
     requires { refusal ≡ 0 → Fits tags.now lens.now values.now size out.old }
-    ensures { Emits refusal size class msgtype (parsIn tags.now lens.now values.now) out.old result out.new }
+    ensures { Emits refusal size class msgtype (pars_in tags.now lens.now values.now) out.old result out.new }
 {
     if refusal != 0 {
         return Written {
@@ -192,8 +192,8 @@ fn emit(
 
 // The number of a list: the reader's.
 fn code_of(size: usize, class: u8, msgtype: u8, tags: &[u16], lens: &[u32], values: &[u8]) -> u32
-    requires { size ≡ sizeIf (length tags.now) lens.now (length values.now) }
-    ensures { result ≡ listVerdict size (hasClass table class) (row_in table class msgtype) class msgtype (parsIn tags.now lens.now values.now) }
+    requires { size ≡ size_if (length tags.now) lens.now (length values.now) }
+    ensures { result ≡ list_verdict size (has_class table class) (row_in table class msgtype) class msgtype (pars_in tags.now lens.now values.now) }
 {
     verdict_of(
         size,

@@ -3,10 +3,10 @@
 ghost use Rattle.std.specs.Prelude.{◌≡◌, true, ◌||◌, ◌<◌, ◌≤◌, eqb};
 ghost use Rattle.state_tables.specs.Sound.{ascends};
 ghost use Rattle.rules_event.specs.Event.{lending};
-ghost use Rattle.rules_event.specs.Rules.{refusalOf};
-ghost use Rattle.event_asked.specs.Inner.Ask.{askOf, Asks};
+ghost use Rattle.rules_event.specs.Rules.{refusal_of};
+ghost use Rattle.event_asked.specs.Inner.Ask.{ask_of, Asks};
 ghost use Rattle.event_links.specs.Inner.Records.{Placed, link_in};
-ghost use Rattle.event_asked.specs.Inner.Place.{aspIn, aspNamed, known_in, Named};
+ghost use Rattle.event_asked.specs.Inner.Place.{asp_in, asp_named, known_in, Named};
 
 use codec_read::Reading;
 use rules_event::Link;
@@ -49,7 +49,7 @@ pub enum Ask {
 
 // Rule 6.3: 105, then 102, then 106, then 101; known is that what the event names is in the plan.
 fn refusal(sound: bool, known: bool, hold: usize, room: usize) -> u32
-    ensures { result ≡ refusalOf sound known (lending room hold) }
+    ensures { result ≡ refusal_of sound known (lending room hold) }
 {
     if sound {
         if known {
@@ -77,7 +77,7 @@ pub struct Place {
 
 // The index of an ASP, where there is such a place.
 fn asp_in(p: usize) -> usize
-    ensures { result ≡ aspIn p }
+    ensures { result ≡ asp_in p }
 {
     if p < 16 { p } else { 0 }
 }
@@ -113,7 +113,7 @@ fn place_in(iid: &[u32; 128], links: usize, r: Reading, asp: usize) -> Place
 
 fn place_by(iid: &[u32; 128], links: usize, ask: Ask) -> Place
     requires { (links ≤ 128) × (ascends iid.now links ≡ true) }
-    ensures { Named links iid.now ask result.there result.index × (result.asp ≡ aspIn (aspNamed ask)) }
+    ensures { Named links iid.now ask result.there result.index × (result.asp ≡ asp_in (asp_named ask)) }
 {
     match ask {
         Ask::Up(p, _) => place_at(links, links, asp_in(p)),
@@ -131,7 +131,7 @@ fn place_by(iid: &[u32; 128], links: usize, ask: Ask) -> Place
 // The one place where a link's identifier is looked up; only where the state is sound.
 pub fn placed(sound: bool, links: u8, iid: &[u32; 128], ask: Ask) -> Place
     requires { sound ≡ true → (links ≤ 128) × (ascends iid.now links ≡ true) }
-    ensures { (result.index < 128) × (sound ≡ true → Named links iid.now ask result.there result.index) × (result.asp < 16) × (sound ≡ true → result.asp ≡ aspIn (aspNamed ask)) }
+    ensures { (result.index < 128) × (sound ≡ true → Named links iid.now ask result.there result.index) × (result.asp < 16) × (sound ≡ true → result.asp ≡ asp_in (asp_named ask)) }
 {
     if !sound {
         return Place {
@@ -172,7 +172,7 @@ pub fn refused(
     hold: usize,
     room: usize,
 ) -> u32
-    ensures { result ≡ refusalOf sound (known_in asps ases there k ask) (lending room hold) }
+    ensures { result ≡ refusal_of sound (known_in asps ases there k ask) (lending room hold) }
 {
     let known = is_known(
         ask,
@@ -188,7 +188,7 @@ pub fn refused(
 
 // The message of an ASP, by its class and type.
 fn ask_of(p: usize, t: u32, error: bool, read: Reading) -> Ask
-    ensures { result ≡ askOf p t error read }
+    ensures { result ≡ ask_of p t error read }
 {
     if t == rules_action::ASP_UP {
         return Ask::Up(p, read);

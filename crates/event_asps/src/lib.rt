@@ -2,15 +2,15 @@
 ghost use Rattle.std.specs.Prelude.{◌≡◌, cond, not, ◌&&◌, [], ◌∷◌, ◌<◌, eqb};
 ghost use Rattle.laws.specs.Columns.{tabulate};
 ghost use Rattle.rules_action.specs.Words.{action};
-ghost use Rattle.state_sets.specs.Inner.Bits.{flagsOf};
+ghost use Rattle.state_sets.specs.Inner.Bits.{flags_of};
 ghost use Rattle.rules_server.specs.Record.{some};
-ghost use Rattle.rules_servers.specs.Changed.{columnOf};
+ghost use Rattle.rules_servers.specs.Changed.{column_of};
 ghost use Rattle.rules_server.specs.declared.Change.TheVariants.{AspUp, Recover};
-ghost use Rattle.rules_event.specs.Effect.{changeIn};
-ghost use Rattle.rules_event.specs.Records.{aspAt};
-ghost use Rattle.rules_event.specs.Asp.{upEffect, downEffect, lostEffect};
+ghost use Rattle.rules_event.specs.Effect.{change_in};
+ghost use Rattle.rules_event.specs.Records.{asp_at};
+ghost use Rattle.rules_event.specs.Asp.{up_effect, down_effect, lost_effect};
 ghost use Rattle.event_decision.specs.Inner.Decides.{Decides, DecidesOn};
-ghost use Rattle.rules_action.specs.Types.{aspUpAck};
+ghost use Rattle.rules_action.specs.Types.{asp_up_ack};
 
 use codec_read::Reading;
 use rules_event::{Asp, Decision};
@@ -20,7 +20,7 @@ use rules_servers::column_of;
 // The ASes of ASP p, as a set.
 pub fn ases_of(member: &[u8; 256], p: usize) -> u32
     requires { p < 16 }
-    ensures { flagsOf result ≡ columnOf member.now p }
+    ensures { flags_of result ≡ column_of member.now p }
 {
     let mut r: u32 = 0;
     for a in 0..16usize {
@@ -45,7 +45,7 @@ pub fn only(a: usize) -> [bool; 16]
 // Up that is taken (Rule 7.4): was says that p was active in some AS, mine are its ASes.
 fn rise(p: usize, was: bool, mine: [bool; 16]) -> Decision
     requires { p < 16 }
-    ensures { Decides result (changeIn (action p aspUpAck 0 0 ∷ cond was (action p 0 0 6 ∷ []) []) (AspUp p) mine) }
+    ensures { Decides result (change_in (action p asp_up_ack 0 0 ∷ cond was (action p 0 0 6 ∷ []) []) (AspUp p) mine) }
 {
     let ack = event_decision::to_asp(p, rules_action::ASP_UP_ACK, 0, 0);
     if was {
@@ -71,7 +71,7 @@ pub fn up_work<'a>(
     r: Reading,
 ) -> Decision
     requires { p < 16 }
-    ensures { DecidesOn (λ g. (aspAt g p ≡ s) × (g.member ≡ member.now) × (g.active ≡ active.now)) (λ g. upEffect g p r) result }
+    ensures { DecidesOn (λ g. (asp_at g p ≡ s) × (g.member ≡ member.now) × (g.active ≡ active.now)) (λ g. up_effect g p r) result }
 {
     if is_other(r, s.id) {
         return event_decision::error(p, 15);
@@ -82,7 +82,7 @@ pub fn up_work<'a>(
 // Down (Rule 7.5).
 pub fn down_work(member: &[u8; 256], p: usize) -> Decision
     requires { p < 16 }
-    ensures { DecidesOn (λ g. g.member ≡ member.now) (λ g. downEffect g p) result }
+    ensures { DecidesOn (λ g. g.member ≡ member.now) (λ g. down_effect g p) result }
 {
     event_decision::change_one(
         event_decision::to_asp(p, rules_action::ASP_DOWN_ACK, 0, 0),
@@ -94,14 +94,14 @@ pub fn down_work(member: &[u8; 256], p: usize) -> Decision
 // The association is lost (Rule 7.6).
 pub fn lost_work(member: &[u8; 256], p: usize) -> Decision
     requires { p < 16 }
-    ensures { DecidesOn (λ g. g.member ≡ member.now) (λ g. lostEffect g p) result }
+    ensures { DecidesOn (λ g. g.member ≡ member.now) (λ g. lost_effect g p) result }
 {
     event_decision::change_only(Change::AspDown(p), column_of(member, p))
 }
 
 // The recovery time is over (Rule 7.13).
 pub fn recovery_work(a: usize) -> Decision
-    ensures { Decides result (changeIn [] Recover (tabulate 16 (λ c. eqb c a))) }
+    ensures { Decides result (change_in [] Recover (tabulate 16 (λ c. eqb c a))) }
 {
     event_decision::change_only(Change::Recover, only(a))
 }

@@ -1,8 +1,8 @@
 // Makes the struct `Decision`, one function for each shape of effect.
 ghost use Rattle.std.specs.Prelude.{◌≡◌, [], ◌∷◌, ◌<◌};
-ghost use Rattle.rules_action.specs.Words.{action, linkSide, toAll};
-ghost use Rattle.rules_event.specs.Effect.{send, setLink, changeIn, takeIn};
-ghost use Rattle.event_decision.specs.Inner.Decides.{Decides, aspOf};
+ghost use Rattle.rules_action.specs.Words.{action, link_side, to_all};
+ghost use Rattle.rules_event.specs.Effect.{send, set_link, change_in, take_in};
+ghost use Rattle.event_decision.specs.Inner.Decides.{Decides, asp_of};
 
 use rules_action::Action;
 use rules_event::Decision;
@@ -34,7 +34,7 @@ pub fn to_asp(p: usize, classtype: u32, subject: u32, value: u32) -> Action
 
 // An action to the link side.
 pub fn to_link(classtype: u32, subject: u32, value: u32) -> Action
-    ensures { result ≡ action linkSide classtype subject value }
+    ensures { result ≡ action link_side classtype subject value }
 {
     Action {
         to: 255,
@@ -122,7 +122,7 @@ pub fn error_two(p: usize, id: u32) -> Decision
 
 // An order to the link side.
 pub fn order(classtype: u32, subject: u32, value: u32) -> Decision
-    ensures { Decides result (send (action linkSide classtype subject value ∷ [])) }
+    ensures { Decides result (send (action link_side classtype subject value ∷ [])) }
 {
     say_one(to_link(classtype, subject, value))
 }
@@ -130,7 +130,7 @@ pub fn order(classtype: u32, subject: u32, value: u32) -> Decision
 // The link at an index comes to a state, with an action.
 fn turn_one(l: usize, v: u8, a: Action) -> Decision
     requires { l < 128 }
-    ensures { Decides result (setLink l v (a ∷ [])) }
+    ensures { Decides result (set_link l v (a ∷ [])) }
 {
     Decision {
         what: 1,
@@ -148,14 +148,14 @@ fn turn_one(l: usize, v: u8, a: Action) -> Decision
 // The link at an index comes to a state, with an order to the link side.
 pub fn turn_and_send(l: usize, v: u8, classtype: u32, subject: u32) -> Decision
     requires { l < 128 }
-    ensures { Decides result (setLink l v (action linkSide classtype subject 0 ∷ [])) }
+    ensures { Decides result (set_link l v (action link_side classtype subject 0 ∷ [])) }
 {
     turn_one(l, v, to_link(classtype, subject, 0))
 }
 
 // An action to each ASP of `who`.
 pub fn spread(who: [bool; 16], classtype: u32, subject: u32) -> Decision
-    ensures { Decides result (send (toAll who classtype subject 0)) }
+    ensures { Decides result (send (to_all who classtype subject 0)) }
 {
     let a = to_link(classtype, subject, 0);
     Decision {
@@ -174,7 +174,7 @@ pub fn spread(who: [bool; 16], classtype: u32, subject: u32) -> Decision
 // The link at an index comes to a state, with an action to each ASP of `who`.
 pub fn turn_spread(l: usize, v: u8, who: [bool; 16], classtype: u32, subject: u32) -> Decision
     requires { l < 128 }
-    ensures { Decides result (setLink l v (toAll who classtype subject 0)) }
+    ensures { Decides result (set_link l v (to_all who classtype subject 0)) }
 {
     let a = to_link(classtype, subject, 0);
     Decision {
@@ -192,8 +192,8 @@ pub fn turn_spread(l: usize, v: u8, who: [bool; 16], classtype: u32, subject: u3
 
 // A change in the ASes of `who`, without a reply.
 pub fn change_only(k: Change, who: [bool; 16]) -> Decision
-    requires { aspOf k < 16 }
-    ensures { Decides result (changeIn [] k who) }
+    requires { asp_of k < 16 }
+    ensures { Decides result (change_in [] k who) }
 {
     let none = to_link(0, 0, 0);
     Decision {
@@ -211,8 +211,8 @@ pub fn change_only(k: Change, who: [bool; 16]) -> Decision
 
 // A change after one reply.
 pub fn change_one(a: Action, k: Change, who: [bool; 16]) -> Decision
-    requires { aspOf k < 16 }
-    ensures { Decides result (changeIn (a ∷ []) k who) }
+    requires { asp_of k < 16 }
+    ensures { Decides result (change_in (a ∷ []) k who) }
 {
     Decision {
         what: 2,
@@ -229,8 +229,8 @@ pub fn change_one(a: Action, k: Change, who: [bool; 16]) -> Decision
 
 // A change after two replies.
 pub fn change_two(a: Action, b: Action, k: Change, who: [bool; 16]) -> Decision
-    requires { aspOf k < 16 }
-    ensures { Decides result (changeIn (a ∷ b ∷ []) k who) }
+    requires { asp_of k < 16 }
+    ensures { Decides result (change_in (a ∷ b ∷ []) k who) }
 {
     Decision {
         what: 2,
@@ -248,7 +248,7 @@ pub fn change_two(a: Action, b: Action, k: Change, who: [bool; 16]) -> Decision
 // A unit comes in for AS a, and is held.
 pub fn take_in(a: usize, unit: Arrival) -> Decision
     requires { a < 16 }
-    ensures { Decides result (takeIn a unit) }
+    ensures { Decides result (take_in a unit) }
 {
     let none = to_link(0, 0, 0);
     Decision {

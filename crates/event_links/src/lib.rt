@@ -1,17 +1,17 @@
 // What the events of links do: class 6 messages of an ASP, link up, link down, messages of the link side.
 ghost use Rattle.std.specs.Prelude.{◌≡◌, true, cond, [], ◌∷◌, ◌+◌, ◌<◌, ◌≤◌, eqb};
-ghost use Rattle.rules_action.specs.Words.{action, linkSide, toAll};
+ghost use Rattle.rules_action.specs.Words.{action, link_side, to_all};
 ghost use Rattle.laws.specs.Columns.{tabulate};
 ghost use Rattle.state_lookup.specs.Servers.{receives};
-ghost use Rattle.rules_event.specs.Link.{establish, release, dataEffect, canHave, linkEffect, classSixOn, recipientsOf, linkUpOn, linkDownOn, holdEffect, linkMessageOn};
+ghost use Rattle.rules_event.specs.Link.{establish, release, data_effect, can_have, link_effect, class_six_on, recipients_of, link_up_on, link_down_on, hold_effect, link_message_on};
 ghost use Rattle.rules_event.specs.Records.{link_at};
-ghost use Rattle.rules_event.specs.Effect.{send, setLink, takeIn};
-ghost use Rattle.rules_event.specs.Rules.{fromLink};
+ghost use Rattle.rules_event.specs.Effect.{send, set_link, take_in};
+ghost use Rattle.rules_event.specs.Rules.{from_link};
 ghost use Rattle.event_decision.specs.Inner.Decides.{Decides};
-ghost use Rattle.event_links.specs.Inner.Records.{senderFrom, pendingIn};
-ghost use Rattle.event_links.specs.Inner.Six.{dataTree};
-ghost use Rattle.event_links.specs.Inner.Side.{passesIn, Fits};
-ghost use Rattle.rules_action.specs.Types.{establishConfirm, releaseConfirm, releaseIndication};
+ghost use Rattle.event_links.specs.Inner.Records.{sender_from, pending_in};
+ghost use Rattle.event_links.specs.Inner.Six.{data_tree};
+ghost use Rattle.event_links.specs.Inner.Side.{passes_in, Fits};
+ghost use Rattle.rules_action.specs.Types.{establish_confirm, release_confirm, release_indication};
 
 use codec_read::{Found, Reading};
 use rules_event::{Asp, Decision, Link, Owner, Sender};
@@ -46,7 +46,7 @@ pub fn sender_of<'a>(
     p: usize,
 ) -> Sender
     requires { (a < 16) × (p < 16) }
-    ensures { result ≡ senderFrom s member.now active.now a p }
+    ensures { result ≡ sender_from s member.now active.now a p }
 {
     Sender {
         up: s.up,
@@ -88,7 +88,7 @@ fn release_work(p: usize, x: u32, l: usize, k: Link) -> Decision
 // An order to the link side, then a reply to p.
 fn send_and_reply(p: usize, classtype: u32, x: u32, reply: u32, value: u32) -> Decision
     requires { p < 16 }
-    ensures { Decides result (send (action linkSide classtype x 0 ∷ action p reply x value ∷ [])) }
+    ensures { Decides result (send (action link_side classtype x 0 ∷ action p reply x value ∷ [])) }
 {
     event_decision::say_two(
         event_decision::to_link(classtype, x, 0),
@@ -99,7 +99,7 @@ fn send_and_reply(p: usize, classtype: u32, x: u32, reply: u32, value: u32) -> D
 // Data (Rule 7.17), as a tree.
 fn data_tree(p: usize, x: u32, k: Link, r: Reading) -> Decision
     requires { p < 16 }
-    ensures { Decides result (dataTree p x k r) }
+    ensures { Decides result (data_tree p x k r) }
 {
     if k.state == 2 {
         if r.correlated == 1 {
@@ -118,14 +118,14 @@ fn data_tree(p: usize, x: u32, k: Link, r: Reading) -> Decision
 
 fn data_work(p: usize, x: u32, k: Link, r: Reading) -> Decision
     requires { p < 16 }
-    ensures { Decides result (dataEffect p x k r) }
+    ensures { Decides result (data_effect p x k r) }
 {
     data_tree(p, x, k, r)
 }
 
 // A link can have the sequence number n (Rule 5.23).
 fn can_have(k: Link, n: u32) -> bool
-    ensures { result ≡ canHave k n }
+    ensures { result ≡ can_have k n }
 {
     (k.highspeed == 1) | (n <= PLAIN_MOST)
 }
@@ -133,7 +133,7 @@ fn can_have(k: Link, n: u32) -> bool
 // A message of class 6 whose sender may send it, by its type (Rules 7.15 to 7.19).
 fn link_work(p: usize, x: u32, l: usize, k: Link, r: Reading) -> Decision
     requires { (p < 16) × (l < 128) }
-    ensures { Decides result (linkEffect p x l k r) }
+    ensures { Decides result (link_effect p x l k r) }
 {
     if r.msgtype == 1 {
         return data_work(p, x, k, r);
@@ -157,7 +157,7 @@ fn link_work(p: usize, x: u32, l: usize, k: Link, r: Reading) -> Decision
 // there is such a link.
 pub fn class_six(there: bool, p: usize, l: usize, k: Link, s: Sender, r: Reading) -> Decision
     requires { (p < 16) × (l < 128) }
-    ensures { Decides result (classSixOn there p l k s r) }
+    ensures { Decides result (class_six_on there p l k s r) }
 {
     let fits = can_have(k, r.sequence);
     if s.up == 1 {
@@ -194,7 +194,7 @@ fn receivers(active: &[u8; 256], mode: u8, a: usize, x: u32) -> [bool; 16]
 // Those of the link k, whose owner is o.
 fn recipients_of(active: &[u8; 256], k: Link, o: Owner) -> [bool; 16]
     requires { k.owner < 16 }
-    ensures { result ≡ recipientsOf active.now k o }
+    ensures { result ≡ recipients_of active.now k o }
 {
     receivers(active, o.mode, state_tables::wide(k.owner), k.id)
 }
@@ -202,7 +202,7 @@ fn recipients_of(active: &[u8; 256], k: Link, o: Owner) -> [bool; 16]
 // Link up (Rule 7.20), where they are given.
 fn up_at(l: usize, k: Link, who: [bool; 16]) -> Decision
     requires { l < 128 }
-    ensures { Decides result (linkUpOn l k who) }
+    ensures { Decides result (link_up_on l k who) }
 {
     if k.state == 1 {
         return event_decision::turn_spread(l, 2, who, rules_action::ESTABLISH_CONFIRM, k.id);
@@ -212,7 +212,7 @@ fn up_at(l: usize, k: Link, who: [bool; 16]) -> Decision
 
 // The type that a link that goes down sends.
 fn down_type(st: u8) -> u32
-    ensures { result ≡ cond (eqb st 3) releaseConfirm releaseIndication }
+    ensures { result ≡ cond (eqb st 3) release_confirm release_indication }
 {
     if st == 3 {
         return rules_action::RELEASE_CONFIRM;
@@ -223,7 +223,7 @@ fn down_type(st: u8) -> u32
 // Link down (Rule 7.21).
 fn down_at(l: usize, k: Link, who: [bool; 16]) -> Decision
     requires { l < 128 }
-    ensures { Decides result (linkDownOn l k who) }
+    ensures { Decides result (link_down_on l k who) }
 {
     if k.state == 0 {
         return event_decision::nothing();
@@ -234,7 +234,7 @@ fn down_at(l: usize, k: Link, who: [bool; 16]) -> Decision
 // The link k at l goes up (Rule 7.20), or down (Rule 7.21).
 pub fn link_turns(up: bool, active: &[u8; 256], l: usize, k: Link, o: Owner) -> Decision
     requires { (k.owner < 16) × (l < 128) }
-    ensures { Decides result (cond up (linkUpOn l k (recipientsOf active.now k o)) (linkDownOn l k (recipientsOf active.now k o))) }
+    ensures { Decides result (cond up (link_up_on l k (recipients_of active.now k o)) (link_down_on l k (recipients_of active.now k o))) }
 {
     let who = recipients_of(active, k, o);
     if up {
@@ -247,7 +247,7 @@ pub fn link_turns(up: bool, active: &[u8; 256], l: usize, k: Link, o: Owner) -> 
 
 // The types of class 6 that the link side sends (Rule 6.5).
 fn from_link(k: u32) -> bool
-    ensures { result ≡ fromLink k }
+    ensures { result ≡ from_link k }
 {
     (((k == 1) | (k == 8)) | (k == 9)) | ((11 <= k) & (k <= 14))
 }
@@ -255,7 +255,7 @@ fn from_link(k: u32) -> bool
 // A message of the link side that is not refused with 102 (Rule 6.5); there says that there is a link with
 // its identifier, which is k.
 pub fn passes(there: bool, k: Link, r: Reading) -> bool
-    ensures { result ≡ passesIn there k r }
+    ensures { result ≡ passes_in there k r }
 {
     let kind = from_link(r.msgtype);
     let fits = can_have(k, r.sequence);
@@ -265,7 +265,7 @@ pub fn passes(there: bool, k: Link, r: Reading) -> bool
 // AS a, which is o, is pending (Rule 5.2).
 fn is_pending(active: &[u8; 256], o: Owner, a: usize) -> bool
     requires { a < 16 }
-    ensures { result ≡ pendingIn active.now o a }
+    ensures { result ≡ pending_in active.now o a }
 {
     if o.waiting == 1 {
         return !has_some(row_of(active, a));
@@ -276,7 +276,7 @@ fn is_pending(active: &[u8; 256], o: Owner, a: usize) -> bool
 // A unit that comes in for AS a: d is its protocol data, r what else was read.
 fn take_in(a: usize, d: Found, r: Reading) -> Decision
     requires { (a < 16) × (d.length ≤ 273) × (r.correlated ≤ 1) }
-    ensures { Decides result (takeIn a (record { tag = d.tag; length = d.length + 4; marked = r.correlated; id = r.id; correlation = r.correlation; start = d.start })) }
+    ensures { Decides result (take_in a (record { tag = d.tag; length = d.length + 4; marked = r.correlated; id = r.id; correlation = r.correlation; start = d.start })) }
 {
     event_decision::take_in(
         a,
@@ -294,7 +294,7 @@ fn take_in(a: usize, d: Found, r: Reading) -> Decision
 // It is held behind those that AS a has, and a ninth turned away (Rule 7.24).
 fn hold_work(msg: &[u8], a: usize, o: Owner, r: Reading) -> Decision
     requires { (a < 16) × Fits msg.now r }
-    ensures { Decides result (holdEffect msg.now r a o) }
+    ensures { Decides result (hold_effect msg.now r a o) }
 {
     if o.held < 8 {
         return take_in(a, codec_read::data_unit(msg), r);
@@ -305,7 +305,7 @@ fn hold_work(msg: &[u8], a: usize, o: Owner, r: Reading) -> Decision
 // A message of the link side that is not refused (Rules 7.22, 7.24), of the link k, whose owner is o.
 pub fn link_message(msg: &[u8], active: &[u8; 256], k: Link, o: Owner, r: Reading) -> Decision
     requires { (k.owner < 16) × (r.class ≡ 6) × (r.msgtype < 256) × (r.msgtype ≡ 1 → Fits msg.now r) }
-    ensures { Decides result (linkMessageOn (pendingIn active.now o k.owner) msg.now k o (recipientsOf active.now k o) r) }
+    ensures { Decides result (link_message_on (pending_in active.now o k.owner) msg.now k o (recipients_of active.now k o) r) }
 {
     let a = state_tables::wide(k.owner);
     let held = (r.msgtype == 1) & is_pending(active, o, a);

@@ -1,17 +1,17 @@
 // What a message of an ASP is, and what those do that are not of the ASP itself: Beat, Beat Ack, class 6, and
 // any other.
 ghost use Rattle.std.specs.Prelude.{◌≡◌, ◌<◌};
-ghost use Rattle.rules_event.specs.Link.{classSixOn};
-ghost use Rattle.rules_event.specs.Rules.{isError, fromAsp};
+ghost use Rattle.rules_event.specs.Link.{class_six_on};
+ghost use Rattle.rules_event.specs.Rules.{is_error, from_asp};
 ghost use Rattle.event_decision.specs.Inner.Decides.{Decides};
-ghost use Rattle.event_others.specs.Inner.Other.{otherTree, otherIn, typeIn};
+ghost use Rattle.event_others.specs.Inner.Other.{other_tree, other_in, type_in};
 
 use codec_read::Reading;
 use rules_event::{Decision, Link, Sender};
 
 // Whether a message is an Error (Rule 7.2).
 pub fn is_error(s: &[u8]) -> bool
-    ensures { result ≡ isError s.now }
+    ensures { result ≡ is_error s.now }
 {
     if s.len() < 4 {
         return false;
@@ -21,7 +21,7 @@ pub fn is_error(s: &[u8]) -> bool
 
 // The types of class 6 that ASPs send (Rule 7.14).
 fn from_asp(k: u32) -> bool
-    ensures { result ≡ fromAsp k }
+    ensures { result ≡ from_asp k }
 {
     (((((k == 1) | (k == 2)) | (k == 4)) | (k == 7)) | (k == 10)) | (k == 15)
 }
@@ -38,7 +38,7 @@ fn other_tree(
     six: bool,
 ) -> Decision
     requires { (p < 16) × (l < 128) × (r.class < 256) × (r.msgtype < 256) }
-    ensures { Decides result (otherTree (classSixOn there p l k s r) p r six) }
+    ensures { Decides result (other_tree (class_six_on there p l k s r) p r six) }
 {
     let t = r.class * 256 + r.msgtype;
     if t == rules_action::BEAT {
@@ -68,7 +68,7 @@ pub fn other_work(
     r: Reading,
 ) -> Decision
     requires { (p < 16) × (l < 128) × (r.class < 256) × (r.msgtype < 256) }
-    ensures { Decides result (otherIn there p l k s error r) }
+    ensures { Decides result (other_in there p l k s error r) }
 {
     if error {
         return event_decision::nothing();
@@ -83,7 +83,7 @@ pub fn other_work(
 // The class and type of a message as one number; 0 of an Error and of what cannot be read.
 pub fn type_of(error: bool, r: Reading) -> u32
     requires { (r.class < 256) × (r.msgtype < 256) }
-    ensures { result ≡ typeIn error r }
+    ensures { result ≡ type_in error r }
 {
     if error {
         return 0;

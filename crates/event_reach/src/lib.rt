@@ -1,17 +1,17 @@
 // The ASes that an event may look into and change (Rule 9.1), as a flag for each.
 ghost use Rattle.std.specs.Prelude.{◌≡◌, ◌&&◌, ◌<◌, eqb, ltb};
-ghost use Rattle.laws.specs.Columns.{flagAt, number_at, tabulate};
+ghost use Rattle.laws.specs.Columns.{flag_at, number_at, tabulate};
 ghost use Rattle.codec_wire.specs.Walk.{walk};
 ghost use Rattle.state_ranges.specs.Inner.Laws.{Table};
-ghost use Rattle.state_ranges.specs.Named.{isOwnedBy};
+ghost use Rattle.state_ranges.specs.Named.{is_owned_by};
 ghost use Rattle.state_ranges.specs.Inner.Owners.{Looked};
-ghost use Rattle.state_sets.specs.Inner.Bits.{flagsOf};
-ghost use Rattle.event_traffic.specs.Inner.Named.{withPar, goodPars};
-ghost use Rattle.rules_event.specs.Event.{message, lost, recovery, linkUp, linkDown, linkMessage};
-ghost use Rattle.event_asked.specs.Happened.{happened, eventOf};
+ghost use Rattle.state_sets.specs.Inner.Bits.{flags_of};
+ghost use Rattle.event_traffic.specs.Inner.Named.{with_par, good_pars};
+ghost use Rattle.rules_event.specs.Event.{message, lost, recovery, link_up, link_down, link_message};
+ghost use Rattle.event_asked.specs.Happened.{happened, event_of};
 ghost use Rattle.event_asked.specs.Inner.Ask.{AskFits};
 ghost use Rattle.event_reach.specs.Reached.{reached};
-ghost use Rattle.event_reach.specs.Inner.Rows.{ownerRow, namedRow, otherRow, askRow};
+ghost use Rattle.event_reach.specs.Inner.Rows.{owner_row, named_row, other_row, ask_row};
 
 use codec_read::Reading;
 use codec_wire::Step;
@@ -30,8 +30,8 @@ fn owners_par<'a>(
     iid: &'a [u32; 128],
     owner: &'a [u8; 128],
 ) -> u32
-    requires { Table iid.now owner.now links × Looked owner.now far.old (flagsOf set) }
-    ensures { (flagsOf result ≡ withPar (flagsOf set) (isOwnedBy iid.now owner.now links) t v.now) × Looked owner.now far.new (flagsOf result) }
+    requires { Table iid.now owner.now links × Looked owner.now far.old (flags_of set) }
+    ensures { (flags_of result ≡ with_par (flags_of set) (is_owned_by iid.now owner.now links) t v.now) × Looked owner.now far.new (flags_of result) }
 {
     if t == 1 {
         return state_names::owners_of(set, far, v, false, iid, owner, links);
@@ -51,7 +51,7 @@ fn owners_good<'a>(
     mine: u32,
 ) -> [bool; 16]
     requires { Table iid.now owner.now links }
-    ensures { result ≡ goodPars (isOwnedBy iid.now owner.now links) (flagsOf mine) (walk s.now 8).pars }
+    ensures { result ≡ good_pars (is_owned_by iid.now owner.now links) (flags_of mine) (walk s.now 8).pars }
 {
     let mut far = [0u8; 128];
     let mut set: u32 = 0;
@@ -80,7 +80,7 @@ fn owner_at(owner: &[u8; 128], l: usize) -> [bool; 16]
 // The owner of the link with identifier x, if there is one.
 fn owner_of<'a>(iid: &'a [u32; 128], owner: &'a [u8; 128], links: usize, x: u32) -> [bool; 16]
     requires { Table iid.now owner.now links }
-    ensures { result ≡ ownerRow links iid.now owner.now x }
+    ensures { result ≡ owner_row links iid.now owner.now x }
 {
     let l = state_lookup::index_of(iid, links, x);
     if l < links {
@@ -102,7 +102,7 @@ fn named_row<'a>(
     ids: u32,
 ) -> [bool; 16]
     requires { Table iid.now owner.now links × (p < 16) }
-    ensures { result ≡ namedRow links member.now iid.now owner.now p s.now ids }
+    ensures { result ≡ named_row links member.now iid.now owner.now p s.now ids }
 {
     if ids == 1 {
         return owners_good(s, links, iid, owner, event_asps::ases_of(member, p));
@@ -119,7 +119,7 @@ fn other_row<'a>(
     r: Reading,
 ) -> [bool; 16]
     requires { Table iid.now owner.now links }
-    ensures { result ≡ otherRow links iid.now owner.now error r }
+    ensures { result ≡ other_row links iid.now owner.now error r }
 {
     if error {
         return [false; 16];
@@ -143,7 +143,7 @@ fn row_of<'a>(
     owner: &'a [u8; 128],
 ) -> [bool; 16]
     requires { Table iid.now owner.now links × AskFits links iid.now msg.now ask }
-    ensures { result ≡ askRow links member.now iid.now owner.now msg.now ask }
+    ensures { result ≡ ask_row links member.now iid.now owner.now msg.now ask }
 {
     match ask {
         Ask::Up(p, _) => rules_servers::column_of(member, p),
@@ -160,7 +160,7 @@ fn row_of<'a>(
 
 // The row without the places at and beyond the number of ASes.
 fn within(ases: usize, row: [bool; 16]) -> [bool; 16]
-    ensures { result ≡ tabulate 16 (λ a. ltb a ases && flagAt row a) }
+    ensures { result ≡ tabulate 16 (λ a. ltb a ases && flag_at row a) }
 {
     let mut r = [false; 16];
     for a in 0..16usize {
@@ -173,7 +173,7 @@ fn within(ases: usize, row: [bool; 16]) -> [bool; 16]
 
 // An event by the number of its kind, its index and its message, where its list has `room` words.
 pub fn of_event(g: Gateway, kind: u32, i: usize, msg: &[u8], room: usize, hold: usize) -> [bool; 16]
-    ensures { result ≡ reached g (eventOf (happened kind i msg.now) room hold) }
+    ensures { result ≡ reached g (event_of (happened kind i msg.now) room hold) }
 {
     let ask = event_asked::asked(kind, i, msg);
     let asps = g.asps;
@@ -193,42 +193,42 @@ pub fn of_event(g: Gateway, kind: u32, i: usize, msg: &[u8], room: usize, hold: 
 
 // A message of ASP p.
 pub fn of_message(g: Gateway, p: usize, msg: &[u8], room: usize, hold: usize) -> [bool; 16]
-    ensures { result ≡ reached g (eventOf (message p msg.now) room hold) }
+    ensures { result ≡ reached g (event_of (message p msg.now) room hold) }
 {
     of_event(g, event_asked::MESSAGE, p, msg, room, hold)
 }
 
 // The association of ASP p is lost.
 pub fn of_lost(g: Gateway, p: usize, room: usize, hold: usize) -> [bool; 16]
-    ensures { result ≡ reached g (eventOf (lost p) room hold) }
+    ensures { result ≡ reached g (event_of (lost p) room hold) }
 {
     of_event(g, event_asked::LOST, p, &[0; 1], room, hold)
 }
 
 // The recovery time of AS a is over.
 pub fn of_recovery(g: Gateway, a: usize, room: usize, hold: usize) -> [bool; 16]
-    ensures { result ≡ reached g (eventOf (recovery a) room hold) }
+    ensures { result ≡ reached g (event_of (recovery a) room hold) }
 {
     of_event(g, event_asked::RECOVERY, a, &[0; 1], room, hold)
 }
 
 // The link at index l is up.
 pub fn of_link_up(g: Gateway, l: usize, room: usize, hold: usize) -> [bool; 16]
-    ensures { result ≡ reached g (eventOf (linkUp l) room hold) }
+    ensures { result ≡ reached g (event_of (link_up l) room hold) }
 {
     of_event(g, event_asked::LINK_UP, l, &[0; 1], room, hold)
 }
 
 // The link at index l is down.
 pub fn of_link_down(g: Gateway, l: usize, room: usize, hold: usize) -> [bool; 16]
-    ensures { result ≡ reached g (eventOf (linkDown l) room hold) }
+    ensures { result ≡ reached g (event_of (link_down l) room hold) }
 {
     of_event(g, event_asked::LINK_DOWN, l, &[0; 1], room, hold)
 }
 
 // A message of the link side.
 pub fn of_link_message(g: Gateway, msg: &[u8], room: usize, hold: usize) -> [bool; 16]
-    ensures { result ≡ reached g (eventOf (linkMessage msg.now) room hold) }
+    ensures { result ≡ reached g (event_of (link_message msg.now) room hold) }
 {
     of_event(g, event_asked::LINK_MESSAGE, 0, msg, room, hold)
 }

@@ -4,5 +4,5 @@ use Rattle.state_tables.specs.declared.Gateway.{Gateway}
 use Rattle.rules_event.specs.declared.Outcome.{Outcome}
 use Rattle.event_run.specs.declared.Done.{Done}
 
-abbrev pub outcomeOf : Done → Gateway → Outcome
-outcomeOf r g = record { refusal = r.refusal; count = r.count; gateway = g }
+abbrev pub outcome_of : Done → Gateway → Outcome
+outcome_of r g = record { refusal = r.refusal; count = r.count; gateway = g }

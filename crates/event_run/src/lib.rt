@@ -5,15 +5,15 @@ ghost use Rattle.codec_put.specs.Bytes.{overlay};
 ghost use Rattle.rules_action.specs.Inner.Words.{Written};
 ghost use Rattle.state_ranges.specs.Inner.Laws.{Table};
 ghost use Rattle.rules_event.specs.Entry.{MeetsRules, Runs};
-ghost use Rattle.rules_event.specs.Inner.Decision.{firstActions, spread, effectIn};
-ghost use Rattle.event_decision.specs.Inner.Decides.{aspOf, DecidesOn};
-ghost use Rattle.event_asked.specs.Happened.{happened, eventOf, event};
-ghost use Rattle.event_asked.specs.Inner.Ask.{askEffect, AskFits};
-ghost use Rattle.event_asked.specs.Inner.Place.{aspIn, aspNamed, Named};
-ghost use Rattle.state_tables.specs.State.{gatewayOf, unitsOf};
-ghost use Rattle.event_run.specs.At.{outcomeOf};
+ghost use Rattle.rules_event.specs.Inner.Decision.{first_actions, spread, effect_in};
+ghost use Rattle.event_decision.specs.Inner.Decides.{asp_of, DecidesOn};
+ghost use Rattle.event_asked.specs.Happened.{happened, event_of, event};
+ghost use Rattle.event_asked.specs.Inner.Ask.{ask_effect, AskFits};
+ghost use Rattle.event_asked.specs.Inner.Place.{asp_in, asp_named, Named};
+ghost use Rattle.state_tables.specs.State.{gateway_of, units_of};
+ghost use Rattle.event_run.specs.At.{outcome_of};
 ghost use Rattle.event_run.specs.Inner.Columns.{AskColumns};
-ghost use Rattle.event_run.specs.Inner.Decision.{first_of, Changed, linkAfter, put_in};
+ghost use Rattle.event_run.specs.Inner.Decision.{first_of, Changed, link_after, put_in};
 
 use event_asked::{Ask, Place};
 use rules_event::{Asp, Decision, Link, Owner};
@@ -38,8 +38,8 @@ fn decided<'a>(
     iid: &'a [u32; 128],
     owner: &'a [u8; 128],
 ) -> Decision
-    requires { Table iid.now owner.now links × AskFits links iid.now msg.now ask × Named links iid.now ask at.there at.index × (k.owner < 16) × (at.asp ≡ aspIn (aspNamed ask)) }
-    ensures { DecidesOn (AskColumns at.index k o at.asp s links member.now active.now mode.now iid.now owner.now) (λ g. askEffect g msg.now ask) result }
+    requires { Table iid.now owner.now links × AskFits links iid.now msg.now ask × Named links iid.now ask at.there at.index × (k.owner < 16) × (at.asp ≡ asp_in (asp_named ask)) }
+    ensures { DecidesOn (AskColumns at.index k o at.asp s links member.now active.now mode.now iid.now owner.now) (λ g. ask_effect g msg.now ask) result }
 {
     match ask {
         Ask::Up(p, r) => event_asps::up_work(s, member, active, p, r),
@@ -62,7 +62,7 @@ fn decided<'a>(
 // The actions that come first, one after the other.
 fn say(w: Decision, words: &mut [u32]) -> usize
     requires { 8 ≤ length words.old }
-    ensures { Written words.old 0 (firstActions w) words.new result }
+    ensures { Written words.old 0 (first_actions w) words.new result }
 {
     let n = w.count;
     let first = w.first;
@@ -104,7 +104,7 @@ fn enact<'a>(
     words: &mut [u32],
     n: usize,
 ) -> usize
-    requires { (n * 4 + 1536 ≤ length words.old) × (aspOf w.change < 16) × (length up.old ≡ 16) × (length active.old ≡ 256) × (length waiting.old ≡ 16) }
+    requires { (n * 4 + 1536 ≤ length words.old) × (asp_of w.change < 16) × (length up.old ≡ 16) × (length active.old ≡ 256) × (length waiting.old ≡ 16) }
     ensures { Changed w up.old member.now mode.now count.now id.now active.old waiting.old words.old n up.new active.new waiting.new words.new result }
 {
     let k = w.change;
@@ -119,7 +119,7 @@ fn enact<'a>(
 // The links' states are those after it.
 fn settle(w: Decision, state: &mut [u8; 128])
     requires { (w.link < 128) × (length state.old ≡ 128) }
-    ensures { state.new ≡ linkAfter (effectIn w) state.old }
+    ensures { state.new ≡ link_after (effect_in w) state.old }
 {
     if (w.what == 1) | (w.what == 4) {
         let l = w.link;
@@ -220,7 +220,7 @@ pub fn run<'a>(
     size: usize,
     words: &mut [u32],
 ) -> Done
-    ensures { Runs (gatewayOf asps ases links spare aspid.now up.old member.now active.old mode.now waiting.old iid.now owner.now state.old highspeed.now wholelists.now (unitsOf count.old tag.old len.old marked.old id.old correlation.old)) (eventOf (happened kind i msg.now) (length words.old) size) words.old words.new hold.old hold.new (outcomeOf result (gatewayOf asps ases links spare aspid.now up.new member.now active.new mode.now waiting.new iid.now owner.now state.new highspeed.now wholelists.now (unitsOf count.new tag.new len.new marked.new id.new correlation.new))) }
+    ensures { Runs (gateway_of asps ases links spare aspid.now up.old member.now active.old mode.now waiting.old iid.now owner.now state.old highspeed.now wholelists.now (units_of count.old tag.old len.old marked.old id.old correlation.old)) (event_of (happened kind i msg.now) (length words.old) size) words.old words.new hold.old hold.new (outcome_of result (gateway_of asps ases links spare aspid.now up.new member.now active.new mode.now waiting.new iid.now owner.now state.new highspeed.now wholelists.now (units_of count.new tag.new len.new marked.new id.new correlation.new))) }
 {
     seen(up, active, waiting, state, count);
     let ask = event_asked::asked(kind, i, msg);
@@ -365,7 +365,7 @@ pub extern "C" fn m2ua_event_at<'a>(
     hold: &mut [u8],
     words: &mut [u32],
 ) -> Done
-    ensures { MeetsRules (gatewayOf asps ases links spare aspid.now up.old member.now active.old mode.now waiting.old iid.now owner.now state.old highspeed.now wholelists.now (unitsOf count.old tag.old len.old marked.old id.old correlation.old)) (event (happened kind i msg.now) words.old hold.old) words.old words.new hold.old hold.new (outcomeOf result (gatewayOf asps ases links spare aspid.now up.new member.now active.new mode.now waiting.new iid.now owner.now state.new highspeed.now wholelists.now (unitsOf count.new tag.new len.new marked.new id.new correlation.new))) }
+    ensures { MeetsRules (gateway_of asps ases links spare aspid.now up.old member.now active.old mode.now waiting.old iid.now owner.now state.old highspeed.now wholelists.now (units_of count.old tag.old len.old marked.old id.old correlation.old)) (event (happened kind i msg.now) words.old hold.old) words.old words.new hold.old hold.new (outcome_of result (gateway_of asps ases links spare aspid.now up.new member.now active.new mode.now waiting.new iid.now owner.now state.new highspeed.now wholelists.now (units_of count.new tag.new len.new marked.new id.new correlation.new))) }
 {
     let size = hold.len();
     run(

@@ -1,23 +1,23 @@
 // What Active and Inactive do.
 ghost use Rattle.std.specs.Prelude.{◌≡◌, cond, not, ◌&&◌, ◌||◌, [], ◌∷◌, ◌<◌, eqb};
-ghost use Rattle.laws.specs.Below.{anyBelow};
-ghost use Rattle.laws.specs.Columns.{flagAt, number_at};
+ghost use Rattle.laws.specs.Below.{any_below};
+ghost use Rattle.laws.specs.Columns.{flag_at, number_at};
 ghost use Rattle.codec_wire.specs.Walk.{walk};
 ghost use Rattle.rules_action.specs.Words.{action};
 ghost use Rattle.state_ranges.specs.Inner.Laws.{Table};
-ghost use Rattle.state_ranges.specs.Named.{is_refused, isOwnedBy};
+ghost use Rattle.state_ranges.specs.Named.{is_refused, is_owned_by};
 ghost use Rattle.state_ranges.specs.Inner.Names.{earlier, Plain, Names};
 ghost use Rattle.state_ranges.specs.Inner.Owners.{Looked};
-ghost use Rattle.state_ranges.specs.Inner.Refused.{refusedBy};
-ghost use Rattle.state_sets.specs.Inner.Bits.{flagsOf};
-ghost use Rattle.rules_servers.specs.Changed.{columnOf};
+ghost use Rattle.state_ranges.specs.Inner.Refused.{refused_by};
+ghost use Rattle.state_sets.specs.Inner.Bits.{flags_of};
+ghost use Rattle.rules_servers.specs.Changed.{column_of};
 ghost use Rattle.rules_server.specs.declared.Change.TheVariants.{Activate};
-ghost use Rattle.rules_event.specs.Effect.{send, changeIn, error, error2};
-ghost use Rattle.rules_event.specs.Asp.{trafficEffect};
-ghost use Rattle.event_decision.specs.Inner.Decides.{aspOf, Decides, DecidesOn, act};
-ghost use Rattle.event_traffic.specs.Inner.Aims.{TrafficColumns, otherModeIn, told, Aims, nothingDone};
-ghost use Rattle.event_traffic.specs.Inner.Named.{refusedPar, withPar, refusedPars, goodPars};
-ghost use Rattle.rules_action.specs.Types.{aspActiveAck};
+ghost use Rattle.rules_event.specs.Effect.{send, change_in, error, error2};
+ghost use Rattle.rules_event.specs.Asp.{traffic_effect};
+ghost use Rattle.event_decision.specs.Inner.Decides.{asp_of, Decides, DecidesOn, act};
+ghost use Rattle.event_traffic.specs.Inner.Aims.{TrafficColumns, other_mode_in, told, Aims, nothing_done};
+ghost use Rattle.event_traffic.specs.Inner.Named.{refused_par, with_par, refused_pars, good_pars};
+ghost use Rattle.rules_action.specs.Types.{asp_active_ack};
 
 use codec_read::Reading;
 use codec_wire::Step;
@@ -38,8 +38,8 @@ fn named_par<'a>(
     owner: &'a [u8; 128],
     mine: u32,
 ) -> Named
-    requires { Table iid.now owner.now links × Looked owner.now far.old (flagsOf old.set) × Plain old.refused }
-    ensures { Names result (earlier old.refused (refusedPar (refusedBy iid.now owner.now links (flagsOf mine)) t v.now)) (withPar (flagsOf old.set) (isOwnedBy iid.now owner.now links) t v.now) × Looked owner.now far.new (flagsOf result.set) }
+    requires { Table iid.now owner.now links × Looked owner.now far.old (flags_of old.set) × Plain old.refused }
+    ensures { Names result (earlier old.refused (refused_par (refused_by iid.now owner.now links (flags_of mine)) t v.now)) (with_par (flags_of old.set) (is_owned_by iid.now owner.now links) t v.now) × Looked owner.now far.new (flags_of result.set) }
 {
     if t == 1 {
         return state_names::of_ids(old, v, iid, owner, links, mine);
@@ -54,7 +54,7 @@ fn named_par<'a>(
 
 // Whether the mode of some AS named is not m.
 fn some_other(mode: &[u8; 16], m: usize, named: u32) -> bool
-    ensures { result ≡ anyBelow (λ a. flagAt (flagsOf named) a && not (eqb (number_at mode.now a) m)) 16 }
+    ensures { result ≡ any_below (λ a. flag_at (flags_of named) a && not (eqb (number_at mode.now a) m)) 16 }
 {
     let mut found = false;
     for a in 0..16usize {
@@ -65,15 +65,15 @@ fn some_other(mode: &[u8; 16], m: usize, named: u32) -> bool
 
 // Whether a mode is given that is not that of some AS named (Rule 7.9).
 fn other_mode(mode: &[u8; 16], m: u32, named: u32) -> bool
-    ensures { result ≡ otherModeIn mode.now m (flagsOf named) }
+    ensures { result ≡ other_mode_in mode.now m (flags_of named) }
 {
     (m != 0) & some_other(mode, m as usize, named)
 }
 
 // An Ack, then Error 2 for the identifier that was refused, if one was, and a change in the ASes named.
 fn acked(p: usize, ack: u32, k: Change, bad: Refused, named: [bool; 16]) -> Decision
-    requires { (p < 16) × (aspOf k < 16) }
-    ensures { Decides result (changeIn (action p ack 0 0 ∷ told p bad) k named) }
+    requires { (p < 16) × (asp_of k < 16) }
+    ensures { Decides result (change_in (action p ack 0 0 ∷ told p bad) k named) }
 {
     let reply = event_decision::to_asp(p, ack, 0, 0);
     if bad.found {
@@ -86,7 +86,7 @@ fn acked(p: usize, ack: u32, k: Change, bad: Refused, named: [bool; 16]) -> Deci
 // Active (Rule 7.9): whether the mode is another is given.
 fn active_at(p: usize, other: bool, bad: Refused, named: [bool; 16]) -> Decision
     requires { p < 16 }
-    ensures { Decides result (cond other (send (action p 0 0 5 ∷ [])) (changeIn (action p aspActiveAck 0 0 ∷ told p bad) (Activate p) named)) }
+    ensures { Decides result (cond other (send (action p 0 0 5 ∷ [])) (change_in (action p asp_active_ack 0 0 ∷ told p bad) (Activate p) named)) }
 {
     if other {
         return event_decision::error(p, 5);
@@ -104,7 +104,7 @@ fn active_at(p: usize, other: bool, bad: Refused, named: [bool; 16]) -> Decision
 // one was.
 fn act_in(on: bool, mode: &[u8; 16], p: usize, m: u32, bad: Refused, named: u32) -> Decision
     requires { p < 16 }
-    ensures { DecidesOn (λ g. g.mode ≡ mode.now) (λ g. act g p on m (told p bad) (flagsOf named)) result }
+    ensures { DecidesOn (λ g. g.mode ≡ mode.now) (λ g. act g p on m (told p bad) (flags_of named)) result }
 {
     let flags = state_sets::flags_of(named);
     if on {
@@ -134,7 +134,7 @@ fn fails(p: usize, bad: Refused) -> Decision
 // Whether a message does nothing: with identifiers where one is refused, and the list is taken whole or has
 // no good one (Rule 7.27); without any where p has no AS.
 fn does_nothing(ids: bool, found: bool, whole: bool, none: bool) -> bool
-    ensures { result ≡ nothingDone ids found whole none }
+    ensures { result ≡ nothing_done ids found whole none }
 {
     (ids & (found & (whole | none))) | (!ids & none)
 }
@@ -151,7 +151,7 @@ fn aim<'a>(
     p: usize,
 ) -> Named
     requires { Table iid.now owner.now links × (p < 16) }
-    ensures { Aims result ids (refusedPars (is_refused iid.now owner.now member.now links p) (walk s.now 8).pars) (goodPars (isOwnedBy iid.now owner.now links) (columnOf member.now p) (walk s.now 8).pars) (columnOf member.now p) }
+    ensures { Aims result ids (refused_pars (is_refused iid.now owner.now member.now links p) (walk s.now 8).pars) (good_pars (is_owned_by iid.now owner.now links) (column_of member.now p) (walk s.now 8).pars) (column_of member.now p) }
 {
     let mine = event_asps::ases_of(member, p);
     if !ids {
@@ -196,7 +196,7 @@ pub fn traffic_work<'a>(
     r: Reading,
 ) -> Decision
     requires { Table iid.now owner.now links × (p < 16) }
-    ensures { DecidesOn (TrafficColumns links p a member.now mode.now iid.now owner.now) (λ g. trafficEffect g p r (walk s.now 8).pars (act g p on r.mode)) result }
+    ensures { DecidesOn (TrafficColumns links p a member.now mode.now iid.now owner.now) (λ g. traffic_effect g p r (walk s.now 8).pars (act g p on r.mode)) result }
 {
     if a.up != 1 {
         return event_decision::error(p, 6);

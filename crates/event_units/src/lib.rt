@@ -1,7 +1,7 @@
 // The columns of the units held (Rule 5.21), changed in place: what ASes that wait no longer leave of them,
 // and one unit more.
 ghost use Rattle.std.specs.Prelude.{◌≡◌, cond, ◌&&◌, ◌/◌, ◌<◌, eqb, set};
-ghost use Rattle.laws.specs.Columns.{flagAt};
+ghost use Rattle.laws.specs.Columns.{flag_at};
 ghost use Rattle.rules_servers.specs.Changed.{cleared};
 ghost use Rattle.event_units.specs.Inner.Going.{going};
 
@@ -38,7 +38,7 @@ fn unless(t: bool, x: u8) -> u8
 
 // An AS that lets its units go has 0.
 pub fn clear_counts(c: &mut [u8; 16], go: [bool; 16])
-    ensures { c.new ≡ cleared (flagAt go) c.old }
+    ensures { c.new ≡ cleared (flag_at go) c.old }
 {
     for a in 0..16usize {
         c[a] = unless(go[a], c[a]);
@@ -59,7 +59,7 @@ fn clear_half_row(c: &mut [u16; 128], a: usize, go: bool)
 }
 
 pub fn clear_halves(c: &mut [u16; 128], go: [bool; 16])
-    ensures { c.new ≡ cleared (λ i. flagAt go (i / 8)) c.old }
+    ensures { c.new ≡ cleared (λ i. flag_at go (i / 8)) c.old }
 {
     for a in 0..16usize {
         clear_half_row(c, a, go[a]);
@@ -79,7 +79,7 @@ fn clear_word_row(c: &mut [u32; 128], a: usize, go: bool)
 }
 
 pub fn clear_words(c: &mut [u32; 128], go: [bool; 16])
-    ensures { c.new ≡ cleared (λ i. flagAt go (i / 8)) c.old }
+    ensures { c.new ≡ cleared (λ i. flag_at go (i / 8)) c.old }
 {
     for a in 0..16usize {
         clear_word_row(c, a, go[a]);

@@ -3,8 +3,8 @@
 -- Assumes nothing.
 use Rattle.std.specs.Prelude.{ℕ, zero, suc, Bool, false, List, [], ◌∷◌, eqb, get_or}
 
-abbrev pub flagAt : List Bool → ℕ → Bool
-flagAt l i = get_or l i false
+abbrev pub flag_at : List Bool → ℕ → Bool
+flag_at l i = get_or l i false
 
 module _ {A : Type 0} where
   -- f 0, f 1, .. below n

@@ -7,80 +7,80 @@ abbrev pub message : ℕ → ℕ → ℕ
 message class type = class * 256 + type
 
 -- class 0: management
-abbrev pub mgmtError : ℕ
-mgmtError = message 0 0
+abbrev pub mgmt_error : ℕ
+mgmt_error = message 0 0
 
-abbrev pub mgmtNotify : ℕ
-mgmtNotify = message 0 1
+abbrev pub mgmt_notify : ℕ
+mgmt_notify = message 0 1
 
 -- class 3: the ASP's state
-abbrev pub aspUp : ℕ
-aspUp = message 3 1
+abbrev pub asp_up : ℕ
+asp_up = message 3 1
 
-abbrev pub aspDown : ℕ
-aspDown = message 3 2
+abbrev pub asp_down : ℕ
+asp_down = message 3 2
 
 abbrev pub beat : ℕ
 beat = message 3 3
 
-abbrev pub aspUpAck : ℕ
-aspUpAck = message 3 4
+abbrev pub asp_up_ack : ℕ
+asp_up_ack = message 3 4
 
-abbrev pub aspDownAck : ℕ
-aspDownAck = message 3 5
+abbrev pub asp_down_ack : ℕ
+asp_down_ack = message 3 5
 
-abbrev pub beatAck : ℕ
-beatAck = message 3 6
+abbrev pub beat_ack : ℕ
+beat_ack = message 3 6
 
 -- class 4: the ASP's traffic
-abbrev pub aspActive : ℕ
-aspActive = message 4 1
+abbrev pub asp_active : ℕ
+asp_active = message 4 1
 
-abbrev pub aspInactive : ℕ
-aspInactive = message 4 2
+abbrev pub asp_inactive : ℕ
+asp_inactive = message 4 2
 
-abbrev pub aspActiveAck : ℕ
-aspActiveAck = message 4 3
+abbrev pub asp_active_ack : ℕ
+asp_active_ack = message 4 3
 
-abbrev pub aspInactiveAck : ℕ
-aspInactiveAck = message 4 4
+abbrev pub asp_inactive_ack : ℕ
+asp_inactive_ack = message 4 4
 
 -- class 6: the link
-abbrev pub userData : ℕ
-userData = message 6 1
+abbrev pub user_data : ℕ
+user_data = message 6 1
 
-abbrev pub establishRequest : ℕ
-establishRequest = message 6 2
+abbrev pub establish_request : ℕ
+establish_request = message 6 2
 
-abbrev pub establishConfirm : ℕ
-establishConfirm = message 6 3
+abbrev pub establish_confirm : ℕ
+establish_confirm = message 6 3
 
-abbrev pub releaseRequest : ℕ
-releaseRequest = message 6 4
+abbrev pub release_request : ℕ
+release_request = message 6 4
 
-abbrev pub releaseConfirm : ℕ
-releaseConfirm = message 6 5
+abbrev pub release_confirm : ℕ
+release_confirm = message 6 5
 
-abbrev pub releaseIndication : ℕ
-releaseIndication = message 6 6
+abbrev pub release_indication : ℕ
+release_indication = message 6 6
 
-abbrev pub stateRequest : ℕ
-stateRequest = message 6 7
+abbrev pub state_request : ℕ
+state_request = message 6 7
 
-abbrev pub retrievalRequest : ℕ
-retrievalRequest = message 6 10
+abbrev pub retrieval_request : ℕ
+retrieval_request = message 6 10
 
-abbrev pub dataAck : ℕ
-dataAck = message 6 15
+abbrev pub data_ack : ℕ
+data_ack = message 6 15
 
 -- what a Notify says: a type of status, and the information of that type
 abbrev pub status : ℕ → ℕ → ℕ
 status type information = type * 65536 + information
 
 -- the new state of an AS
-abbrev pub asState : ℕ → ℕ
-asState state = status 1 state
+abbrev pub as_state : ℕ → ℕ
+as_state state = status 1 state
 
 -- another ASP has become active in its place
-abbrev pub otherActive : ℕ
-otherActive = status 2 2
+abbrev pub other_active : ℕ
+other_active = status 2 2

@@ -1,7 +1,7 @@
 // Actions and how they are written, four words to an action (Rule 8.1).
 ghost use Rattle.std.specs.Prelude.{◌≡◌, ◌+◌, ◌*◌, ◌≤◌, length};
 ghost use Rattle.laws.specs.Below.{when};
-ghost use Rattle.rules_action.specs.Words.{toAll};
+ghost use Rattle.rules_action.specs.Words.{to_all};
 ghost use Rattle.rules_action.specs.Inner.Words.{put_at, Written};
 
 // The messages that the events know, each as an action has it: class * 256 + type (Rules 2.10, 8.1).
@@ -99,7 +99,7 @@ pub fn to_all(
     n: usize,
 ) -> usize
     requires { n * 4 + 64 ≤ length words.old }
-    ensures { Written words.old n (toAll who classtype subject value) words.new result }
+    ensures { Written words.old n (to_all who classtype subject value) words.new result }
 {
     let mut m = n;
     for q in 0..16usize {

@@ -2,10 +2,10 @@
 -- something.
 -- Assumes nothing.
 use Rattle.std.specs.Prelude.{◌≡◌, List, [], ◌∷◌, ◌++◌, map, ℕ, replicate}
-use Rattle.rules_event.specs.Event.{EventKind, message, recovery, linkMessage, bare}
-use Rattle.rules_event.specs.Effect.{holdBytes}
+use Rattle.rules_event.specs.Event.{EventKind, message, recovery, link_message, bare}
+use Rattle.rules_event.specs.Effect.{hold_bytes}
 use Rattle.rules_event.specs.Calls.{Board, Call, events, Calls}
-use Rattle.rules_event.specs.Samples.{freshS, sampleEvent, unit}
+use Rattle.rules_event.specs.Samples.{fresh_s, sample_event, unit}
 use Rattle.rules_conserve.specs.Conserve.{Tally, tally, holds, sum}
 
 -- ASP 0 takes AS 0 over, and leaves it pending
@@ -17,14 +17,14 @@ leaves = message 0 (bare 4 1) ∷ message 0 (bare 4 2) ∷ []
 unfoldable pub day : List EventKind
 day =
     message 0 (bare 3 1) ∷ leaves
-    ++ (replicate 9 (linkMessage unit) ++ (leaves ++ (linkMessage unit ∷ recovery 0 ∷ leaves ++ (linkMessage unit ∷ []))))
+    ++ (replicate 9 (link_message unit) ++ (leaves ++ (link_message unit ∷ recovery 0 ∷ leaves ++ (link_message unit ∷ []))))
 
 pub record Day : Type 0 where
   pub calls : List Call
   pub end : Board
-  pub are : Calls (record { gateway = freshS; hold = replicate holdBytes 0 }) calls end
-  pub of : events calls ≡ map sampleEvent day
-  pub counts : tally 0 0 freshS calls ≡ record { came = 11; sent = 8; discarded = 1; turned = 1 }
+  pub are : Calls (record { gateway = fresh_s; hold = replicate hold_bytes 0 }) calls end
+  pub of : events calls ≡ map sample_event day
+  pub counts : tally 0 0 fresh_s calls ≡ record { came = 11; sent = 8; discarded = 1; turned = 1 }
   pub left : holds end.gateway 0 ≡ 1
 
 -- the sum over all ASes takes each of the sixteen once

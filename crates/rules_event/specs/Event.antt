@@ -7,18 +7,18 @@ pub data EventKind : Type 0 where
   message : ℕ → List ℕ → EventKind
   lost : ℕ → EventKind
   recovery : ℕ → EventKind
-  linkUp : ℕ → EventKind
-  linkDown : ℕ → EventKind
-  linkMessage : List ℕ → EventKind
+  link_up : ℕ → EventKind
+  link_down : ℕ → EventKind
+  link_message : List ℕ → EventKind
 
 -- its message; none where it has none
-abbrev pub messageOf : EventKind → List ℕ
-messageOf (message p s) = s
-messageOf (lost p) = []
-messageOf (recovery a) = []
-messageOf (linkUp l) = []
-messageOf (linkDown l) = []
-messageOf (linkMessage s) = s
+abbrev pub message_of : EventKind → List ℕ
+message_of (message p s) = s
+message_of (lost p) = []
+message_of (recovery a) = []
+message_of (link_up l) = []
+message_of (link_down l) = []
+message_of (link_message s) = s
 
 -- What is lent along with an event, by its length: the list in words, the hold in bytes.
 pub record Lent : Type 0 where

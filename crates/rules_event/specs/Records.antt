@@ -22,13 +22,13 @@ link_at g l =
     }
 
 -- AS a, of which the events of its links ask this
-abbrev pub ownerOf : Gateway → ℕ → Owner
-ownerOf g a = record { mode = number_at g.mode a; waiting = number_at g.waiting a; held = number_at g.held.count a }
+abbrev pub owner_of : Gateway → ℕ → Owner
+owner_of g a = record { mode = number_at g.mode a; waiting = number_at g.waiting a; held = number_at g.held.count a }
 
 -- ASP p itself
-abbrev pub aspAt : Gateway → ℕ → Asp
-aspAt g p = record { id = number_at g.aspid p; up = number_at g.up p; wholelists = number_at g.wholelists p }
+abbrev pub asp_at : Gateway → ℕ → Asp
+asp_at g p = record { id = number_at g.aspid p; up = number_at g.up p; wholelists = number_at g.wholelists p }
 
 -- ASP p as AS a has it
-abbrev pub senderOf : Gateway → ℕ → ℕ → Sender
-senderOf g a p = record { up = (aspAt g p).up; member = number_at g.member (pair a p); active = number_at g.active (pair a p) }
+abbrev pub sender_of : Gateway → ℕ → ℕ → Sender
+sender_of g a p = record { up = (asp_at g p).up; member = number_at g.member (pair a p); active = number_at g.active (pair a p) }

@@ -4,37 +4,37 @@
 use Rattle.std.specs.Prelude.{Bool, true, false, ◌&&◌, not, List, ℕ, eqb, ltb, length, get_or}
 use Rattle.state_tables.specs.declared.Gateway.{Gateway}
 use Rattle.rules_action.specs.declared.Action.{Action}
-use Rattle.rules_action.specs.Types.{userData}
-use Rattle.rules_action.specs.Words.{action, linkSide}
-use Rattle.rules_event.specs.Event.{EventKind, message, lost, recovery, linkUp, linkDown, linkMessage}
-use Rattle.rules_event.specs.Effect.{actionsOf}
+use Rattle.rules_action.specs.Types.{user_data}
+use Rattle.rules_action.specs.Words.{action, link_side}
+use Rattle.rules_event.specs.Event.{EventKind, message, lost, recovery, link_up, link_down, link_message}
+use Rattle.rules_event.specs.Effect.{actions_of}
 use Rattle.rules_event.specs.Rules.{effect_of}
 
 -- the actions of an event, whatever is lent
-abbrev pub actionsOn : Gateway → EventKind → List Action
-actionsOn g k = actionsOf g (effect_of g k)
+abbrev pub actions_on : Gateway → EventKind → List Action
+actions_on g k = actions_of g (effect_of g k)
 
 -- the action at a place; beyond them, one to the link side
-unfoldable pub actionAt : List Action → ℕ → Action
-actionAt os n = get_or os n (action linkSide 0 0 0)
+unfoldable pub action_at : List Action → ℕ → Action
+action_at os n = get_or os n (action link_side 0 0 0)
 
 -- the place is that of an action to an ASP
-unfoldable pub isSent : List Action → ℕ → Bool
-isSent os n = ltb n (length os) && not (eqb (actionAt os n).to linkSide)
+unfoldable pub is_sent : List Action → ℕ → Bool
+is_sent os n = ltb n (length os) && not (eqb (action_at os n).to link_side)
 
 -- Data to an ASP
-unfoldable pub isData : Action → Bool
-isData o = eqb o.classtype userData && not (eqb o.to linkSide)
+unfoldable pub is_data : Action → Bool
+is_data o = eqb o.classtype user_data && not (eqb o.to link_side)
 
 -- the unit that the action at place n sends, if it sends one
 abbrev pub unit_for : Gateway → EventKind → ℕ → ℕ
-unit_for g k n = (actionAt (actionsOn g k) n).unit
+unit_for g k n = (action_at (actions_on g k) n).unit
 
 -- what the link side sends is passed on, and was not held
-abbrev pub isPassed : EventKind → Bool
-isPassed (message p s) = false
-isPassed (lost p) = false
-isPassed (recovery a) = false
-isPassed (linkUp l) = false
-isPassed (linkDown l) = false
-isPassed (linkMessage s) = true
+abbrev pub is_passed : EventKind → Bool
+is_passed (message p s) = false
+is_passed (lost p) = false
+is_passed (recovery a) = false
+is_passed (link_up l) = false
+is_passed (link_down l) = false
+is_passed (link_message s) = true

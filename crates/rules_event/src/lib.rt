@@ -13,7 +13,7 @@ pub struct Outcome {
 }
 
 // ---- records: what the rules of links and of ASPs are said of (Rule 5.27). A new column of links or of ASPs
-// is a field here, and is read from the state in one place (`link_at`, `aspAt`).
+// is a field here, and is read from the state in one place (`link_at`, `asp_at`).
 
 // What is kept of a link: a row of the links' columns.
 #[derive(Drop)]
@@ -50,7 +50,7 @@ pub struct Sender {
 }
 
 // What an accepted event does, as the code decides it before it does it (the definitions' Effect, by
-// `effectIn`). The large fields come first: so the compiler moves them whole.
+// `effect_in`). The large fields come first: so the compiler moves them whole.
 #[derive(Drop)]
 pub struct Decision {
     // the ASes of the change, or the ASPs that get `first`

@@ -18,9 +18,9 @@ pub or_right : (s : Bool) {t : Bool} → t ≡ true → (s || t) ≡ true
 or_right true p = refl
 or_right false p = p
 
-pub and-cong : (s : Bool) {t u : Bool} → (s ≡ true → t ≡ u) → (s && t) ≡ (s && u)
-and-cong true h = h refl
-and-cong false h = refl
+pub and_cong : (s : Bool) {t u : Bool} → (s ≡ true → t ≡ u) → (s && t) ≡ (s && u)
+and_cong true h = h refl
+and_cong false h = refl
 
 -- two choices by one test
 pub cond_same : {A : Type 0} (t : Bool) {x y x' y' : A} → (t ≡ true → x ≡ x') → (t ≡ false → y ≡ y') → cond t x y ≡ cond t x' y'
@@ -43,22 +43,22 @@ set_same l m i k v e h = go (ℕ_discrete k i) (dec_lt i (length l))
     go (no p) d = get_or-set_other l i k v 0 p ∙ h ∙ sym (get_or-set_other m i k v 0 p)
 
 -- the same of bytes laid over them
-pub over-same : (vs l m : List ℕ) (i k : ℕ) → length l ≡ length m → number_at l k ≡ number_at m k → number_at (overlay l i vs) k ≡ number_at (overlay m i vs) k
+pub over_same : (vs l m : List ℕ) (i k : ℕ) → length l ≡ length m → number_at l k ≡ number_at m k → number_at (overlay l i vs) k ≡ number_at (overlay m i vs) k
 unfolding overlay
-over-same [] l m i k e h = h
-over-same (v ∷ vs) l m i k e h =
-    over-same vs (set l i v) (set m i v) (suc i) k (length-set l i v ∙ e ∙ sym (length-set m i v)) (set_same l m i k v e h)
+over_same [] l m i k e h = h
+over_same (v ∷ vs) l m i k e h =
+    over_same vs (set l i v) (set m i v) (suc i) k (length-set l i v ∙ e ∙ sym (length-set m i v)) (set_same l m i k v e h)
 
 -- a place that they do not cover stays
-pub over-other : (vs l : List ℕ) (i k : ℕ) → (i ≤ k → k < i + length vs → ⊥) → number_at (overlay l i vs) k ≡ number_at l k
+pub over_other : (vs l : List ℕ) (i k : ℕ) → (i ≤ k → k < i + length vs → ⊥) → number_at (overlay l i vs) k ≡ number_at l k
 unfolding overlay
-over-other [] l i k h = refl
-over-other (v ∷ vs) l i k h =
-    over-other vs (set l i v) (suc i) k (λ p q. h (omega arith) (omega arith)) ∙ get_or-set_other l i k v 0 (λ z. h (omega arith) (omega arith))
+over_other [] l i k h = refl
+over_other (v ∷ vs) l i k h =
+    over_other vs (set l i v) (suc i) k (λ p q. h (omega arith) (omega arith)) ∙ get_or-set_other l i k v 0 (λ z. h (omega arith) (omega arith))
 
 -- lists that are alike in their first n places, and have one length and the same after those
-pub ext-front : (n : ℕ) (l m : List ℕ) → ((i : ℕ) → i < n → number_at l i ≡ number_at m i) → length l ≡ length m → drop n l ≡ drop n m → l ≡ m
-ext-front n l m f e d = ext_get_or 0 l m e (λ i b. go i (dec_lt i n))
+pub ext_front : (n : ℕ) (l m : List ℕ) → ((i : ℕ) → i < n → number_at l i ≡ number_at m i) → length l ≡ length m → drop n l ≡ drop n m → l ≡ m
+ext_front n l m f e d = ext_get_or 0 l m e (λ i b. go i (dec_lt i n))
   where
     go : (i : ℕ) → Dec (i < n) → number_at l i ≡ number_at m i
     go i (yes b) = f i b

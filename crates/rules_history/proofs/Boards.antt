@@ -15,21 +15,21 @@ use Rattle.codec_put.specs.Bytes.{overlay}
 use Rattle.state_tables.specs.declared.Gateway.{Gateway}
 use Rattle.rules_action.specs.Words.{words_of}
 use Rattle.rules_server.specs.declared.Arrival.{Arrival}
-use Rattle.rules_event.specs.Event.{Event, messageOf}
-use Rattle.rules_event.specs.Effect.{Effect, send, setLink, changeIn, takeIn, holdAt, holdAfter}
+use Rattle.rules_event.specs.Event.{Event, message_of}
+use Rattle.rules_event.specs.Effect.{Effect, send, set_link, change_in, take_in, hold_at, hold_after}
 use Rattle.rules_event.specs.Rules.{effect_of}
-use Rattle.rules_event.specs.Reach.{reach, fromController}
-use Rattle.rules_event.specs.Entry.{nextHold}
-use Rattle.rules_event.specs.Calls.{Board, nextBoard, rulesAnswer}
-use Rattle.rules_event.specs.Inner.Calls.{hold-next}
+use Rattle.rules_event.specs.Reach.{reach, from_controller}
+use Rattle.rules_event.specs.Entry.{next_hold}
+use Rattle.rules_event.specs.Calls.{Board, next_board, rules_answer}
+use Rattle.rules_event.specs.Inner.Calls.{hold_next}
 use Rattle.rules_history.specs.Inner.Trade.{Commute}
 use Rattle.rules_history.specs.Inner.Local.{Local, Agree, Apart, commutes}
 use Rattle.rules_history.specs.History.{Independent}
-use Rattle.rules_history.proofs.Bits.{over-same, over-other, cond_yes, cond_no}
+use Rattle.rules_history.proofs.Bits.{over_same, over_other, cond_yes, cond_no}
 use Rattle.rules_history.proofs.Units.{counts}
 use Rattle.rules_history.proofs.Within.{Into, Within, Reaches, within}
 use Rattle.rules_history.proofs.Frame as frame
-use Rattle.rules_history.proofs.Frame.{Key, Val, Shape, Remade, reshape, live, live-sound, live-plan, reach_of, reach_live, unit}
+use Rattle.rules_history.proofs.Frame.{Key, Val, Shape, Remade, reshape, live, live_sound, live_plan, reach_of, reach_live, unit}
 
 -- ---- the keys of a state with its hold
 
@@ -77,43 +77,43 @@ ext b c e s = λ j. record {
 -- ---- the hold after an event
 
 module _ (g : Gateway) (e : Event) (h : List ℕ) where
-  pub hold-live : live g e ≡ true → nextHold g e h ≡ holdAfter g (messageOf e.kind) (effect_of g e.kind) h
-  unfolding nextHold
-  hold-live l = cond_yes _ _ l
+  pub hold_live : live g e ≡ true → next_hold g e h ≡ hold_after g (message_of e.kind) (effect_of g e.kind) h
+  unfolding next_hold
+  hold_live l = cond_yes _ _ l
 
-  pub hold-dead : live g e ≡ false → nextHold g e h ≡ h
-  unfolding nextHold
-  hold-dead l = cond_no _ _ l
+  pub hold_dead : live g e ≡ false → next_hold g e h ≡ h
+  unfolding next_hold
+  hold_dead l = cond_no _ _ l
 
-  by-hold : (F : List ℕ → Type 0) → (live g e ≡ true → F (holdAfter g (messageOf e.kind) (effect_of g e.kind) h)) → (live g e ≡ false → F h) → F (nextHold g e h)
-  unfolding nextHold
-  by-hold F m d = by_cond (live g e) F m d
+  by_hold : (F : List ℕ → Type 0) → (live g e ≡ true → F (hold_after g (message_of e.kind) (effect_of g e.kind) h)) → (live g e ≡ false → F h) → F (next_hold g e h)
+  unfolding next_hold
+  by_hold F m d = by_cond (live g e) F m d
 
 -- a unit lies in its AS's part
-in-part : (g : Gateway) (R : ℕ → Bool) (a : ℕ) (x : Arrival) (s : List ℕ) (j : ℕ) → Into g R a x
-    → holdAt a (number_at g.held.count a) ≤ j → j < holdAt a (number_at g.held.count a) + length (take (x.length - 4) (drop x.start s)) → part_of j ≡ a
-in-part g R a x s j w lo hi =
+in_part : (g : Gateway) (R : ℕ → Bool) (a : ℕ) (x : Arrival) (s : List ℕ) (j : ℕ) → Into g R a x
+    → hold_at a (number_at g.held.count a) ≤ j → j < hold_at a (number_at g.held.count a) + length (take (x.length - 4) (drop x.start s)) → part_of j ≡ a
+in_part g R a x s j w lo hi =
     let z : length (take (x.length - 4) (drop x.start s)) ≤ 273 = rw (length-take (x.length - 4) (drop x.start s)) (omega (arith, w.most)) in
     let n = w.room in
     omega arith
 
-kept_byte : (g : Gateway) (R own : ℕ → Bool) (s : List ℕ) (d : Effect) (h : List ℕ) → Within g R own d → (j : ℕ) → R (part_of j) ≡ false → number_at (holdAfter g s d h) j ≡ number_at h j
+kept_byte : (g : Gateway) (R own : ℕ → Bool) (s : List ℕ) (d : Effect) (h : List ℕ) → Within g R own d → (j : ℕ) → R (part_of j) ≡ false → number_at (hold_after g s d h) j ≡ number_at h j
 kept_byte g R own s (send os) h w j r = refl
-kept_byte g R own s (setLink l v os) h w j r = refl
-kept_byte g R own s (changeIn os k named) h w j r = refl
-kept_byte g R own s (takeIn a x) h w j r =
-    over-other (take (x.length - 4) (drop x.start s)) h (holdAt a (number_at g.held.count a)) j
-    (λ lo hi. clash (R (part_of j)) r (ap R (in-part g R a x s j w lo hi) ∙ w.reached))
+kept_byte g R own s (set_link l v os) h w j r = refl
+kept_byte g R own s (change_in os k named) h w j r = refl
+kept_byte g R own s (take_in a x) h w j r =
+    over_other (take (x.length - 4) (drop x.start s)) h (hold_at a (number_at g.held.count a)) j
+    (λ lo hi. clash (R (part_of j)) r (ap R (in_part g R a x s j w lo hi) ∙ w.reached))
 
 -- what is laid over it is the same where the AS has as many units
-alike-byte : (g' g : Gateway) (R own : ℕ → Bool) (s : List ℕ) (d : Effect) (h' h : List ℕ) → Within g R own d → ((a : ℕ) → R a ≡ true → number_at g'.held.count a ≡ number_at g.held.count a)
-    → length h' ≡ length h → (j : ℕ) → number_at h' j ≡ number_at h j → number_at (holdAfter g' s d h') j ≡ number_at (holdAfter g s d h) j
-alike-byte g' g R own s (send os) h' h w n e j z = z
-alike-byte g' g R own s (setLink l v os) h' h w n e j z = z
-alike-byte g' g R own s (changeIn os k named) h' h w n e j z = z
-alike-byte g' g R own s (takeIn a x) h' h w n e j z =
-    ap (λ (m : ℕ). number_at (overlay h' (holdAt a m) (take (x.length - 4) (drop x.start s))) j) (n a w.reached)
-    ∙ over-same (take (x.length - 4) (drop x.start s)) h' h (holdAt a (number_at g.held.count a)) j e z
+alike_byte : (g' g : Gateway) (R own : ℕ → Bool) (s : List ℕ) (d : Effect) (h' h : List ℕ) → Within g R own d → ((a : ℕ) → R a ≡ true → number_at g'.held.count a ≡ number_at g.held.count a)
+    → length h' ≡ length h → (j : ℕ) → number_at h' j ≡ number_at h j → number_at (hold_after g' s d h') j ≡ number_at (hold_after g s d h) j
+alike_byte g' g R own s (send os) h' h w n e j z = z
+alike_byte g' g R own s (set_link l v os) h' h w n e j z = z
+alike_byte g' g R own s (change_in os k named) h' h w n e j z = z
+alike_byte g' g R own s (take_in a x) h' h w n e j z =
+    ap (λ (m : ℕ). number_at (overlay h' (hold_at a m) (take (x.length - 4) (drop x.start s))) j) (n a w.reached)
+    ∙ over_same (take (x.length - 4) (drop x.start s)) h' h (hold_at a (number_at g.held.count a)) j e z
 
 -- ---- two boards that agree on what e reads
 
@@ -121,34 +121,34 @@ module _ (b b' : Board) (e : Event) (h : Agree get reads writes b b' e) where
   inner : Agree frame.get frame.reads frame.writes b.gateway b'.gateway e
   inner k r = h (gate k) r
 
-  same_out : rulesAnswer b' e ≡ rulesAnswer b e
+  same_out : rules_answer b' e ≡ rules_answer b e
   same_out =
-      let os = frame.same-actions-all b.gateway b'.gateway e inner in
-      λ j. record { refusal = frame.same-refusal b.gateway b'.gateway e inner j; count = length (os j); words = words_of (os j) }
+      let os = frame.same_actions_all b.gateway b'.gateway e inner in
+      λ j. record { refusal = frame.same_refusal b.gateway b'.gateway e inner j; count = length (os j); words = words_of (os j) }
 
   same_writes : (k : Place) → writes b' e k ≡ writes b e k
   same_writes (gate k) = frame.same_writes b.gateway b'.gateway e inner k
   same_writes room = refl
-  same_writes (byte j) = frame.same-reach b.gateway b'.gateway e inner (part_of j)
+  same_writes (byte j) = frame.same_reach b.gateway b'.gateway e inner (part_of j)
 
-  same_byte : (j : ℕ) → reach b.gateway e (part_of j) ≡ true → number_at (nextHold b'.gateway e b'.hold) j ≡ number_at (nextHold b.gateway e b.hold) j
+  same_byte : (j : ℕ) → reach b.gateway e (part_of j) ≡ true → number_at (next_hold b'.gateway e b'.hold) j ≡ number_at (next_hold b.gateway e b.hold) j
   same_byte j v =
       let g = b.gateway in
       let g' = b'.gateway in
       let l = reach_live g e (part_of j) v in
-      ap (λ (x : List ℕ). number_at x j) (hold-live g' e b'.hold (frame.same_live g g' e inner ∙ l))
-      ∙ ap (λ (d : Effect). number_at (holdAfter g' (messageOf e.kind) d b'.hold) j) (frame.same_effect g g' e inner l)
-      ∙ alike-byte g' g (Reaches g e.kind) (fromController e.kind) (messageOf e.kind) (effect_of g e.kind) b'.hold b.hold (frame.in_reach g g' e inner l)
+      ap (λ (x : List ℕ). number_at x j) (hold_live g' e b'.hold (frame.same_live g g' e inner ∙ l))
+      ∙ ap (λ (d : Effect). number_at (hold_after g' (message_of e.kind) d b'.hold) j) (frame.same_effect g g' e inner l)
+      ∙ alike_byte g' g (Reaches g e.kind) (from_controller e.kind) (message_of e.kind) (effect_of g e.kind) b'.hold b.hold (frame.in_reach g g' e inner l)
       (λ a r. inner (unit counts a) (reach_of g e a l r)) (h room refl) j (h (byte j) v)
-      ∙ sym (ap (λ (x : List ℕ). number_at x j) (hold-live g e b.hold l))
+      ∙ sym (ap (λ (x : List ℕ). number_at x j) (hold_live g e b.hold l))
 
-  same_next : (k : Place) → writes b e k ≡ true → get (nextBoard b' e) k ≡ get (nextBoard b e) k
+  same_next : (k : Place) → writes b e k ≡ true → get (next_board b' e) k ≡ get (next_board b e) k
   same_next (gate k) v = frame.same_next b.gateway b'.gateway e inner k v
   same_next room v = clash false refl v
   same_next (byte j) v = same_byte j v
 
-  same-shapes : shapes b' e ≡ shapes b e
-  same-shapes = frame.same-shapes b.gateway b'.gateway e inner
+  same_shapes : shapes b' e ≡ shapes b e
+  same_shapes = frame.same_shapes b.gateway b'.gateway e inner
 
 -- ---- all of it
 
@@ -157,17 +157,17 @@ covers b e (gate k) v = frame.covers b.gateway e k v
 covers b e room v = refl
 covers b e (byte j) v = v
 
-pub untouched : (b : Board) (e : Event) (k : Place) → writes b e k ≡ false → get (nextBoard b e) k ≡ get b k
+pub untouched : (b : Board) (e : Event) (k : Place) → writes b e k ≡ false → get (next_board b e) k ≡ get b k
 untouched b e (gate k) v = frame.untouched b.gateway e k v
-untouched b e room v = hold-next b.gateway e b.hold
+untouched b e room v = hold_next b.gateway e b.hold
 untouched b e (byte j) v =
-    by-hold b.gateway e b.hold (λ (x : List ℕ). number_at x j ≡ number_at b.hold j)
+    by_hold b.gateway e b.hold (λ (x : List ℕ). number_at x j ≡ number_at b.hold j)
     (λ l.
     let g = b.gateway in
-    kept_byte g (Reaches g e.kind) (fromController e.kind) (messageOf e.kind) (effect_of g e.kind) b.hold (within g (live-sound g e l) e.kind (live-plan g e l)) j
+    kept_byte g (Reaches g e.kind) (from_controller e.kind) (message_of e.kind) (effect_of g e.kind) b.hold (within g (live_sound g e l) e.kind (live_plan g e l)) j
     (false_of (Reaches g e.kind (part_of j)) (λ r. clash (reach g e (part_of j)) v (reach_of g e (part_of j) l r)))) (λ l. refl)
 
-pub local : Local get shape reads writes shapes reshape rulesAnswer nextBoard
+pub local : Local get shape reads writes shapes reshape rules_answer next_board
 local =
     record {
       ext = ext;
@@ -176,9 +176,9 @@ local =
       same_out = same_out;
       same_writes = same_writes;
       same_next = same_next;
-      same-shapes = same-shapes;
+      same_shapes = same_shapes;
       reshaped = λ b e. frame.reshaped b.gateway e;
-      reshape-trade = frame.reshape-trade;
+      reshape_trade = frame.reshape_trade;
     }
 
 -- ---- the condition for a trade (Rule 10.4)
@@ -191,6 +191,6 @@ apart b e f d (byte j) v r = d.servers (part_of j) v r
 flip : (b : Board) (e f : Event) → Independent b e f → Independent b f e
 flip b e f d = record { controllers = λ q p r. d.controllers q r p; servers = λ a p r. d.servers a r p }
 
-pub free-commute : (b : Board) (e f : Event) → Independent b e f → Commute rulesAnswer nextBoard b e f
-free-commute b e f d =
-    commutes get shape reads writes shapes reshape rulesAnswer nextBoard local b e f (apart b e f d) (apart b f e (flip b e f d))
+pub free_commute : (b : Board) (e f : Event) → Independent b e f → Commute rules_answer next_board b e f
+free_commute b e f d =
+    commutes get shape reads writes shapes reshape rules_answer next_board local b e f (apart b e f d) (apart b f e (flip b e f d))

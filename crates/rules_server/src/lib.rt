@@ -4,13 +4,13 @@ ghost use Rattle.std.specs.Prelude.{◌≡◌, true, ◌+◌, ◌*◌, ◌<◌, 
 ghost use Rattle.laws.specs.Below.{one};
 ghost use Rattle.laws.specs.Columns.{number_at};
 ghost use Rattle.rules_action.specs.Inner.Words.{Written};
-ghost use Rattle.rules_server.specs.Record.{row, membersUp, recordFrom, some, stateIn};
+ghost use Rattle.rules_server.specs.Record.{row, members_up, record_from, some, state_in};
 ghost use Rattle.rules_server.specs.Inner.Record.{with_row};
-ghost use Rattle.rules_server.specs.Change.{recordWith, after, overtakenIn};
-ghost use Rattle.rules_server.specs.Inner.Flag.{flagged, flagOf, less, more, activatedBy, overtakenBy};
+ghost use Rattle.rules_server.specs.Change.{record_with, after, overtaken_in};
+ghost use Rattle.rules_server.specs.Inner.Flag.{flagged, flag_of, less, more, activated_by, overtaken_by};
 ghost use Rattle.rules_server.specs.Inner.Notify.{announced, spoken};
 ghost use Rattle.rules_server.specs.Inner.Change.{fits};
-ghost use Rattle.rules_server.specs.Units.{unitsOut, letOut};
+ghost use Rattle.rules_server.specs.Units.{units_out, let_out};
 
 use rules_action::Action;
 
@@ -81,7 +81,7 @@ pub fn row_of(column: &[u8; 256], a: usize) -> [bool; 16]
 // The members of AS a that are up.
 fn members_up(up: &[u8; 16], member: &[u8; 256], a: usize) -> [bool; 16]
     requires { a < 16 }
-    ensures { result ≡ membersUp up.now member.now a }
+    ensures { result ≡ members_up up.now member.now a }
 {
     let mut r = [false; 16];
     for q in 0..16usize {
@@ -100,7 +100,7 @@ pub fn record_of(
     a: usize,
 ) -> AsRecord
     requires { a < 16 }
-    ensures { result ≡ recordFrom up.now member.now active.now waiting.now mode.now a }
+    ensures { result ≡ record_from up.now member.now active.now waiting.now mode.now a }
 {
     let ups = members_up(up, member, a);
     let acts = row_of(active, a);
@@ -137,7 +137,7 @@ fn alone(p: usize) -> [bool; 16]
 // The ASP of a change, as a flag: found once, for all ASes. (A test of each place against p is the slower by
 // far.)
 pub fn flag_of(k: Change) -> [bool; 16]
-    ensures { result ≡ flagOf k }
+    ensures { result ≡ flag_of k }
 {
     match k {
         Change::AspUp(p) => alone(p),
@@ -172,7 +172,7 @@ fn plus(x: [bool; 16], y: [bool; 16]) -> [bool; 16]
 
 // The active members once those of y are, in override they alone.
 fn turn_on(x: [bool; 16], mode: u8, y: [bool; 16]) -> [bool; 16]
-    ensures { result ≡ activatedBy x mode y }
+    ensures { result ≡ activated_by x mode y }
 {
     if mode == 1 {
         return y;
@@ -182,7 +182,7 @@ fn turn_on(x: [bool; 16], mode: u8, y: [bool; 16]) -> [bool; 16]
 
 // Those whom they overtake in override.
 fn overtake(x: [bool; 16], mode: u8, y: [bool; 16]) -> [bool; 16]
-    ensures { result ≡ overtakenBy x mode y }
+    ensures { result ≡ overtaken_by x mode y }
 {
     if mode == 1 {
         return minus(x, y);
@@ -192,7 +192,7 @@ fn overtake(x: [bool; 16], mode: u8, y: [bool; 16]) -> [bool; 16]
 
 // The record with other members up and active: it waits if it lost its last active member (Rule 7.12).
 fn settled(s: AsRecord, ups: [bool; 16], acts: [bool; 16]) -> AsRecord
-    ensures { result ≡ recordWith s ups acts }
+    ensures { result ≡ record_with s ups acts }
 {
     let before = s.acts;
     let was = has_some(before);
@@ -206,7 +206,7 @@ fn settled(s: AsRecord, ups: [bool; 16], acts: [bool; 16]) -> AsRecord
 }
 
 pub fn changed(s: AsRecord, k: Change, me: [bool; 16]) -> AsRecord
-    requires { me ≡ flagOf k }
+    requires { me ≡ flag_of k }
     ensures { result ≡ after k s }
 {
     let ups = s.ups;
@@ -227,8 +227,8 @@ pub fn changed(s: AsRecord, k: Change, me: [bool; 16]) -> AsRecord
 
 // Those whom the change overtakes.
 pub fn overtaken_in(s: AsRecord, k: Change, me: [bool; 16]) -> [bool; 16]
-    requires { me ≡ flagOf k }
-    ensures { result ≡ overtakenIn k s }
+    requires { me ≡ flag_of k }
+    ensures { result ≡ overtaken_in k s }
 {
     let acts = s.acts;
     match k {
@@ -244,7 +244,7 @@ pub fn overtaken_in(s: AsRecord, k: Change, me: [bool; 16]) -> [bool; 16]
 
 // The state of the AS: 0 down, 2 inactive, 3 active, 4 pending.
 pub fn state_in(s: AsRecord) -> u32
-    ensures { result ≡ stateIn s }
+    ensures { result ≡ state_in s }
 {
     let acts = s.acts;
     if has_some(acts) {
@@ -315,7 +315,7 @@ pub fn speak(
 // place.
 fn units_out(p: usize, n: u8, id: &[u32; 128], a: usize, words: &mut [u32], m: usize) -> usize
     requires { (p < 16) × (a < 16) × (m * 4 + 32 ≤ length words.old) }
-    ensures { Written words.old m (unitsOut p n id.now a) words.new result }
+    ensures { Written words.old m (units_out p n id.now a) words.new result }
 {
     let held = state_tables::wide(n);
     let mut at = m;
@@ -346,7 +346,7 @@ pub fn let_out(
     n: usize,
 ) -> usize
     requires { (a < 16) × (n * 4 + 32 ≤ length words.old) × (fits k ≡ true) }
-    ensures { Written words.old n (letOut k (number_at count.now a) id.now a) words.new result }
+    ensures { Written words.old n (let_out k (number_at count.now a) id.now a) words.new result }
 {
     match k {
         Change::Activate(p) => units_out(p, count[a], id, a, words, n),

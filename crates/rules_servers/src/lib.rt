@@ -2,16 +2,16 @@
 // Notifies that go out, and puts it back.
 ghost use Rattle.std.specs.Prelude.{◌≡◌, true, ◌+◌, ◌*◌, ◌<◌, ◌≤◌, length};
 ghost use Rattle.laws.specs.Columns.{number_at};
-ghost use Rattle.rules_server.specs.Record.{recordFrom};
+ghost use Rattle.rules_server.specs.Record.{record_from};
 ghost use Rattle.rules_server.specs.Inner.Change.{fits};
-ghost use Rattle.rules_server.specs.Inner.Flag.{flagOf};
-ghost use Rattle.rules_servers.specs.Changed.{withFlag, upAfter, columnOf};
+ghost use Rattle.rules_server.specs.Inner.Flag.{flag_of};
+ghost use Rattle.rules_servers.specs.Changed.{with_flag, up_after, column_of};
 ghost use Rattle.rules_servers.specs.Inner.Run.{Stepped, Ran};
 
 // The ASes of ASP p, or those in which it is active.
 pub fn column_of(column: &[u8; 256], p: usize) -> [bool; 16]
     requires { p < 16 }
-    ensures { result ≡ columnOf column.now p }
+    ensures { result ≡ column_of column.now p }
 {
     let mut r = [false; 16];
     for a in 0..16usize {
@@ -23,7 +23,7 @@ pub fn column_of(column: &[u8; 256], p: usize) -> [bool; 16]
 // The column gets x at place p.
 fn put_flag(column: &mut [u8; 16], p: usize, x: u8)
     requires { length column.old ≡ 16 }
-    ensures { column.new ≡ withFlag column.old p x }
+    ensures { column.new ≡ with_flag column.old p x }
 {
     if p < 16 {
         column[p] = x;
@@ -33,7 +33,7 @@ fn put_flag(column: &mut [u8; 16], p: usize, x: u8)
 // Who is up after the change.
 pub fn mark(up: &mut [u8; 16], k: rules_server::Change)
     requires { length up.old ≡ 16 }
-    ensures { up.new ≡ upAfter k up.old }
+    ensures { up.new ≡ up_after k up.old }
 {
     match k {
         rules_server::Change::AspUp(p) => put_flag(up, p, 1),
@@ -60,8 +60,8 @@ fn step(
     words: &mut [u32],
     n: usize,
 ) -> usize
-    requires { (a < 16) × (n * 4 + 96 ≤ length words.old) × (length active.old ≡ 256) × (fits k ≡ true) × (me ≡ flagOf k) }
-    ensures { Stepped k named a (recordFrom up.now member.now active.old waiting.old mode.now a) (number_at count.now a) id.now active.old waiting.old words.old n active.new waiting.new words.new result }
+    requires { (a < 16) × (n * 4 + 96 ≤ length words.old) × (length active.old ≡ 256) × (fits k ≡ true) × (me ≡ flag_of k) }
+    ensures { Stepped k named a (record_from up.now member.now active.old waiting.old mode.now a) (number_at count.now a) id.now active.old waiting.old words.old n active.new waiting.new words.new result }
 {
     if !named {
         return n;
@@ -91,7 +91,7 @@ pub fn run<'a>(
     n: usize,
 ) -> usize
     requires { (n * 4 + 1536 ≤ length words.old) × (length active.old ≡ 256) × (length waiting.old ≡ 16) × (fits k ≡ true) }
-    ensures { Ran k named (recordFrom up.now member.now active.old waiting.old mode.now) count.now id.now active.old waiting.old words.old n active.new waiting.new words.new result }
+    ensures { Ran k named (record_from up.now member.now active.old waiting.old mode.now) count.now id.now active.old waiting.old words.old n active.new waiting.new words.new result }
 {
     let me = rules_server::flag_of(k);
     let mut m = n;

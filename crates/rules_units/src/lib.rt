@@ -1,2 +1,2 @@
-// The unit held that each Data to an ASP sends: the theorem every-unit and its proof (specs/ and proofs/
+// The unit held that each Data to an ASP sends: the theorem every_unit and its proof (specs/ and proofs/
 // alone).

@@ -5,13 +5,13 @@ ghost use Rattle.laws.specs.Columns.{number_at};
 ghost use Rattle.codec_wire.specs.Walk.{walk};
 ghost use Rattle.state_tables.specs.Sound.{ascends};
 ghost use Rattle.state_lookup.specs.Inner.Links.{rank};
-ghost use Rattle.state_sets.specs.Inner.Bits.{flagsOf};
-ghost use Rattle.state_ranges.specs.Named.{someOf};
-ghost use Rattle.state_ranges.specs.Places.{isFrom};
+ghost use Rattle.state_sets.specs.Inner.Bits.{flags_of};
+ghost use Rattle.state_ranges.specs.Named.{some_of};
+ghost use Rattle.state_ranges.specs.Places.{is_from};
 ghost use Rattle.state_ranges.specs.Inner.Laws.{Table};
-ghost use Rattle.rules_event.specs.Identifiers.{isIds, namesSome};
+ghost use Rattle.rules_event.specs.Identifiers.{is_ids, names_some};
 ghost use Rattle.send_good_ids.specs.Inner.Marks.{Marked, Adds, Covered, GoodColumn};
-ghost use Rattle.send_good_ids.specs.Inner.Made.{goodForm, ModeFits, GoodMessage};
+ghost use Rattle.send_good_ids.specs.Inner.Made.{good_form, ModeFits, GoodMessage};
 
 use codec_select::Which;
 use codec_wire::{HEADER, Step};
@@ -102,7 +102,7 @@ fn mark_range(
     near: usize,
 ) -> usize
     requires { (length until.old ≡ 128) × (links ≤ 128) × (ascends iid.now links ≡ true) }
-    ensures { Adds until.old iid.now links (isFrom start stop) until.new }
+    ensures { Adds until.old iid.now links (is_from start stop) until.new }
 {
     if stop < start {
         return near;
@@ -126,7 +126,7 @@ fn mark_id(
     near: usize,
 ) -> usize
     requires { (length until.old ≡ 128) × (links ≤ 128) × (ascends iid.now links ≡ true) }
-    ensures { Adds until.old iid.now links (isFrom x x) until.new }
+    ensures { Adds until.old iid.now links (is_from x x) until.new }
 {
     let l = first_near(iid, links, guess, x, near);
     if !is_up_to(iid, links, l, x) {
@@ -139,7 +139,7 @@ fn mark_id(
 // Those of the value of a 0x1: few, which often come in order.
 fn mark_few(until: &mut [u8; 128], value: &[u8], iid: &[u32; 128], links: usize, guess: &[u8; 256])
     requires { (length until.old ≡ 128) × (links ≤ 128) × (ascends iid.now links ≡ true) }
-    ensures { Adds until.old iid.now links (λ x. someOf (eqb x) false value.now) until.new }
+    ensures { Adds until.old iid.now links (λ x. some_of (eqb x) false value.now) until.new }
 {
     let n = state_names::entries_of(value, false);
     let mut near: usize = 0;
@@ -161,7 +161,7 @@ fn past_if(named: bool, l: usize) -> usize
 // it.
 fn mark_many(until: &mut [u8; 128], value: &[u8], iid: &[u32; 128], links: usize)
     requires { (length until.old ≡ 128) × (links ≤ 128) × (ascends iid.now links ≡ true) }
-    ensures { Adds until.old iid.now links (λ x. someOf (eqb x) false value.now) until.new }
+    ensures { Adds until.old iid.now links (λ x. some_of (eqb x) false value.now) until.new }
 {
     let table = state_index::table_of(iid, links);
     let n = state_names::entries_of(value, false);
@@ -176,7 +176,7 @@ fn mark_many(until: &mut [u8; 128], value: &[u8], iid: &[u32; 128], links: usize
 // The same of any number.
 fn mark_ids(until: &mut [u8; 128], value: &[u8], iid: &[u32; 128], links: usize, guess: &[u8; 256])
     requires { (length until.old ≡ 128) × (links ≤ 128) × (ascends iid.now links ≡ true) }
-    ensures { Adds until.old iid.now links (λ x. someOf (eqb x) false value.now) until.new }
+    ensures { Adds until.old iid.now links (λ x. some_of (eqb x) false value.now) until.new }
 {
     if state_names::MANY <= value.len() {
         mark_many(until, value, iid, links);
@@ -194,7 +194,7 @@ fn mark_ranges(
     guess: &[u8; 256],
 )
     requires { (length until.old ≡ 128) × (links ≤ 128) × (ascends iid.now links ≡ true) }
-    ensures { Adds until.old iid.now links (λ x. someOf (eqb x) true value.now) until.new }
+    ensures { Adds until.old iid.now links (λ x. some_of (eqb x) true value.now) until.new }
 {
     let n = state_names::entries_of(value, true);
     let mut near: usize = 0;
@@ -215,7 +215,7 @@ fn mark_par(
     guess: &[u8; 256],
 )
     requires { (length until.old ≡ 128) × (links ≤ 128) × (ascends iid.now links ≡ true) }
-    ensures { Adds until.old iid.now links (λ x. isIds t && someOf (eqb x) (eqb t 0x8) v.now) until.new }
+    ensures { Adds until.old iid.now links (λ x. is_ids t && some_of (eqb x) (eqb t 0x8) v.now) until.new }
 {
     if t == 1 {
         mark_ids(until, v, iid, links, guess);
@@ -229,7 +229,7 @@ fn mark_par(
 // Those of a message.
 fn marks_of(s: &[u8], iid: &[u32; 128], links: usize) -> [u8; 128]
     requires { (links ≤ 128) × (ascends iid.now links ≡ true) }
-    ensures { Covered result iid.now links (λ x. namesSome (eqb x) (walk s.now 8).pars) }
+    ensures { Covered result iid.now links (λ x. names_some (eqb x) (walk s.now 8).pars) }
 {
     let mut guess = [0u8; 256];
     guesses(&mut guess, iid, links, s.len());
@@ -258,7 +258,7 @@ pub fn good_places<'a>(
     owner: &'a [u8; 128],
 ) -> [u8; 128]
     requires { Table iid.now owner.now links }
-    ensures { GoodColumn iid.now owner.now links (flagsOf mine) (walk s.now 8).pars result }
+    ensures { GoodColumn iid.now owner.now links (flags_of mine) (walk s.now 8).pars result }
 {
     let until = marks_of(s, iid, links);
     let mut r = [0u8; 128];
@@ -276,7 +276,7 @@ pub fn good_places<'a>(
 // What it is made of: the traffic mode of the received one, and the identifiers of the links that a column
 // marks with 1. Its type is that of an Active.
 fn good_form() -> Form
-    ensures { result ≡ goodForm }
+    ensures { result ≡ good_form }
 {
     Form {
         class: 4,
@@ -306,7 +306,7 @@ pub fn put_good<'a>(
     owner: &'a [u8; 128],
 ) -> usize
     requires { (length out.old ≡ 544) × Table iid.now owner.now links × ModeFits (walk msg.now 8).pars }
-    ensures { GoodMessage iid.now owner.now links (flagsOf mine) (walk msg.now 8).pars result out.new }
+    ensures { GoodMessage iid.now owner.now links (flags_of mine) (walk msg.now 8).pars result out.new }
 {
     let column = good_places(msg, links, mine, iid, owner);
     let form = good_form();

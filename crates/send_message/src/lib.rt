@@ -1,12 +1,12 @@
 // The messages that actions to ASPs go out as (Rules 8.8 to 8.16).
 ghost use Rattle.std.specs.Prelude.{◌≡◌, cond, [], ◌++◌, ◌+◌, ◌≤◌, length};
-ghost use Rattle.laws.specs.Below.{when, countBelow, one};
+ghost use Rattle.laws.specs.Below.{when, count_below, one};
 ghost use Rattle.codec_wire.specs.Walk.{walk};
-ghost use Rattle.codec_put.specs.Bytes.{overlay, bytes32, par, parsBytes};
+ghost use Rattle.codec_put.specs.Bytes.{overlay, bytes32, par, pars_bytes};
 ghost use Rattle.codec_write.specs.Encode.{size_of, encode};
 ghost use Rattle.codec_select.specs.Inner.Picks.{PutBytes, PutPars};
-ghost use Rattle.send_message.specs.Message.{numberPar};
-ghost use Rattle.send_message.specs.Inner.Form.{owns, ids_in, heldPars, saidPars, listedPars, copiedPars, formPars, dataSize, listedSize, FormFits, numbered, saying, releasing, listing, copying, formOf};
+ghost use Rattle.send_message.specs.Message.{number_par};
+ghost use Rattle.send_message.specs.Inner.Form.{owns, ids_in, held_pars, said_pars, listed_pars, copied_pars, form_pars, data_size, listed_size, FormFits, numbered, saying, releasing, listing, copying, form_of};
 
 use codec_select::Which;
 use codec_wire::HEADER;
@@ -171,7 +171,7 @@ fn copy(classtype: u32, first: Which, after: Which) -> Form
 // The form of an action that passes a message on, or of one that the gateway makes; u is the unit that it
 // sends, if it sends one.
 pub fn form_of(passed: bool, o: Action, u: Unit) -> Form
-    ensures { result ≡ formOf passed o u }
+    ensures { result ≡ form_of passed o u }
 {
     let ct = o.classtype;
     let subject = o.subject;
@@ -218,7 +218,7 @@ fn one_if(t: bool) -> u8
 // How many of the first links AS a owns: a number of one byte is compared with 16 owners at once.
 fn count_byte(owner: &[u8; 128], links: usize, a: u8) -> usize
     requires { links ≤ 128 }
-    ensures { (result ≡ countBelow (owns owner.now a) links) × (result ≤ 128) }
+    ensures { (result ≡ count_below (owns owner.now a) links) × (result ≤ 128) }
 {
     let mut n: u8 = 0;
     for l in 0..links {
@@ -230,7 +230,7 @@ fn count_byte(owner: &[u8; 128], links: usize, a: u8) -> usize
 // The same of any number.
 fn count_wide(owner: &[u8; 128], links: usize, a: usize) -> usize
     requires { links ≤ 128 }
-    ensures { (result ≡ countBelow (owns owner.now a) links) × (result ≤ 128) }
+    ensures { (result ≡ count_below (owns owner.now a) links) × (result ≤ 128) }
 {
     let mut n: usize = 0;
     for l in 0..links {
@@ -241,7 +241,7 @@ fn count_wide(owner: &[u8; 128], links: usize, a: usize) -> usize
 
 fn count_owned(owner: &[u8; 128], links: usize, a: usize) -> usize
     requires { links ≤ 128 }
-    ensures { (result ≡ countBelow (owns owner.now a) links) × (result ≤ 128) }
+    ensures { (result ≡ count_below (owns owner.now a) links) × (result ≤ 128) }
 {
     if a < 256 {
         return count_byte(owner, links, a as u8);
@@ -252,7 +252,7 @@ fn count_owned(owner: &[u8; 128], links: usize, a: usize) -> usize
 // The bytes of the parameter that lists them.
 fn listed_size(owner: &[u8; 128], links: usize, listed: bool, a: usize) -> usize
     requires { links ≤ 128 }
-    ensures { (result ≡ listedSize owner.now links listed a) × (result ≤ 516) }
+    ensures { (result ≡ listed_size owner.now links listed a) × (result ≤ 516) }
 {
     if listed {
         let n = count_owned(owner, links, a);
@@ -267,7 +267,7 @@ fn listed_size(owner: &[u8; 128], links: usize, listed: bool, a: usize) -> usize
 // The bytes of the parameter of a unit's data, whose value has n.
 fn data_size(held: bool, n: usize) -> usize
     requires { n ≤ 65531 }
-    ensures { (result ≡ dataSize held n) × (result ≤ 65536) }
+    ensures { (result ≡ data_size held n) × (result ≤ 65536) }
 {
     if held {
         return (n + 7) / 4 * 4;
@@ -284,8 +284,8 @@ pub fn size_of<'a>(
     owner: &'a [u8; 128],
     links: usize,
 ) -> usize
-    requires { (links ≤ 128) × (length body.now ≤ 65531) × (size_of (formPars iid.now owner.now links (walk msg.now 8).pars body.now f) ≤ 2048) }
-    ensures { result ≡ size_of (formPars iid.now owner.now links (walk msg.now 8).pars body.now f) }
+    requires { (links ≤ 128) × (length body.now ≤ 65531) × (size_of (form_pars iid.now owner.now links (walk msg.now 8).pars body.now f) ≤ 2048) }
+    ensures { result ≡ size_of (form_pars iid.now owner.now links (walk msg.now 8).pars body.now f) }
 {
     let first = f.first;
     let after = f.after;
@@ -301,8 +301,8 @@ pub fn size_of<'a>(
 
 // A parameter of one number where it is wanted; the position after it.
 fn put_number_if(out: &mut [u8], at: usize, yes: bool, tag: u16, n: u32) -> usize
-    requires { at + length (parsBytes (when yes (numberPar tag n))) ≤ length out.old }
-    ensures { PutPars out.old at (when yes (numberPar tag n)) result out.new }
+    requires { at + length (pars_bytes (when yes (number_par tag n))) ≤ length out.old }
+    ensures { PutPars out.old at (when yes (number_par tag n)) result out.new }
 {
     if yes {
         return codec_put::put_number(out, at, tag, n);
@@ -312,7 +312,7 @@ fn put_number_if(out: &mut [u8], at: usize, yes: bool, tag: u16, n: u32) -> usiz
 
 // The data of a unit where it is wanted; the position after it.
 fn put_data_if(out: &mut [u8], at: usize, yes: bool, tag: u16, body: &[u8]) -> usize
-    requires { (length body.now ≤ 65531) × (at + length (parsBytes (when yes (par tag body.now))) ≤ length out.old) }
+    requires { (length body.now ≤ 65531) × (at + length (pars_bytes (when yes (par tag body.now))) ≤ length out.old) }
     ensures { PutPars out.old at (when yes (par tag body.now)) result out.new }
 {
     if yes {
@@ -323,8 +323,8 @@ fn put_data_if(out: &mut [u8], at: usize, yes: bool, tag: u16, body: &[u8]) -> u
 
 // The data of a unit and the second number.
 fn put_unit(out: &mut [u8], at: usize, body: &[u8], f: Form) -> usize
-    requires { (length body.now ≤ 65531) × (at + length (parsBytes (heldPars body.now f)) ≤ length out.old) }
-    ensures { PutPars out.old at (heldPars body.now f) result out.new }
+    requires { (length body.now ≤ 65531) × (at + length (pars_bytes (held_pars body.now f)) ≤ length out.old) }
+    ensures { PutPars out.old at (held_pars body.now f) result out.new }
 {
     let next = put_data_if(out, at, f.held, f.heldtag, body);
     put_number_if(out, next, f.two, f.tag2, f.number2)
@@ -332,8 +332,8 @@ fn put_unit(out: &mut [u8], at: usize, body: &[u8], f: Form) -> usize
 
 // The parameters of one number each, with the data of a unit between them.
 fn put_said(out: &mut [u8], at: usize, body: &[u8], f: Form) -> usize
-    requires { (length body.now ≤ 65531) × (at + length (parsBytes (saidPars body.now f)) ≤ length out.old) }
-    ensures { PutPars out.old at (saidPars body.now f) result out.new }
+    requires { (length body.now ≤ 65531) × (at + length (pars_bytes (said_pars body.now f)) ≤ length out.old) }
+    ensures { PutPars out.old at (said_pars body.now f) result out.new }
 {
     let next = put_number_if(out, at, f.one, f.tag, f.number);
     put_unit(out, next, body, f)
@@ -379,8 +379,8 @@ fn put_listed<'a>(
     links: usize,
     f: Form,
 ) -> usize
-    requires { (links ≤ 128) × (at + length (parsBytes (listedPars iid.now owner.now links f)) ≤ length out.old) }
-    ensures { PutPars out.old at (listedPars iid.now owner.now links f) result out.new }
+    requires { (links ≤ 128) × (at + length (pars_bytes (listed_pars iid.now owner.now links f)) ≤ length out.old) }
+    ensures { PutPars out.old at (listed_pars iid.now owner.now links f) result out.new }
 {
     let a = f.owned;
     let n = listed_size(owner, links, f.listed, a);
@@ -393,8 +393,8 @@ fn put_listed<'a>(
 
 // The parameters of the received message.
 fn put_copies(out: &mut [u8], at: usize, msg: &[u8], f: Form) -> usize
-    requires { at + length (parsBytes (copiedPars (walk msg.now 8).pars f)) ≤ length out.old }
-    ensures { PutPars out.old at (copiedPars (walk msg.now 8).pars f) result out.new }
+    requires { at + length (pars_bytes (copied_pars (walk msg.now 8).pars f)) ≤ length out.old }
+    ensures { PutPars out.old at (copied_pars (walk msg.now 8).pars f) result out.new }
 {
     let first = f.first;
     let after = f.after;
@@ -412,8 +412,8 @@ pub fn put_rest<'a>(
     links: usize,
     f: Form,
 ) -> usize
-    requires { (links ≤ 128) × (at + length (parsBytes (listedPars iid.now owner.now links f ++ copiedPars (walk msg.now 8).pars f)) ≤ length out.old) }
-    ensures { PutPars out.old at (listedPars iid.now owner.now links f ++ copiedPars (walk msg.now 8).pars f) result out.new }
+    requires { (links ≤ 128) × (at + length (pars_bytes (listed_pars iid.now owner.now links f ++ copied_pars (walk msg.now 8).pars f)) ≤ length out.old) }
+    ensures { PutPars out.old at (listed_pars iid.now owner.now links f ++ copied_pars (walk msg.now 8).pars f) result out.new }
 {
     let next = put_listed(out, at, iid, owner, links, f);
     put_copies(out, next, msg, f)
@@ -430,8 +430,8 @@ fn put_pars<'a>(
     links: usize,
     f: Form,
 ) -> usize
-    requires { (links ≤ 128) × (length body.now ≤ 65531) × (at + length (parsBytes (formPars iid.now owner.now links (walk msg.now 8).pars body.now f)) ≤ length out.old) }
-    ensures { PutPars out.old at (formPars iid.now owner.now links (walk msg.now 8).pars body.now f) result out.new }
+    requires { (links ≤ 128) × (length body.now ≤ 65531) × (at + length (pars_bytes (form_pars iid.now owner.now links (walk msg.now 8).pars body.now f)) ≤ length out.old) }
+    ensures { PutPars out.old at (form_pars iid.now owner.now links (walk msg.now 8).pars body.now f) result out.new }
 {
     let next = put_said(out, at, body, f);
     put_rest(out, next, msg, iid, owner, links, f)
@@ -451,7 +451,7 @@ pub fn put_form<'a>(
     at: usize,
 ) -> usize
     requires { FormFits iid.now owner.now links (walk msg.now 8).pars body.now f size at out.old }
-    ensures { (result ≡ at + size) × (out.new ≡ overlay out.old at (encode f.class f.msgtype (formPars iid.now owner.now links (walk msg.now 8).pars body.now f))) }
+    ensures { (result ≡ at + size) × (out.new ≡ overlay out.old at (encode f.class f.msgtype (form_pars iid.now owner.now links (walk msg.now 8).pars body.now f))) }
 {
     codec_put::put_header(out, at, f.class, f.msgtype, size as u32);
     put_pars(out, at + HEADER, msg, body, iid, owner, links, f)

@@ -4,18 +4,18 @@ ghost use Rattle.std.specs.Prelude.{◌≡◌, true, cond, ◌+◌, ◌-◌, ◌
 ghost use Rattle.codec_wire.specs.Walk.{walk};
 ghost use Rattle.codec_put.specs.Bytes.{overlay};
 ghost use Rattle.state_ranges.specs.Inner.Laws.{Table};
-ghost use Rattle.rules_servers.specs.Changed.{columnOf};
+ghost use Rattle.rules_servers.specs.Changed.{column_of};
 ghost use Rattle.send_good_ids.specs.Inner.Made.{ModeFits, GoodMessage};
 ghost use Rattle.event_asked.specs.Happened.{happened};
-ghost use Rattle.state_tables.specs.State.{gatewayOf, unitsOf};
+ghost use Rattle.state_tables.specs.State.{gateway_of, units_of};
 ghost use Rattle.send_message.specs.Send.{Sends, SendsMany};
 ghost use Rattle.send_message.specs.Handle.{Handles};
 ghost use Rattle.send_message.specs.Inner.Kinds.{lent_by};
-ghost use Rattle.send_orders.specs.Inner.Part.{part_of, partMade, PutIf, Fits, lent_of, partIn, Ready};
-ghost use Rattle.send_orders.specs.Inner.Alike.{areAlike, repeatsIn};
-ghost use Rattle.send_orders.specs.Inner.Parts.{isPartIn};
+ghost use Rattle.send_orders.specs.Inner.Part.{part_of, part_made, PutIf, Fits, lent_of, part_in, Ready};
+ghost use Rattle.send_orders.specs.Inner.Alike.{are_alike, repeats_in};
+ghost use Rattle.send_orders.specs.Inner.Parts.{is_part_in};
 ghost use Rattle.send_orders.specs.Inner.Batch.{Ended};
-ghost use Rattle.send_orders.specs.Inner.Many.{batchOf};
+ghost use Rattle.send_orders.specs.Inner.Many.{batch_of};
 ghost use Rattle.send_orders.specs.Inner.Behind.{lines_of, CanWrite, Wrote};
 ghost use Rattle.send_orders.specs.Inner.Handled.{code_of};
 
@@ -52,7 +52,7 @@ fn received(kind: u32, msg: &[u8]) -> &[u8]
 // Whether identifiers of a message were refused beside others that were not: an Error stands behind the Ack
 // of an Active or Inactive.
 fn in_part(words: &[u32; 1544], count: usize) -> bool
-    ensures { result ≡ isPartIn words.now count }
+    ensures { result ≡ is_part_in words.now count }
 {
     (1 < count)
         & ((words[1] == ASP_ACTIVE_ACK) | (words[1] == ASP_INACTIVE_ACK))
@@ -72,7 +72,7 @@ fn good_if<'a>(
     owner: &'a [u8; 128],
 ) -> usize
     requires { (length block.old ≡ 544) × (part ≡ true → (p < 16) × Table iid.now owner.now links × ModeFits (walk msg.now 8).pars) }
-    ensures { (result ≤ length block.new) × (part ≡ true → GoodMessage iid.now owner.now links (columnOf member.now p) (walk msg.now 8).pars result block.new) }
+    ensures { (result ≤ length block.new) × (part ≡ true → GoodMessage iid.now owner.now links (column_of member.now p) (walk msg.now 8).pars result block.new) }
 {
     if part {
         return send_good_ids::put_good(
@@ -149,7 +149,7 @@ fn put_new<'a, 'b>(
     out: &mut [u8],
 ) -> usize
     requires { Fits iid.now owner.now tags.now lengths.now marks.now correlations.now t msg.now hold.now out.old }
-    ensures { PutIf out.old t.at (partMade iid.now owner.now tags.now lengths.now marks.now correlations.now t.links msg.now hold.now t.passed t.index t.o) result out.new }
+    ensures { PutIf out.old t.at (part_made iid.now owner.now tags.now lengths.now marks.now correlations.now t.links msg.now hold.now t.passed t.index t.o) result out.new }
 {
     let o = t.o;
     let x = send_unit::sent_at(o, t.passed, t.index, tags, lengths, marks, correlations);
@@ -187,7 +187,7 @@ pub struct Run {
 // Whether two actions have the same message: both go to an ASP, nothing but the ASP differs, and neither
 // sends a unit.
 fn alike(o: Action, last: Action, passed: bool) -> bool
-    ensures { result ≡ areAlike passed o last }
+    ensures { result ≡ are_alike passed o last }
 {
     (o.to != LINK_SIDE)
         & (last.to != LINK_SIDE)
@@ -200,7 +200,7 @@ fn alike(o: Action, last: Action, passed: bool) -> bool
 // Whether the action n places on has the message of the one before it. The first has none before it.
 fn repeats(words: &[u32; 1544], place: usize, n: usize, passed: bool) -> bool
     requires { place + n < 386 }
-    ensures { result ≡ repeatsIn passed words.now place n }
+    ensures { result ≡ repeats_in passed words.now place n }
 {
     if n == 0 {
         return false;
@@ -265,7 +265,7 @@ fn put_many<'a, 'b>(
 ) -> Reached
     requires { Ready (lent_of run words.now list.now msg.now hold.now iid.now owner.now tags.now lengths.now marks.now correlations.now) }
     ensures few { run.place + result.count ≤ run.count }
-    ensures ended { Ended (λ j. partIn (lent_of run words.now list.now msg.now hold.now iid.now owner.now tags.now lengths.now marks.now correlations.now) (run.place + j)) (λ m. leb run.count (run.place + m)) lens.old out.old result.count result.length lens.new out.new }
+    ensures ended { Ended (λ j. part_in (lent_of run words.now list.now msg.now hold.now iid.now owner.now tags.now lengths.now marks.now correlations.now) (run.place + j)) (λ m. leb run.count (run.place + m)) lens.old out.old result.count result.length lens.new out.new }
 {
     let count = run.count;
     let place = run.place;
@@ -392,7 +392,7 @@ fn put_from<'a, 'b>(
 
 // What is handed back of a batch: 103 where not one action went in.
 fn batch_of(r: Reached) -> Batch
-    ensures { result ≡ batchOf r.count r.length }
+    ensures { result ≡ batch_of r.count r.length }
 {
     if r.count == 0 {
         return Batch {
@@ -442,7 +442,7 @@ pub extern "C" fn m2ua_orders_at<'a>(
     lens: &mut [u32],
     out: &mut [u8],
 ) -> Batch
-    ensures { SendsMany (gatewayOf asps ases links spare aspid.now up.now member.now active.now mode.now waiting.now iid.now owner.now state.now highspeed.now wholelists.now (unitsOf count.now tag.now len.now marked.now id.now correlation.now)) hold.now (happened kind i msg.now) place lens.old out.old result lens.new out.new }
+    ensures { SendsMany (gateway_of asps ases links spare aspid.now up.now member.now active.now mode.now waiting.now iid.now owner.now state.now highspeed.now wholelists.now (units_of count.now tag.now len.now marked.now id.now correlation.now)) hold.now (happened kind i msg.now) place lens.old out.old result lens.new out.new }
 {
     let mut new_up = *up;
     let mut new_active = *active;
@@ -558,7 +558,7 @@ pub extern "C" fn m2ua_order_at<'a>(
     place: usize,
     out: &mut [u8],
 ) -> Written
-    ensures { Sends (gatewayOf asps ases links spare aspid.now up.now member.now active.now mode.now waiting.now iid.now owner.now state.now highspeed.now wholelists.now (unitsOf count.now tag.now len.now marked.now id.now correlation.now)) hold.now (happened kind i msg.now) place out.old result out.new }
+    ensures { Sends (gateway_of asps ases links spare aspid.now up.now member.now active.now mode.now waiting.now iid.now owner.now state.now highspeed.now wholelists.now (units_of count.now tag.now len.now marked.now id.now correlation.now)) hold.now (happened kind i msg.now) place out.old result out.new }
 {
     let mut one = [0u32; 1];
     let batch = m2ua_orders_at(
@@ -655,7 +655,7 @@ pub extern "C" fn m2ua_handle_at<'a>(
     lens: &mut [u32; 386],
     out: &mut [u8],
 ) -> Handled
-    ensures { Handles (gatewayOf asps ases links spare aspid.now up.old member.now active.old mode.now waiting.old iid.now owner.now state.old highspeed.now wholelists.now (unitsOf count.old tag.old len.old marked.old id.old correlation.old)) (happened kind i msg.now) hold.old words.old lens.old out.old result (gatewayOf asps ases links spare aspid.now up.new member.now active.new mode.now waiting.new iid.now owner.now state.new highspeed.now wholelists.now (unitsOf count.new tag.new len.new marked.new id.new correlation.new)) hold.new words.new lens.new out.new }
+    ensures { Handles (gateway_of asps ases links spare aspid.now up.old member.now active.old mode.now waiting.old iid.now owner.now state.old highspeed.now wholelists.now (units_of count.old tag.old len.old marked.old id.old correlation.old)) (happened kind i msg.now) hold.old words.old lens.old out.old result (gateway_of asps ases links spare aspid.now up.new member.now active.new mode.now waiting.new iid.now owner.now state.new highspeed.now wholelists.now (units_of count.new tag.new len.new marked.new id.new correlation.new)) hold.new words.new lens.new out.new }
 {
     let size = hold.len();
     if out.len() < ROOM_BYTES {

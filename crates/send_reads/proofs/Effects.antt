@@ -8,70 +8,70 @@ use Prim.Native.Nat.{ℕ, ◌≤◌}
 use native.Mathlib.Omega.{arith}
 use Rattle.laws.specs.Below.{when}
 use lib.Dec.{ltb}
-use Rattle.laws.specs.Columns.{flagAt, number_at}
-use Rattle.state_tables.specs.Sound.{unitIndex}
+use Rattle.laws.specs.Columns.{flag_at, number_at}
+use Rattle.state_tables.specs.Sound.{unit_index}
 use Rattle.state_tables.specs.declared.Gateway.{Gateway}
 use Rattle.rules_action.specs.declared.Action.{Action}
-use Rattle.rules_action.specs.Words.{action, linkSide, toEach, toAll}
-use Rattle.rules_action.specs.Types.{mgmtError, mgmtNotify, aspUpAck, aspDownAck, establishConfirm, releaseConfirm, releaseIndication, dataAck, asState, otherActive}
+use Rattle.rules_action.specs.Words.{action, link_side, to_each, to_all}
+use Rattle.rules_action.specs.Types.{mgmt_error, mgmt_notify, asp_up_ack, asp_down_ack, establish_confirm, release_confirm, release_indication, data_ack, as_state, other_active}
 use Rattle.rules_server.specs.declared.AsRecord.{AsRecord}
 use Rattle.rules_server.specs.declared.Change.{Change}
 use Rattle.rules_server.specs.declared.Change.TheVariants.{AspUp, AspDown, Deactivate, Activate, Recover}
-use Rattle.rules_server.specs.Record.{recordOf, stateIn}
-use Rattle.rules_server.specs.Inner.Record.{state-small}
-use Rattle.rules_server.specs.Change.{after, overtakenIn}
-use Rattle.rules_server.specs.Notify.{notify, isNotified, notifiesTo, notifies, actionsIn}
-use Rattle.rules_server.specs.Units.{sending, unitOut, unitsOut, letOut}
-use Rattle.rules_servers.specs.Changed.{actionsAt, allActions}
-use Rattle.send_message.specs.Inner.Stands.{isTrafficAck}
+use Rattle.rules_server.specs.Record.{record_of, state_in}
+use Rattle.rules_server.specs.Inner.Record.{state_small}
+use Rattle.rules_server.specs.Change.{after, overtaken_in}
+use Rattle.rules_server.specs.Notify.{notify, is_notified, notifies_to, notifies, actions_in}
+use Rattle.rules_server.specs.Units.{sending, unit_out, units_out, let_out}
+use Rattle.rules_servers.specs.Changed.{actions_at, all_actions}
+use Rattle.send_message.specs.Inner.Stands.{is_traffic_ack}
 use Rattle.send_reads.proofs.Numbers.{largest}
-use Rattle.send_reads.proofs.Each.{Each, each_none, each_append, each-cond, each-when, each_below}
+use Rattle.send_reads.proofs.Each.{Each, each_none, each_append, each_cond, each_when, each_below}
 
 -- the same action to each ASP whose flag is set
-pub each_all : {P : Action → Type 0} (who : List Bool) (k x v : ℕ) → ((p : ℕ) → P (action p k x v)) → Each P (toAll who k x v)
-unfolding toAll toEach
-each_all who k x v h = each_below (toEach who k x v) 16 (λ p. each-when (flagAt who p) (action p k x v) (h p))
+pub each_all : {P : Action → Type 0} (who : List Bool) (k x v : ℕ) → ((p : ℕ) → P (action p k x v)) → Each P (to_all who k x v)
+unfolding to_all to_each
+each_all who k x v h = each_below (to_each who k x v) 16 (λ p. each_when (flag_at who p) (action p k x v) (h p))
 
 -- ---- the actions that the rules make, but for the Acks that repeat some of what they answer
 
 pub record Holds (P : Action → Type 0) : Type 0 where
-  pub errors : (p x n : ℕ) → n ≤ largest → P (action p mgmtError x n)
-  pub notes : (p a n : ℕ) → n ≤ largest → P (action p mgmtNotify a n)
+  pub errors : (p x n : ℕ) → n ≤ largest → P (action p mgmt_error x n)
+  pub notes : (p a n : ℕ) → n ≤ largest → P (action p mgmt_notify a n)
   pub units : (p : ℕ) (id : List ℕ) (i : ℕ) → P (sending p id i)
-  pub sides : (k x v : ℕ) → isTrafficAck k ≡ false → P (action linkSide k x v)
-  pub up-acked : (p : ℕ) → P (action p aspUpAck 0 0)
-  pub down-acked : (p : ℕ) → P (action p aspDownAck 0 0)
-  pub data-acked : (p x n : ℕ) → P (action p dataAck x n)
-  pub established : (p x v : ℕ) → P (action p establishConfirm x v)
-  pub released : (p x v : ℕ) → P (action p releaseConfirm x v)
-  pub stopped : (p x v : ℕ) → P (action p releaseIndication x v)
+  pub sides : (k x v : ℕ) → is_traffic_ack k ≡ false → P (action link_side k x v)
+  pub up_acked : (p : ℕ) → P (action p asp_up_ack 0 0)
+  pub down_acked : (p : ℕ) → P (action p asp_down_ack 0 0)
+  pub data_acked : (p x n : ℕ) → P (action p data_ack x n)
+  pub established : (p x v : ℕ) → P (action p establish_confirm x v)
+  pub released : (p x v : ℕ) → P (action p release_confirm x v)
+  pub stopped : (p x v : ℕ) → P (action p release_indication x v)
 
 -- ---- Notifies, and the units of an AS
 
-module _ {P : Action → Type 0} (note : (p a n : ℕ) → n ≤ largest → P (action p mgmtNotify a n)) (unit : (p : ℕ) (id : List ℕ) (i : ℕ) → P (sending p id i)) where
-  to_one : (lost : List Bool) (s t : AsRecord) (a p : ℕ) → Each P (notifiesTo lost s t a p)
-  unfolding notifiesTo
+module _ {P : Action → Type 0} (note : (p a n : ℕ) → n ≤ largest → P (action p mgmt_notify a n)) (unit : (p : ℕ) (id : List ℕ) (i : ℕ) → P (sending p id i)) where
+  to_one : (lost : List Bool) (s t : AsRecord) (a p : ℕ) → Each P (notifies_to lost s t a p)
+  unfolding notifies_to
   to_one lost s t a p =
-      each_append (when (flagAt lost p) (notify a otherActive p)) (when (isNotified s t && flagAt t.ups p) (notify a (asState (stateIn t)) p))
-      (each-when (flagAt lost p) (notify a otherActive p) (note p a otherActive (omega arith)))
-      (each-when (isNotified s t && flagAt t.ups p) (notify a (asState (stateIn t)) p) (note p a (asState (stateIn t)) (omega (arith, state-small t))))
+      each_append (when (flag_at lost p) (notify a other_active p)) (when (is_notified s t && flag_at t.ups p) (notify a (as_state (state_in t)) p))
+      (each_when (flag_at lost p) (notify a other_active p) (note p a other_active (omega arith)))
+      (each_when (is_notified s t && flag_at t.ups p) (notify a (as_state (state_in t)) p) (note p a (as_state (state_in t)) (omega (arith, state_small t))))
 
-  let-out : (k : Change) (n : ℕ) (id : List ℕ) (a : ℕ) → Each P (letOut k n id a)
-  unfolding letOut unitsOut unitOut
-  let-out (AspUp p) n id a = each_none
-  let-out (AspDown p) n id a = each_none
-  let-out (Deactivate p) n id a = each_none
-  let-out (Activate p) n id a = each_below (unitOut p n id a) 8 (λ k. each-when (ltb k n) _ (unit p id (unitIndex a k)))
-  let-out Recover n id a = each_none
+  let_out_lem : (k : Change) (n : ℕ) (id : List ℕ) (a : ℕ) → Each P (let_out k n id a)
+  unfolding let_out units_out unit_out
+  let_out_lem (AspUp p) n id a = each_none
+  let_out_lem (AspDown p) n id a = each_none
+  let_out_lem (Deactivate p) n id a = each_none
+  let_out_lem (Activate p) n id a = each_below (unit_out p n id a) 8 (λ k. each_when (ltb k n) _ (unit p id (unit_index a k)))
+  let_out_lem Recover n id a = each_none
 
-  in_one : (g : Gateway) (k : Change) (named : List Bool) (count id : List ℕ) (a : ℕ) → Each P (actionsAt k named (recordOf g) count id a)
-  unfolding actionsAt actionsIn notifies
+  in_one : (g : Gateway) (k : Change) (named : List Bool) (count id : List ℕ) (a : ℕ) → Each P (actions_at k named (record_of g) count id a)
+  unfolding actions_at actions_in notifies
   in_one g k named count id a =
-      let s : AsRecord = recordOf g a in
-      each-cond (flagAt named a) (letOut k (number_at count a) id a ++ notifies (overtakenIn k s) s (after k s) a) []
-      (each_append (letOut k (number_at count a) id a) (notifies (overtakenIn k s) s (after k s) a) (let-out k (number_at count a) id a) (each_below (notifiesTo (overtakenIn k s) s (after k s) a) 16 (to_one (overtakenIn k s) s (after k s) a)))
+      let s : AsRecord = record_of g a in
+      each_cond (flag_at named a) (let_out k (number_at count a) id a ++ notifies (overtaken_in k s) s (after k s) a) []
+      (each_append (let_out k (number_at count a) id a) (notifies (overtaken_in k s) s (after k s) a) (let_out_lem k (number_at count a) id a) (each_below (notifies_to (overtaken_in k s) s (after k s) a) 16 (to_one (overtaken_in k s) s (after k s) a)))
       each_none
 
-  pub each-change : (g : Gateway) (k : Change) (named : List Bool) → Each P (allActions g k named)
-  unfolding allActions
-  each-change g k named = each_below (actionsAt k named (recordOf g) g.held.count g.held.id) 16 (in_one g k named g.held.count g.held.id)
+  pub each_change : (g : Gateway) (k : Change) (named : List Bool) → Each P (all_actions g k named)
+  unfolding all_actions
+  each_change g k named = each_below (actions_at k named (record_of g) g.held.count g.held.id) 16 (in_one g k named g.held.count g.held.id)

@@ -15,100 +15,100 @@ use Rattle.codec_parameter.specs.Table.{table, row_in}
 use Rattle.codec_read.specs.Verdict.{most, in_turn}
 use Rattle.codec_put.specs.Bytes.{par}
 use Rattle.codec_write.specs.Encode.{size_of}
-use Rattle.codec_write.proofs.Verdicts.{listCode}
+use Rattle.codec_write.proofs.Verdicts.{list_code}
 use Rattle.state_tables.specs.declared.Gateway.{Gateway}
 use Rattle.rules_action.specs.declared.Action.{Action}
-use Rattle.rules_action.specs.Types.{mgmtError, mgmtNotify, aspUpAck, aspDownAck, beatAck, aspActiveAck, aspInactiveAck, establishConfirm, releaseConfirm, releaseIndication, dataAck}
+use Rattle.rules_action.specs.Types.{mgmt_error, mgmt_notify, asp_up_ack, asp_down_ack, beat_ack, asp_active_ack, asp_inactive_ack, establish_confirm, release_confirm, release_indication, data_ack}
 use Rattle.rules_server.specs.Units.{sending}
-use Rattle.rules_action.specs.Words.{action, linkSide}
-use Rattle.rules_event.specs.Sent.{isData}
-use Rattle.send_message.specs.Message.{numberPar, ids_of, idsPar, errorPars, notifyPars, linkPars, replyPars}
-use Rattle.send_reads.proofs.Numbers.{largest, ids-fours}
-use Rattle.send_reads.proofs.Lists.{error-list, notify-none, notify-ids, up-list, down-list, link-list, data-list}
+use Rattle.rules_action.specs.Words.{action, link_side}
+use Rattle.rules_event.specs.Sent.{is_data}
+use Rattle.send_message.specs.Message.{number_par, ids_of, ids_par, error_pars, notify_pars, link_pars, reply_pars}
+use Rattle.send_reads.proofs.Numbers.{largest, ids_fours}
+use Rattle.send_reads.proofs.Lists.{error_list, notify_none, notify_ids, up_list, down_list, link_list, data_list}
 use Rattle.send_reads.proofs.Effects.{Holds}
-use Rattle.send_reads.proofs.Acks.{beat-list, active-list, inactive-list}
+use Rattle.send_reads.proofs.Acks.{beat_list, active_list, inactive_list}
 
 -- an action whose parameters q gives: it goes to the link side, or is Data to an ASP, whose unit is looked at
 -- elsewhere, or its message is accepted
 unfoldable pub Good : (Action → List Par) → Action → Type 0
-Good q o = (o.to ≡ linkSide) ⊎ ((isData o ≡ true) ⊎ (listCode (o.classtype / 256) (o.classtype % 256) (q o) ≡ 0))
+Good q o = (o.to ≡ link_side) ⊎ ((is_data o ≡ true) ⊎ (list_code (o.classtype / 256) (o.classtype % 256) (q o) ≡ 0))
 
-good-side : (q : Action → List Par) (k x v : ℕ) → Good q (action linkSide k x v)
+good_side : (q : Action → List Par) (k x v : ℕ) → Good q (action link_side k x v)
 unfolding Good
-good-side q k x v = inl refl
+good_side q k x v = inl refl
 
-good-unit : (q : Action → List Par) (p : ℕ) (id : List ℕ) (i : ℕ) → Good q (sending p id i)
-unfolding Good isData
-good-unit q p id i = go (ℕ_discrete p linkSide)
+good_unit : (q : Action → List Par) (p : ℕ) (id : List ℕ) (i : ℕ) → Good q (sending p id i)
+unfolding Good is_data
+good_unit q p id i = go (ℕ_discrete p link_side)
   where
-    go : Dec (p ≡ linkSide) → Good q (sending p id i)
+    go : Dec (p ≡ link_side) → Good q (sending p id i)
     go (yes z) = inl z
-    go (no z) = inr (inl (rw (ne_eqb p linkSide z)))
+    go (no z) = inr (inl (rw (ne_eqb p link_side z)))
 
 -- ---- replies; ps are the parameters of the message that they answer
 
 module _ (g : Gateway) (hold : List ℕ) (ps : List Par) (i : ℕ) where
-  good-error : (p x n : ℕ) → n ≤ largest → Good (replyPars g hold ps i) (action p mgmtError x n)
-  unfolding Good replyPars errorPars
-  good-error p x n h = inr (inr (error-list x n (eqb n 2) h))
+  good_error : (p x n : ℕ) → n ≤ largest → Good (reply_pars g hold ps i) (action p mgmt_error x n)
+  unfolding Good reply_pars error_pars
+  good_error p x n h = inr (inr (error_list x n (eqb n 2) h))
 
-  good-notify : g.links ≤ 128 → (p a n : ℕ) → n ≤ largest → Good (replyPars g hold ps i) (action p mgmtNotify a n)
-  unfolding Good replyPars notifyPars idsPar
-  good-notify b p a n h = inr (inr (go (eqb (length (ids_of g a)) 0) refl))
+  good_notify : g.links ≤ 128 → (p a n : ℕ) → n ≤ largest → Good (reply_pars g hold ps i) (action p mgmt_notify a n)
+  unfolding Good reply_pars notify_pars ids_par
+  good_notify b p a n h = inr (inr (go (eqb (length (ids_of g a)) 0) refl))
     where
-      go : (u : Bool) → eqb (length (ids_of g a)) 0 ≡ u → listCode 0 1 (numberPar 0xd n ∷ cond u [] (par 0x1 (ids_of g a) ∷ [])) ≡ 0
-      go true e = notify-none n h
-      go false e = notify-ids n g.links (ids_of g a) h (ids-fours g a) b (eqb-false _ _ e)
+      go : (u : Bool) → eqb (length (ids_of g a)) 0 ≡ u → list_code 0 1 (number_par 0xd n ∷ cond u [] (par 0x1 (ids_of g a) ∷ [])) ≡ 0
+      go true e = notify_none n h
+      go false e = notify_ids n g.links (ids_of g a) h (ids_fours g a) b (eqb-false _ _ e)
 
-  good-up : (p : ℕ) → Good (replyPars g hold ps i) (action p aspUpAck 0 0)
-  unfolding Good replyPars
-  good-up p = inr (inr up-list)
+  good_up : (p : ℕ) → Good (reply_pars g hold ps i) (action p asp_up_ack 0 0)
+  unfolding Good reply_pars
+  good_up p = inr (inr up_list)
 
-  good-down : (p : ℕ) → Good (replyPars g hold ps i) (action p aspDownAck 0 0)
-  unfolding Good replyPars
-  good-down p = inr (inr down-list)
+  good_down : (p : ℕ) → Good (reply_pars g hold ps i) (action p asp_down_ack 0 0)
+  unfolding Good reply_pars
+  good_down p = inr (inr down_list)
 
   -- each answers a message of its own row
-  pub good-beat : size_of ps ≤ most → in_turn (row_in table 3 3) [] ps ≡ 0 → (p : ℕ) → Good (replyPars g hold ps i) (action p beatAck 0 0)
-  unfolding Good replyPars
-  good-beat h e p = inr (inr (beat-list ps e h))
+  pub good_beat : size_of ps ≤ most → in_turn (row_in table 3 3) [] ps ≡ 0 → (p : ℕ) → Good (reply_pars g hold ps i) (action p beat_ack 0 0)
+  unfolding Good reply_pars
+  good_beat h e p = inr (inr (beat_list ps e h))
 
-  pub good-active : g.links ≤ 128 → size_of ps ≤ most → in_turn (row_in table 4 1) [] ps ≡ 0 → (p : ℕ) → Good (replyPars g hold ps i) (action p aspActiveAck 0 0)
-  unfolding Good replyPars
-  good-active b h e p = inr (inr (active-list g p ps b e h))
+  pub good_active : g.links ≤ 128 → size_of ps ≤ most → in_turn (row_in table 4 1) [] ps ≡ 0 → (p : ℕ) → Good (reply_pars g hold ps i) (action p asp_active_ack 0 0)
+  unfolding Good reply_pars
+  good_active b h e p = inr (inr (active_list g p ps b e h))
 
-  pub good-inactive : g.links ≤ 128 → size_of ps ≤ most → in_turn (row_in table 4 2) [] ps ≡ 0 → (p : ℕ) → Good (replyPars g hold ps i) (action p aspInactiveAck 0 0)
-  unfolding Good replyPars
-  good-inactive b h e p = inr (inr (inactive-list g p ps b e h))
+  pub good_inactive : g.links ≤ 128 → size_of ps ≤ most → in_turn (row_in table 4 2) [] ps ≡ 0 → (p : ℕ) → Good (reply_pars g hold ps i) (action p asp_inactive_ack 0 0)
+  unfolding Good reply_pars
+  good_inactive b h e p = inr (inr (inactive_list g p ps b e h))
 
-  good-data : (p x n : ℕ) → Good (replyPars g hold ps i) (action p dataAck x n)
-  unfolding Good replyPars linkPars
-  good-data p x n = inr (inr (data-list x n))
+  good_data : (p x n : ℕ) → Good (reply_pars g hold ps i) (action p data_ack x n)
+  unfolding Good reply_pars link_pars
+  good_data p x n = inr (inr (data_list x n))
 
-  good-established : (p x v : ℕ) → Good (replyPars g hold ps i) (action p establishConfirm x v)
-  unfolding Good replyPars linkPars
-  good-established p x v = inr (inr (link-list x 3 (inl refl)))
+  good_established : (p x v : ℕ) → Good (reply_pars g hold ps i) (action p establish_confirm x v)
+  unfolding Good reply_pars link_pars
+  good_established p x v = inr (inr (link_list x 3 (inl refl)))
 
-  good-released : (p x v : ℕ) → Good (replyPars g hold ps i) (action p releaseConfirm x v)
-  unfolding Good replyPars linkPars
-  good-released p x v = inr (inr (link-list x 5 (inr (inl refl))))
+  good_released : (p x v : ℕ) → Good (reply_pars g hold ps i) (action p release_confirm x v)
+  unfolding Good reply_pars link_pars
+  good_released p x v = inr (inr (link_list x 5 (inr (inl refl))))
 
-  good-stopped : (p x v : ℕ) → Good (replyPars g hold ps i) (action p releaseIndication x v)
-  unfolding Good replyPars linkPars
-  good-stopped p x v = inr (inr (link-list x 6 (inr (inr refl))))
+  good_stopped : (p x v : ℕ) → Good (reply_pars g hold ps i) (action p release_indication x v)
+  unfolding Good reply_pars link_pars
+  good_stopped p x v = inr (inr (link_list x 6 (inr (inr refl))))
 
   -- so all of them are, that do not repeat some of what they answer
-  pub all-good : g.links ≤ 128 → Holds (Good (replyPars g hold ps i))
-  all-good b =
+  pub all_good : g.links ≤ 128 → Holds (Good (reply_pars g hold ps i))
+  all_good b =
       record {
-        errors = good-error;
-        notes = good-notify b;
-        units = good-unit (replyPars g hold ps i);
-        sides = λ k x v e. good-side (replyPars g hold ps i) k x v;
-        up-acked = good-up;
-        down-acked = good-down;
-        data-acked = good-data;
-        established = good-established;
-        released = good-released;
-        stopped = good-stopped;
+        errors = good_error;
+        notes = good_notify b;
+        units = good_unit (reply_pars g hold ps i);
+        sides = λ k x v e. good_side (reply_pars g hold ps i) k x v;
+        up_acked = good_up;
+        down_acked = good_down;
+        data_acked = good_data;
+        established = good_established;
+        released = good_released;
+        stopped = good_stopped;
       }

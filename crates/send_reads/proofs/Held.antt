@@ -12,15 +12,15 @@ use Rattle.laws.specs.Columns.{number_at}
 use Rattle.laws.specs.Inner.Every.{and_left, and_right}
 use Rattle.codec_read.specs.Verdict.{most}
 use Rattle.codec_write.specs.Encode.{size_of}
-use Rattle.codec_write.proofs.Verdicts.{listCode}
-use Rattle.state_tables.specs.Sound.{unit_at, isSound}
+use Rattle.codec_write.proofs.Verdicts.{list_code}
+use Rattle.state_tables.specs.Sound.{unit_at, is_sound}
 use Rattle.state_tables.specs.Inner.Laws.{parts}
 use Rattle.state_tables.specs.declared.Gateway.{Gateway}
 use Rattle.rules_action.specs.declared.Action.{Action}
 use Rattle.rules_keeps.specs.Inner.Units.{held}
-use Rattle.rules_event.specs.Effect.{holdBytes}
-use Rattle.send_message.specs.Message.{heldBody, unitPars}
-use Rattle.send_reads.proofs.Lists.{unit_size, unit-list}
+use Rattle.rules_event.specs.Effect.{hold_bytes}
+use Rattle.send_message.specs.Message.{held_body, unit_pars}
+use Rattle.send_reads.proofs.Lists.{unit_size, unit_list_lem}
 
 -- what a sound state says of its protocol data
 pub record Kept (g : Gateway) (i : ℕ) : Type 0 where
@@ -28,11 +28,11 @@ pub record Kept (g : Gateway) (i : ℕ) : Type 0 where
   pub least : 5 ≤ number_at g.held.length i
   pub most_bytes : number_at g.held.length i ≤ 277
 
-module _ (g : Gateway) (sound : isSound g ≡ true) (i : ℕ) (b : i < 128) (h : i % 8 < number_at g.held.count (i / 8)) where
+module _ (g : Gateway) (sound : is_sound g ≡ true) (i : ℕ) (b : i < 128) (h : i % 8 < number_at g.held.count (i / 8)) where
   pub kept : Kept g i
   unfolding unit_at
   kept =
-      let p = (held g.held g.waiting g.iid g.owner g.links (parts g sound).inUnits (i / 8) (omega arith)).places (i % 8) (omega arith) in
+      let p = (held g.held g.waiting g.iid g.owner g.links (parts g sound).in_units (i / 8) (omega arith)).places (i % 8) (omega arith) in
       let e : i / 8 * 8 + i % 8 ≡ i = omega arith in
       let u = rw (lt-ltb (i % 8) (number_at g.held.count (i / 8)) h, e) at p in
       let tags = eqb (number_at g.held.tag i) 0x300 || eqb (number_at g.held.tag i) 0x301 in
@@ -47,21 +47,21 @@ module _ (g : Gateway) (sound : isSound g ≡ true) (i : ℕ) (b : i < 128) (h :
       }
 
   module _ (hold : List ℕ) where
-    body-most : length (heldBody g hold i) ≤ 273
-    unfolding heldBody
-    body-most = let k = kept in rw length-take (omega arith)
+    body_most : length (held_body g hold i) ≤ 273
+    unfolding held_body
+    body_most = let k = kept in rw length-take (omega arith)
 
     -- its place is within a hold
-    body-least : length hold ≡ holdBytes → 1 ≤ length (heldBody g hold i)
-    unfolding heldBody
-    body-least e = let k = kept in rw (length-take, length-drop, e) (omega arith)
+    body_least : length hold ≡ hold_bytes → 1 ≤ length (held_body g hold i)
+    unfolding held_body
+    body_least e = let k = kept in rw (length-take, length-drop, e) (omega arith)
 
-    pub short : (o : Action) → size_of (unitPars g hold i o) ≤ most
-    unfolding unitPars
-    short o = unit_size o.subject (number_at g.held.tag i) (heldBody g hold i) (eqb (number_at g.held.marked i) 1) (number_at g.held.correlation i) body-most
+    pub short : (o : Action) → size_of (unit_pars g hold i o) ≤ most
+    unfolding unit_pars
+    short o = unit_size o.subject (number_at g.held.tag i) (held_body g hold i) (eqb (number_at g.held.marked i) 1) (number_at g.held.correlation i) body_most
 
-    pub accepts : length hold ≡ holdBytes → (o : Action) → listCode 6 1 (unitPars g hold i o) ≡ 0
-    unfolding unitPars
+    pub accepts : length hold ≡ hold_bytes → (o : Action) → list_code 6 1 (unit_pars g hold i o) ≡ 0
+    unfolding unit_pars
     accepts e o =
-        unit-list o.subject (number_at g.held.tag i) (heldBody g hold i) (eqb (number_at g.held.marked i) 1) (number_at g.held.correlation i)
-        kept.tagged (body-least e) body-most
+        unit_list_lem o.subject (number_at g.held.tag i) (held_body g hold i) (eqb (number_at g.held.marked i) 1) (number_at g.held.correlation i)
+        kept.tagged (body_least e) body_most

@@ -4,10 +4,10 @@ ghost use Rattle.std.specs.Prelude.{◌≡◌, true, cond, ◌+◌, ◌-◌, ◌
 ghost use Rattle.laws.specs.Below.{when};
 ghost use Rattle.laws.specs.Columns.{number_at};
 ghost use Rattle.codec_select.specs.Inner.Picks.{PutBytes};
-ghost use Rattle.rules_event.specs.Sent.{isData};
-ghost use Rattle.send_unit.specs.Inner.Words.{actionIn, dataIn};
-ghost use Rattle.send_unit.specs.Inner.Units.{goneRow, goneList};
-ghost use Rattle.send_unit.specs.Inner.Made.{held_of, sentOf};
+ghost use Rattle.rules_event.specs.Sent.{is_data};
+ghost use Rattle.send_unit.specs.Inner.Words.{action_in, data_in};
+ghost use Rattle.send_unit.specs.Inner.Units.{gone_row, gone_list};
+ghost use Rattle.send_unit.specs.Inner.Made.{held_of, sent_of};
 
 use rules_action::{Action, USER_DATA};
 use send_message::Unit;
@@ -20,7 +20,7 @@ const PLACE: usize = 273;
 // The action at a place of a list of words, which do not have the unit that it sends.
 pub fn action_at(words: &[u32; 1544], n: usize) -> Action
     requires { n < 386 }
-    ensures { result ≡ actionIn words.now n }
+    ensures { result ≡ action_in words.now n }
 {
     let at = n * 4;
     Action {
@@ -36,7 +36,7 @@ pub fn action_at(words: &[u32; 1544], n: usize) -> Action
 
 // Data to an ASP.
 pub fn is_data(o: Action) -> bool
-    ensures { result ≡ isData o }
+    ensures { result ≡ is_data o }
 {
     (o.classtype == USER_DATA) & (o.to != LINK_SIDE)
 }
@@ -44,7 +44,7 @@ pub fn is_data(o: Action) -> bool
 // How many of the first n actions are that.
 pub fn data_before(words: &[u32; 1544], n: usize) -> usize
     requires { n ≤ 386 }
-    ensures { result ≡ dataIn words.now n }
+    ensures { result ≡ data_in words.now n }
 {
     let mut d: usize = 0;
     for m in 0..n {
@@ -68,7 +68,7 @@ fn add_if(list: &mut [u8], n: usize, yes: bool, i: usize) -> usize
 // Those of the units that AS a has let go, which had so many before and has so many after.
 fn add_row(list: &mut [u8], n: usize, a: usize, before: u8, after: u8) -> usize
     requires { (a < 16) × (n + 8 ≤ length list.old) }
-    ensures { PutBytes list.old n (goneRow before after a) result list.new }
+    ensures { PutBytes list.old n (gone_row before after a) result list.new }
 {
     if before == 0 {
         return n;
@@ -85,7 +85,7 @@ fn add_row(list: &mut [u8], n: usize, a: usize, before: u8, after: u8) -> usize
 
 // Those of all ASes, in the sequence in which the units go out; zeros behind them.
 pub fn gone<'a>(before: &'a [u8; 16], after: &'a [u8; 16]) -> [u8; 128]
-    ensures { result ≡ goneList before.now after.now }
+    ensures { result ≡ gone_list before.now after.now }
 {
     let mut list = [0u8; 128];
     let mut n: usize = 0;
@@ -114,7 +114,7 @@ pub fn unit_for<'a>(
     after: &'a [u8; 16],
 ) -> usize
     requires { n ≤ 386 }
-    ensures { result ≡ cond held (number_at (goneList before.now after.now) (dataIn words.now n)) 0 }
+    ensures { result ≡ cond held (number_at (gone_list before.now after.now) (data_in words.now n)) 0 }
 {
     if held {
         let list = gone(before, after);
@@ -168,7 +168,7 @@ pub fn sent_at<'a>(
     correlations: &'a [u32; 128],
 ) -> Sent
     requires { (i < 128) × (held_of passed o ≡ true → 4 ≤ number_at lengths.now i) }
-    ensures { result ≡ sentOf tags.now lengths.now marks.now correlations.now passed i o }
+    ensures { result ≡ sent_of tags.now lengths.now marks.now correlations.now passed i o }
 {
     let held = is_data(o) & !passed;
     let from = start_if(held, i);

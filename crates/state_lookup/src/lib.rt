@@ -1,6 +1,6 @@
 // What the events ask of the gateway's state.
 ghost use Rattle.std.specs.Prelude.{◌≡◌, true, ◌&&◌, cond, ◌+◌, ◌*◌, ◌/◌, ◌%◌, ◌<◌, ◌≤◌, ltb};
-ghost use Rattle.laws.specs.Below.{anyBelow, countBelow, one};
+ghost use Rattle.laws.specs.Below.{any_below, count_below, one};
 ghost use Rattle.laws.specs.Columns.{is_set, number_at, tabulate};
 ghost use Rattle.state_tables.specs.Sound.{pair, ascends};
 ghost use Rattle.state_lookup.specs.Servers.{receives};
@@ -21,7 +21,7 @@ pub fn is_member(member: &[u8; 256], a: usize, p: usize) -> bool
 // Whether some member of AS a is active.
 pub fn some_active(active: &[u8; 256], a: usize) -> bool
     requires { a < 16 }
-    ensures { result ≡ anyBelow (λ q. is_set active.now (pair a q)) 16 }
+    ensures { result ≡ any_below (λ q. is_set active.now (pair a q)) 16 }
 {
     let mut found = false;
     for q in 0..16usize {
@@ -33,7 +33,7 @@ pub fn some_active(active: &[u8; 256], a: usize) -> bool
 // Whether some member of AS a is up.
 pub fn some_up<'a>(up: &'a [u8; 16], member: &'a [u8; 256], a: usize) -> bool
     requires { a < 16 }
-    ensures { result ≡ anyBelow (λ q. is_set member.now (pair a q) && is_set up.now q) 16 }
+    ensures { result ≡ any_below (λ q. is_set member.now (pair a q) && is_set up.now q) 16 }
 {
     let mut found = false;
     for q in 0..16usize {
@@ -119,7 +119,7 @@ fn least(x: usize, y: usize) -> usize
 // How many of the n places from first on have an identifier below x.
 fn below_from(iid: &[u32; 128], first: usize, n: usize, x: u32) -> usize
     requires { first + n ≤ 128 }
-    ensures { result ≡ countBelow (λ j. ltb (number_at iid.now (first + j)) x) n }
+    ensures { result ≡ count_below (λ j. ltb (number_at iid.now (first + j)) x) n }
 {
     let mut c: u32 = 0;
     for j in 0..n {
@@ -131,7 +131,7 @@ fn below_from(iid: &[u32; 128], first: usize, n: usize, x: u32) -> usize
 // How many of the places 0, 8, 16, .. have an identifier below x.
 fn eighths_below(iid: &[u32; 128], links: usize, x: u32) -> usize
     requires { links ≤ 128 }
-    ensures { result ≡ countBelow (λ k. ltb (number_at iid.now (8 * k)) x) ((links + 7) / 8) }
+    ensures { result ≡ count_below (λ k. ltb (number_at iid.now (8 * k)) x) ((links + 7) / 8) }
 {
     let n = (links + 7) / 8;
     let mut c: u32 = 0;

@@ -1,18 +1,18 @@
 // The identifiers that the value of a parameter names (Rule 2.11): the first that is refused, and the ASes
 // that own the known ones.
 ghost use Rattle.std.specs.Prelude.{◌≡◌, true, false, cond, ◌||◌, ◌<◌, ◌≤◌};
-ghost use Rattle.laws.specs.Columns.{flagAt, tabulate};
+ghost use Rattle.laws.specs.Columns.{flag_at, tabulate};
 ghost use Rattle.state_tables.specs.Sound.{ascends};
 ghost use Rattle.state_lookup.specs.Inner.Links.{rank};
-ghost use Rattle.state_sets.specs.Inner.Bits.{flagsOf};
-ghost use Rattle.state_ranges.specs.Named.{isOwnedBy, start_at, stop_at, entries, firstIn, refusedIn, someIn, someOf};
+ghost use Rattle.state_sets.specs.Inner.Bits.{flags_of};
+ghost use Rattle.state_ranges.specs.Named.{is_owned_by, start_at, stop_at, entries, first_in, refused_in, some_in, some_of};
 ghost use Rattle.state_ranges.specs.Inner.Laws.{Table};
-ghost use Rattle.state_ranges.specs.Inner.Refused.{refusedBy};
+ghost use Rattle.state_ranges.specs.Inner.Refused.{refused_by};
 ghost use Rattle.state_ranges.specs.Inner.Owners.{Looked};
 ghost use Rattle.state_ranges.specs.Inner.Names.{earlier, Plain, Names};
 ghost use Rattle.state_index.specs.Inner.Spots.{Finds};
 ghost use Rattle.state_names.specs.Inner.Run.{GoodAt, GoesOn};
-ghost use Rattle.state_names.specs.Inner.Found.{unlessGood};
+ghost use Rattle.state_names.specs.Inner.Found.{unless_good};
 
 use state_index::Found;
 use state_ranges::{Named, Refused};
@@ -41,7 +41,7 @@ fn is_good_at<'a>(
     x: u32,
 ) -> bool
     requires { Table iid.now owner.now links }
-    ensures { result ≡ GoodAt iid.now owner.now links (flagsOf mine) l x }
+    ensures { result ≡ GoodAt iid.now owner.now links (flags_of mine) l x }
 {
     if links <= l {
         return false;
@@ -71,7 +71,7 @@ fn in_order<'a>(
     mine: u32,
 ) -> Run
     requires { Table iid.now owner.now links × (from.i ≤ entries false value.now) }
-    ensures { GoesOn iid.now owner.now links (flagsOf mine) value.now from.i (flagsOf from.set) result.i (flagsOf result.set) }
+    ensures { GoesOn iid.now owner.now links (flags_of mine) value.now from.i (flags_of from.set) result.i (flags_of result.set) }
 {
     if !go {
         return from;
@@ -111,7 +111,7 @@ fn id_of(found: bool, id: u32, x: u32) -> u32
 
 // The first that is refused, with x unless that is good. No branch goes by it.
 fn first_unless(good: bool, old: Refused, x: u32) -> Refused
-    ensures { result ≡ unlessGood good old x }
+    ensures { result ≡ unless_good good old x }
 {
     Refused {
         found: old.found | !good,
@@ -131,7 +131,7 @@ fn with_found<'a>(
     x: u32,
 ) -> Named
     requires { Table iid.now owner.now links × Finds iid.now links x f × Plain old.refused }
-    ensures { Names result (earlier old.refused (firstIn (refusedBy iid.now owner.now links (flagsOf mine)) x x)) (tabulate 16 (λ a. flagAt (flagsOf old.set) a || someIn (isOwnedBy iid.now owner.now links a) x x)) }
+    ensures { Names result (earlier old.refused (first_in (refused_by iid.now owner.now links (flags_of mine)) x x)) (tabulate 16 (λ a. flag_at (flags_of old.set) a || some_in (is_owned_by iid.now owner.now links a) x x)) }
 {
     let first = old.refused;
     let set = old.set;
@@ -155,7 +155,7 @@ fn of_many<'a>(
     mine: u32,
 ) -> Named
     requires { Table iid.now owner.now links × Plain old.refused }
-    ensures { Names result (earlier old.refused (refusedIn (refusedBy iid.now owner.now links (flagsOf mine)) false value.now)) (tabulate 16 (λ a. flagAt (flagsOf old.set) a || someOf (isOwnedBy iid.now owner.now links a) false value.now)) }
+    ensures { Names result (earlier old.refused (refused_in (refused_by iid.now owner.now links (flags_of mine)) false value.now)) (tabulate 16 (λ a. flag_at (flags_of old.set) a || some_of (is_owned_by iid.now owner.now links a) false value.now)) }
 {
     let n = value.len() / 4;
     let table = state_index::table_of(iid, links);
@@ -179,7 +179,7 @@ fn of_few<'a>(
     mine: u32,
 ) -> Named
     requires { Table iid.now owner.now links × Plain old.refused }
-    ensures { Names result (earlier old.refused (refusedIn (refusedBy iid.now owner.now links (flagsOf mine)) false value.now)) (tabulate 16 (λ a. flagAt (flagsOf old.set) a || someOf (isOwnedBy iid.now owner.now links a) false value.now)) }
+    ensures { Names result (earlier old.refused (refused_in (refused_by iid.now owner.now links (flags_of mine)) false value.now)) (tabulate 16 (λ a. flag_at (flags_of old.set) a || some_of (is_owned_by iid.now owner.now links a) false value.now)) }
 {
     let n = value.len() / 4;
     let mut r = old;
@@ -212,7 +212,7 @@ pub fn of_ids<'a>(
     mine: u32,
 ) -> Named
     requires { Table iid.now owner.now links × Plain old.refused }
-    ensures { Names result (earlier old.refused (refusedIn (refusedBy iid.now owner.now links (flagsOf mine)) false value.now)) (tabulate 16 (λ a. flagAt (flagsOf old.set) a || someOf (isOwnedBy iid.now owner.now links a) false value.now)) }
+    ensures { Names result (earlier old.refused (refused_in (refused_by iid.now owner.now links (flags_of mine)) false value.now)) (tabulate 16 (λ a. flag_at (flags_of old.set) a || some_of (is_owned_by iid.now owner.now links a) false value.now)) }
 {
     if MANY <= value.len() {
         return of_many(old, value, iid, owner, links, mine);
@@ -232,8 +232,8 @@ pub fn of_ranges<'a>(
     links: usize,
     mine: u32,
 ) -> Named
-    requires { Table iid.now owner.now links × Looked owner.now far.old (flagsOf old.set) × Plain old.refused }
-    ensures { Names result (earlier old.refused (refusedIn (refusedBy iid.now owner.now links (flagsOf mine)) true value.now)) (tabulate 16 (λ a. flagAt (flagsOf old.set) a || someOf (isOwnedBy iid.now owner.now links a) true value.now)) × Looked owner.now far.new (flagsOf result.set) }
+    requires { Table iid.now owner.now links × Looked owner.now far.old (flags_of old.set) × Plain old.refused }
+    ensures { Names result (earlier old.refused (refused_in (refused_by iid.now owner.now links (flags_of mine)) true value.now)) (tabulate 16 (λ a. flag_at (flags_of old.set) a || some_of (is_owned_by iid.now owner.now links a) true value.now)) × Looked owner.now far.new (flags_of result.set) }
 {
     let n = value.len() / 8;
     let mut r = old;
@@ -287,8 +287,8 @@ pub fn owners_of<'a>(
     owner: &'a [u8; 128],
     links: usize,
 ) -> u32
-    requires { Table iid.now owner.now links × Looked owner.now far.old (flagsOf set) }
-    ensures { (flagsOf result ≡ tabulate 16 (λ a. flagAt (flagsOf set) a || someOf (isOwnedBy iid.now owner.now links a) pairs value.now)) × Looked owner.now far.new (flagsOf result) }
+    requires { Table iid.now owner.now links × Looked owner.now far.old (flags_of set) }
+    ensures { (flags_of result ≡ tabulate 16 (λ a. flag_at (flags_of set) a || some_of (is_owned_by iid.now owner.now links a) pairs value.now)) × Looked owner.now far.new (flags_of result) }
 {
     let n = entries_of(value, pairs);
     let mut r = set;

@@ -10,8 +10,8 @@ use Rattle.laws.specs.Columns.{number_at}
 use Rattle.laws.specs.Inner.Columns.{HalfCol}
 use Rattle.state_plan.specs.Plan.{bit}
 
-pub column-none : (places : ℕ) (f : ℕ → ℕ) → HalfCol f (λ i. 0) places 0 (replicate places 0)
-column-none places f =
+pub column_none : (places : ℕ) (f : ℕ → ℕ) → HalfCol f (λ i. 0) places 0 (replicate places 0)
+column_none places f =
     record {
       long = length-replicate places 0;
       new = λ i b. absurd (not-suc-le-zero b);
@@ -19,22 +19,22 @@ column-none places f =
     }
 
 -- the bit of pair (a, q) stands at its index
-pub bit_at : (mask : List ℕ) (a q : ℕ) → q < 16 → bit (number_at mask q) a ≡ bit (number_at mask ((a * 16 + q) % 16)) ((a * 16 + q) / 16)
-bit_at mask a q h =
+pub bit_at_lem : (mask : List ℕ) (a q : ℕ) → q < 16 → bit (number_at mask q) a ≡ bit (number_at mask ((a * 16 + q) % 16)) ((a * 16 + q) / 16)
+bit_at_lem mask a q h =
     let d : (a * 16 + q) / 16 ≡ a = omega arith in
     let m : (a * 16 + q) % 16 ≡ q = omega arith in
     rw (d, m)
 
 -- the places of row a, one after the other. (Said here, since a proof in the middle of a loop's body has too
 -- many facts to choose from.)
-pub row-start : (a : ℕ) → a * 16 ≡ a * 16 + 0
-row-start a = omega arith
+pub row_start : (a : ℕ) → a * 16 ≡ a * 16 + 0
+row_start a = omega arith
 
 pub row_next : (a q : ℕ) → a * 16 + q + 1 ≡ a * 16 + (q + 1)
 row_next a q = omega arith
 
-pub row_in : (a q : ℕ) → a < 16 → q < 16 → a * 16 + q < 256
-row_in a q h b = omega arith
+pub row_in_lem : (a q : ℕ) → a < 16 → q < 16 → a * 16 + q < 256
+row_in_lem a q h b = omega arith
 
-pub row-end : (a q : ℕ) → 16 ≤ q → q ≤ 16 → a * 16 + q ≡ (a + 1) * 16
-row-end a q h b = omega arith
+pub row_end : (a q : ℕ) → 16 ≤ q → q ≤ 16 → a * 16 + q ≡ (a + 1) * 16
+row_end a q h b = omega arith

@@ -3,9 +3,9 @@ ghost use Rattle.std.specs.Prelude.{◌≡◌, true, ◌&&◌, ◌+◌, ◌*◌,
 ghost use Rattle.laws.specs.Below.{all_below};
 ghost use Rattle.laws.specs.Columns.{number_at};
 ghost use Rattle.laws.specs.Inner.Columns.{HalfCol};
-ghost use Rattle.state_plan.specs.Plan.{offset, count, layoutOk, column, bit, bitsFrom, high, low, members, linkKinds, listRules, load_of};
-ghost use Rattle.state_plan.specs.Inner.Layout.{Inside, places_of, rows_at, stateAt, AllBytes, code_of, taken_of, made};
-ghost use Rattle.state_plan.specs.Inner.Tables.{word_of, byte_of, RowsIn, AllIn, floorOf};
+ghost use Rattle.state_plan.specs.Plan.{offset, count, layout_ok, column, bit, bits_from, high, low, members, link_kinds, list_rules, load_of};
+ghost use Rattle.state_plan.specs.Inner.Layout.{Inside, places_of, rows_at, state_at, AllBytes, code_of, taken_of, made};
+ghost use Rattle.state_plan.specs.Inner.Tables.{word_of, byte_of, RowsIn, AllIn, floor_of};
 
 use state_tables::{Gateway, Units};
 
@@ -58,7 +58,7 @@ fn entry_ok(s: &[u8], i: usize, at: usize, least: usize, most: usize) -> bool
 }
 
 fn laid_out(s: &[u8]) -> bool
-    ensures { result ≡ layoutOk s.now }
+    ensures { result ≡ layout_ok s.now }
 {
     if s.len() < CONTENTS {
         return false;
@@ -129,7 +129,7 @@ fn modes_ok(s: &[u8], at: usize, ases: usize) -> bool
 // The second word of an ASP's row: its mask, then the rule for its lists.
 fn masks_ok(s: &[u8], at: usize, asps: usize, ases: u32) -> bool
     requires { RowsIn (length s.now) at 8 asps × (ases ≤ 16) }
-    ensures { result ≡ all_below (λ p. eqb (bitsFrom (high (word_of s.now at 8 p)) ases) 0 && ltb (low (word_of s.now at 8 p)) listRules) asps }
+    ensures { result ≡ all_below (λ p. eqb (bits_from (high (word_of s.now at 8 p)) ases) 0 && ltb (low (word_of s.now at 8 p)) list_rules) asps }
 {
     let mut ok = true;
     for p in 0..asps {
@@ -150,7 +150,7 @@ fn long(x: u32) -> u64
 // more for a link.
 fn links_ok(s: &[u8], at: usize, links: usize, ases: u32) -> bool
     requires { (links ≤ 128) × (at + 8 * links ≤ length s.now) }
-    ensures { result ≡ (all_below (λ l. leb (floorOf (word_of s.now at 8) l) (word_of s.now at 8 l) && ltb (low (word_of s.now (at + 4) 8 l)) ases) links && all_below (λ l. ltb (high (word_of s.now (at + 4) 8 l)) linkKinds) links) }
+    ensures { result ≡ (all_below (λ l. leb (floor_of (word_of s.now at 8) l) (word_of s.now at 8 l) && ltb (low (word_of s.now (at + 4) 8 l)) ases) links && all_below (λ l. ltb (high (word_of s.now (at + 4) 8 l)) link_kinds) links) }
 {
     let mut ok = true;
     let mut least: u64 = 0;
@@ -190,7 +190,7 @@ fn rows_ok(s: &[u8], t: Places) -> bool
 }
 
 fn places_of(s: &[u8]) -> Places
-    requires { layoutOk s.now ≡ true }
+    requires { layout_ok s.now ≡ true }
     ensures { result ≡ places_of s.now }
 {
     let n = count_of(s, 0);
@@ -258,7 +258,7 @@ fn members_of(mask: &[u16; 16]) -> [u8; 256]
 
 // The rows that are taken over: of a refused file none, so that every table is zeros.
 fn taken(s: &[u8], code: u32) -> Places
-    requires { code ≡ 0 → layoutOk s.now ≡ true }
+    requires { code ≡ 0 → layout_ok s.now ≡ true }
     ensures { result ≡ taken_of s.now code }
 {
     if code != 0 {
@@ -278,7 +278,7 @@ fn taken(s: &[u8], code: u32) -> Places
 // its own and copies it out by parts that do not fit one another.
 fn build(s: &[u8], t: Places, code: u32) -> Loaded
     requires { Inside t (length s.now) × AllBytes s.now t }
-    ensures { result ≡ made code (stateAt s.now t) }
+    ensures { result ≡ made code (state_at s.now t) }
 {
     let mask = masks_of(s, t.x + 4, t.asps);
     let member = members_of(&mask);

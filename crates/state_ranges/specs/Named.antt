@@ -2,7 +2,7 @@
 -- (Rules 2.11, 5.16, 7.8).
 -- Assumes nothing.
 use Rattle.std.specs.Prelude.{ℕ, zero, suc, ◌+◌, ◌*◌, ◌-◌, ◌/◌, Bool, true, false, ◌&&◌, cond, not, List, eqb, ltb, length}
-use Rattle.laws.specs.Below.{anyBelow, firstBelow}
+use Rattle.laws.specs.Below.{any_below, first_below}
 use Rattle.laws.specs.Columns.{number_at, is_set}
 use Rattle.codec_wire.specs.Number.{be}
 use Rattle.state_tables.specs.Sound.{pair}
@@ -11,16 +11,16 @@ use Rattle.state_ranges.specs.declared.Refused.{Refused}
 
 -- ---- one identifier
 
-unfoldable pub ownerById : List ℕ → List ℕ → ℕ → ℕ → ℕ
-ownerById iid owner links x = number_at owner (index_of iid links x)
+unfoldable pub owner_by_id : List ℕ → List ℕ → ℕ → ℕ → ℕ
+owner_by_id iid owner links x = number_at owner (index_of iid links x)
 
 -- it is unknown, or p is no member of its AS
 unfoldable pub is_refused : List ℕ → List ℕ → List ℕ → ℕ → ℕ → ℕ → Bool
-is_refused iid owner member links p x = not (known iid links x && is_set member (pair (ownerById iid owner links x) p))
+is_refused iid owner member links p x = not (known iid links x && is_set member (pair (owner_by_id iid owner links x) p))
 
 -- it is known, and AS a owns it
-unfoldable pub isOwnedBy : List ℕ → List ℕ → ℕ → ℕ → ℕ → Bool
-isOwnedBy iid owner links a x = known iid links x && eqb (ownerById iid owner links x) a
+unfoldable pub is_owned_by : List ℕ → List ℕ → ℕ → ℕ → ℕ → Bool
+is_owned_by iid owner links a x = known iid links x && eqb (owner_by_id iid owner links x) a
 
 -- ---- a range: from start to stop, both included
 
@@ -35,15 +35,15 @@ abbrev pub refusing : ℕ → Refused
 refusing x = record { found = true; id = x }
 
 -- the first identifier from start to stop that is bad
-unfoldable pub firstIn : (ℕ → Bool) → ℕ → ℕ → Refused
-firstIn bad start stop =
-    cond (ltb (firstBelow (λ i. bad (start + i)) (span start stop)) (span start stop))
-    (refusing (start + firstBelow (λ i. bad (start + i)) (span start stop)))
+unfoldable pub first_in : (ℕ → Bool) → ℕ → ℕ → Refused
+first_in bad start stop =
+    cond (ltb (first_below (λ i. bad (start + i)) (span start stop)) (span start stop))
+    (refusing (start + first_below (λ i. bad (start + i)) (span start stop)))
     nothing
 
 -- whether some identifier from start to stop is good
-unfoldable pub someIn : (ℕ → Bool) → ℕ → ℕ → Bool
-someIn good start stop = anyBelow (λ i. good (start + i)) (span start stop)
+unfoldable pub some_in : (ℕ → Bool) → ℕ → ℕ → Bool
+some_in good start stop = any_below (λ i. good (start + i)) (span start stop)
 
 -- ---- the value of a parameter: identifiers of four bytes (0x1), or ranges of eight (0x8)
 
@@ -66,15 +66,15 @@ first_of f zero = nothing
 first_of f (suc n) = cond (first_of f n).found (first_of f n) (f n)
 
 -- the first refused identifier of an entry, and whether it names a good one
-unfoldable pub refusedEntry : (ℕ → Bool) → Bool → List ℕ → ℕ → Refused
-refusedEntry bad pairs s i = firstIn bad (start_at pairs s i) (stop_at pairs s i)
+unfoldable pub refused_entry : (ℕ → Bool) → Bool → List ℕ → ℕ → Refused
+refused_entry bad pairs s i = first_in bad (start_at pairs s i) (stop_at pairs s i)
 
-unfoldable pub someEntry : (ℕ → Bool) → Bool → List ℕ → ℕ → Bool
-someEntry good pairs s i = someIn good (start_at pairs s i) (stop_at pairs s i)
+unfoldable pub some_entry : (ℕ → Bool) → Bool → List ℕ → ℕ → Bool
+some_entry good pairs s i = some_in good (start_at pairs s i) (stop_at pairs s i)
 
 -- the same of the value, its entries in order
-unfoldable pub refusedIn : (ℕ → Bool) → Bool → List ℕ → Refused
-refusedIn bad pairs s = first_of (refusedEntry bad pairs s) (entries pairs s)
+unfoldable pub refused_in : (ℕ → Bool) → Bool → List ℕ → Refused
+refused_in bad pairs s = first_of (refused_entry bad pairs s) (entries pairs s)
 
-unfoldable pub someOf : (ℕ → Bool) → Bool → List ℕ → Bool
-someOf good pairs s = anyBelow (someEntry good pairs s) (entries pairs s)
+unfoldable pub some_of : (ℕ → Bool) → Bool → List ℕ → Bool
+some_of good pairs s = any_below (some_entry good pairs s) (entries pairs s)

@@ -1,15 +1,15 @@
 // The links inside a range of identifiers (Rule 2.11): from the first to the last of them, by the ascending
 // order, so that a range costs a search and not a walk.
 ghost use Rattle.std.specs.Prelude.{◌≡◌, true, cond, ◌&&◌, ◌||◌, ◌+◌, ◌-◌, ◌<◌, ◌≤◌, eqb, leb, ltb};
-ghost use Rattle.laws.specs.Below.{anyBelow};
-ghost use Rattle.laws.specs.Columns.{flagAt, number_at, tabulate};
-ghost use Rattle.state_tables.specs.Sound.{ascends, allUnder};
+ghost use Rattle.laws.specs.Below.{any_below};
+ghost use Rattle.laws.specs.Columns.{flag_at, number_at, tabulate};
+ghost use Rattle.state_tables.specs.Sound.{ascends, all_under};
 ghost use Rattle.state_lookup.specs.Inner.Links.{rank};
-ghost use Rattle.state_sets.specs.Inner.Bits.{flagsOf};
-ghost use Rattle.state_ranges.specs.Named.{isOwnedBy, nothing, refusing, firstIn, someIn};
+ghost use Rattle.state_sets.specs.Inner.Bits.{flags_of};
+ghost use Rattle.state_ranges.specs.Named.{is_owned_by, nothing, refusing, first_in, some_in};
 ghost use Rattle.state_ranges.specs.Inner.Laws.{Table};
-ghost use Rattle.state_ranges.specs.Inner.Refused.{refusedBy};
-ghost use Rattle.state_ranges.specs.Inner.Owners.{ownsFrom, Looked};
+ghost use Rattle.state_ranges.specs.Inner.Refused.{refused_by};
+ghost use Rattle.state_ranges.specs.Inner.Owners.{owns_from, Looked};
 ghost use Rattle.state_ranges.specs.Inner.Names.{earlier, Plain, Names};
 
 // The first refused identifier, if one is found; else 0.
@@ -146,8 +146,8 @@ fn owners_between(
     first: usize,
     past: usize,
 ) -> u32
-    requires { (past ≤ 128) × (allUnder owner.now 16 past ≡ true) × Looked owner.now far.old (flagsOf set) }
-    ensures { (flagsOf result ≡ tabulate 16 (λ a. flagAt (flagsOf set) a || anyBelow (ownsFrom owner.now first a) past)) × Looked owner.now far.new (flagsOf result) }
+    requires { (past ≤ 128) × (all_under owner.now 16 past ≡ true) × Looked owner.now far.old (flags_of set) }
+    ensures { (flags_of result ≡ tabulate 16 (λ a. flag_at (flags_of set) a || any_below (owns_from owner.now first a) past)) × Looked owner.now far.new (flags_of result) }
 {
     let end = past as u8;
     let mut r = set;
@@ -177,7 +177,7 @@ pub fn is_refused<'a>(
     x: u32,
 ) -> bool
     requires { Table iid.now owner.now links × (l ≡ rank iid.now links x) }
-    ensures { result ≡ refusedBy iid.now owner.now links (flagsOf mine) x }
+    ensures { result ≡ refused_by iid.now owner.now links (flags_of mine) x }
 {
     if links <= l {
         return true;
@@ -197,7 +197,7 @@ fn first_refused<'a>(
     stop: u32,
 ) -> Refused
     requires { Table iid.now owner.now links × (first ≡ rank iid.now links start) × (start ≤ stop) }
-    ensures { result ≡ firstIn (refusedBy iid.now owner.now links (flagsOf mine)) start stop }
+    ensures { result ≡ first_in (refused_by iid.now owner.now links (flags_of mine)) start stop }
 {
     let mut l = first;
     let mut x = start;
@@ -230,8 +230,8 @@ pub fn of_range<'a>(
     start: u32,
     stop: u32,
 ) -> Named
-    requires { Table iid.now owner.now links × Looked owner.now far.old (flagsOf set) }
-    ensures { Names result (firstIn (refusedBy iid.now owner.now links (flagsOf mine)) start stop) (tabulate 16 (λ a. flagAt (flagsOf set) a || someIn (isOwnedBy iid.now owner.now links a) start stop)) × Looked owner.now far.new (flagsOf result.set) }
+    requires { Table iid.now owner.now links × Looked owner.now far.old (flags_of set) }
+    ensures { Names result (first_in (refused_by iid.now owner.now links (flags_of mine)) start stop) (tabulate 16 (λ a. flag_at (flags_of set) a || some_in (is_owned_by iid.now owner.now links a) start stop)) × Looked owner.now far.new (flags_of result.set) }
 {
     if stop < start {
         return passes(set);
@@ -260,8 +260,8 @@ pub fn owners_in<'a>(
     start: u32,
     stop: u32,
 ) -> u32
-    requires { Table iid.now owner.now links × Looked owner.now far.old (flagsOf set) }
-    ensures { (flagsOf result ≡ tabulate 16 (λ a. flagAt (flagsOf set) a || someIn (isOwnedBy iid.now owner.now links a) start stop)) × Looked owner.now far.new (flagsOf result) }
+    requires { Table iid.now owner.now links × Looked owner.now far.old (flags_of set) }
+    ensures { (flags_of result ≡ tabulate 16 (λ a. flag_at (flags_of set) a || some_in (is_owned_by iid.now owner.now links a) start stop)) × Looked owner.now far.new (flags_of result) }
 {
     if stop < start {
         return set;
@@ -284,7 +284,7 @@ pub fn with_id<'a>(
     x: u32,
 ) -> Named
     requires { Table iid.now owner.now links × (l ≡ rank iid.now links x) × Plain old.refused }
-    ensures { Names result (earlier old.refused (firstIn (refusedBy iid.now owner.now links (flagsOf mine)) x x)) (tabulate 16 (λ a. flagAt (flagsOf old.set) a || someIn (isOwnedBy iid.now owner.now links a) x x)) }
+    ensures { Names result (earlier old.refused (first_in (refused_by iid.now owner.now links (flags_of mine)) x x)) (tabulate 16 (λ a. flag_at (flags_of old.set) a || some_in (is_owned_by iid.now owner.now links a) x x)) }
 {
     let f = old.refused;
     let set = old.set;
@@ -310,8 +310,8 @@ pub fn with_range<'a>(
     start: u32,
     stop: u32,
 ) -> Named
-    requires { Table iid.now owner.now links × Looked owner.now far.old (flagsOf old.set) }
-    ensures { Names result (earlier old.refused (firstIn (refusedBy iid.now owner.now links (flagsOf mine)) start stop)) (tabulate 16 (λ a. flagAt (flagsOf old.set) a || someIn (isOwnedBy iid.now owner.now links a) start stop)) × Looked owner.now far.new (flagsOf result.set) }
+    requires { Table iid.now owner.now links × Looked owner.now far.old (flags_of old.set) }
+    ensures { Names result (earlier old.refused (first_in (refused_by iid.now owner.now links (flags_of mine)) start stop)) (tabulate 16 (λ a. flag_at (flags_of old.set) a || some_in (is_owned_by iid.now owner.now links a) start stop)) × Looked owner.now far.new (flags_of result.set) }
 {
     let f = old.refused;
     let set = old.set;

@@ -10,18 +10,18 @@ use lib.Dec.{eqb, leb, ltb}
 use lib.ListN.{length, set, length-set, replicate, get_or-replicate}
 use lib.Seq.{get_or-set_same, get_or-set_other}
 use borrow.Author.Tests.{lt-ltb, le-ltb, lt-leb, le-leb, leb-true, eqb-true, eq-eqb, ne_eqb}
-use Rattle.laws.specs.Below.{all_below, anyBelow, one}
-use Rattle.laws.specs.Inner.Below.{all-at, all_of, any_none, any-more}
-use Rattle.laws.specs.Inner.Every.{all-ext, all_two, and_left, and_right, and_both, same_truth}
+use Rattle.laws.specs.Below.{all_below, any_below, one}
+use Rattle.laws.specs.Inner.Below.{all_at, all_of, any_none, any_more}
+use Rattle.laws.specs.Inner.Every.{all_ext, all_two, and_left, and_right, and_both, same_truth}
 use Rattle.laws.specs.Columns.{number_at, is_set}
 use Rattle.state_tables.specs.declared.Gateway.{Gateway}
 use Rattle.state_tables.specs.declared.Units.{Units}
-use Rattle.state_tables.specs.Sound.{allUnder, countsIn, soundAsps, soundAses, soundLinks, soundColumns, soundTables, isLinkOf, unit_at, blankAt, unitsOk, sized, allUnits, soundUnits, isSound}
-use Rattle.state_tables.specs.State.{unitsOf}
-use Rattle.state_tables.specs.Inner.Sound.{soundTablesOf}
-use Rattle.state_tables.specs.Inner.Laws.{limits, links-parts}
-use Rattle.state_tables.specs.Inner.Column.{column-all, under-wider}
-use Rattle.state_sound.specs.Inner.Sound.{narrowAt, narrowBlank, wideAt, wideBlank, blankPlaces, noneCounted, countAt, countsFit, dataFit, fields_at, fieldsFit, id_at, idsFit, markedAt, Marked, Seen, seenFit, emptyFit, empty_at, emptiesFit, rowFit, rowSeen, row_at, rowsFit}
+use Rattle.state_tables.specs.Sound.{all_under, counts_in, sound_asps, sound_ases, sound_links, sound_columns, sound_tables, is_link_of, unit_at, blank_at, units_ok, sized, all_units, sound_units, is_sound}
+use Rattle.state_tables.specs.State.{units_of}
+use Rattle.state_tables.specs.Inner.Sound.{sound_tables_of}
+use Rattle.state_tables.specs.Inner.Laws.{limits, links_parts}
+use Rattle.state_tables.specs.Inner.Column.{column_all, under_wider}
+use Rattle.state_sound.specs.Inner.Sound.{narrow_at, narrow_blank, wide_at, wide_blank, blank_places, none_counted, count_at, counts_fit, data_fit, fields_at, fields_fit, id_at, ids_fit, marked_at, Marked, Seen, seen_fit, empty_fit, empty_at, empties_fit, row_fit, row_seen, row_at, rows_fit}
 
 -- ---- numbers below a count
 
@@ -31,48 +31,48 @@ all_split f g n m b =
     same_truth (all_below (λ k. cond (ltb k n) (f k) (g k)) m) (all_below f n && all_below (λ k. g (n + k)) (m - n))
     (λ h.
     and_both (all_below f n) (all_below (λ k. g (n + k)) (m - n))
-    (all_of f n (λ i q. rw (lt-ltb i n q) at (all-at (λ k. cond (ltb k n) (f k) (g k)) m h i (omega arith))))
-    (all_of (λ k. g (n + k)) (m - n) (λ i q. rw (le-ltb (n + i) n (omega arith)) at (all-at (λ k. cond (ltb k n) (f k) (g k)) m h (n + i) (omega arith)))))
+    (all_of f n (λ i q. rw (lt-ltb i n q) at (all_at (λ k. cond (ltb k n) (f k) (g k)) m h i (omega arith))))
+    (all_of (λ k. g (n + k)) (m - n) (λ i q. rw (le-ltb (n + i) n (omega arith)) at (all_at (λ k. cond (ltb k n) (f k) (g k)) m h (n + i) (omega arith)))))
     (λ h. all_of (λ k. cond (ltb k n) (f k) (g k)) m (λ i q. go h i q (dec_lt i n)))
   where
     go : (all_below f n && all_below (λ k. g (n + k)) (m - n)) ≡ true → (i : ℕ) → i < m → Dec (i < n) → cond (ltb i n) (f i) (g i) ≡ true
-    go h i q (yes l) = rw (lt-ltb i n l) (all-at f n (and_left (all_below f n) (all_below (λ k. g (n + k)) (m - n)) h) i l)
+    go h i q (yes l) = rw (lt-ltb i n l) (all_at f n (and_left (all_below f n) (all_below (λ k. g (n + k)) (m - n)) h) i l)
     go h i q (no l) =
         let e : n + (i - n) ≡ i = omega arith in
-        rw (le-ltb i n (omega arith)) (rw e at (all-at (λ k. g (n + k)) (m - n) (and_right (all_below f n) (all_below (λ k. g (n + k)) (m - n)) h) (i - n) (omega arith)))
+        rw (le-ltb i n (omega arith)) (rw e at (all_at (λ k. g (n + k)) (m - n) (and_right (all_below f n) (all_below (λ k. g (n + k)) (m - n)) h) (i - n) (omega arith)))
 
 -- 16 rows of 8 are 128 places
-all-rows : (f : ℕ → Bool) → all_below (λ a. all_below (λ k. f (a * 8 + k)) 8) 16 ≡ all_below (λ i. f (0 + i)) 128
-all-rows f =
+all_rows : (f : ℕ → Bool) → all_below (λ a. all_below (λ k. f (a * 8 + k)) 8) 16 ≡ all_below (λ i. f (0 + i)) 128
+all_rows f =
     same_truth (all_below (λ a. all_below (λ k. f (a * 8 + k)) 8) 16) (all_below (λ i. f (0 + i)) 128)
     (λ h.
     all_of (λ i. f (0 + i)) 128
     (λ i b.
     let e : i / 8 * 8 + (i - i / 8 * 8) ≡ 0 + i = omega arith in
-    rw e at (all-at (λ k. f (i / 8 * 8 + k)) 8 (all-at (λ a. all_below (λ k. f (a * 8 + k)) 8) 16 h (i / 8) (omega arith)) (i - i / 8 * 8) (omega arith))))
+    rw e at (all_at (λ k. f (i / 8 * 8 + k)) 8 (all_at (λ a. all_below (λ k. f (a * 8 + k)) 8) 16 h (i / 8) (omega arith)) (i - i / 8 * 8) (omega arith))))
     (λ h.
     all_of (λ a. all_below (λ k. f (a * 8 + k)) 8) 16
     (λ a b.
     all_of (λ k. f (a * 8 + k)) 8
     (λ k d.
     let e : 0 + (a * 8 + k) ≡ a * 8 + k = omega arith in
-    rw e at (all-at (λ i. f (0 + i)) 128 h (a * 8 + k) (omega arith)))))
+    rw e at (all_at (λ i. f (0 + i)) 128 h (a * 8 + k) (omega arith)))))
 
 -- ---- the link of a unit
 
-one-is : (u : Bool) → eqb (one u) 1 ≡ u
-one-is true = refl
-one-is false = refl
+one_is : (u : Bool) → eqb (one u) 1 ≡ u
+one_is true = refl
+one_is false = refl
 
 -- none is marked yet
 pub seen_none : (id iid owner : List ℕ) → Seen id iid owner 0 (replicate 128 0)
-unfolding isLinkOf
+unfolding is_link_of
 seen_none id iid owner = record { long = refl; at = λ i b. get_or-replicate {A = ℕ} 128 i 0 0 b ∙ sym (ap one (any_none _)) }
 
 -- and the units of a link's owner are, of which it is the link
 pub seen_more : (id iid owner : List ℕ) (l : ℕ) {old new : List ℕ} → Seen id iid owner l old → Marked id (number_at iid l) (number_at owner l) 8 old new → Seen id iid owner (l + 1) new
-unfolding isLinkOf
-seen_more id iid owner l {old} h m = record { long = m.long; at = λ i b. m.at i b ∙ rw (h.at i b, any-more) (turn i) }
+unfolding is_link_of
+seen_more id iid owner l {old} h m = record { long = m.long; at = λ i b. m.at i b ∙ rw (h.at i b, any_more) (turn i) }
   where
     here : ℕ → Bool
     here i = leb (number_at owner l * 8) i && ltb i (number_at owner l * 8 + 8)
@@ -111,36 +111,36 @@ seen_more id iid owner l {old} h m = record { long = m.long; at = λ i b. m.at i
     joins false false false = refl
 
     turn : (i : ℕ)
-        → cond (here i && eqb (number_at id i) (number_at iid l)) 1 (one (anyBelow (λ j. eqb (number_at iid j) (number_at id i) && eqb (number_at owner j) (i / 8)) l))
-        ≡ one (anyBelow (λ j. eqb (number_at iid j) (number_at id i) && eqb (number_at owner j) (i / 8)) l || (eqb (number_at iid l) (number_at id i) && eqb (number_at owner l) (i / 8)))
+        → cond (here i && eqb (number_at id i) (number_at iid l)) 1 (one (any_below (λ j. eqb (number_at iid j) (number_at id i) && eqb (number_at owner j) (i / 8)) l))
+        ≡ one (any_below (λ j. eqb (number_at iid j) (number_at id i) && eqb (number_at owner j) (i / 8)) l || (eqb (number_at iid l) (number_at id i) && eqb (number_at owner l) (i / 8)))
     turn i =
         rw (row_is i, same (number_at id i) (number_at iid l))
-        (joins (anyBelow (λ j. eqb (number_at iid j) (number_at id i) && eqb (number_at owner j) (i / 8)) l) (eqb (number_at owner l) (i / 8)) (eqb (number_at iid l) (number_at id i)))
+        (joins (any_below (λ j. eqb (number_at iid j) (number_at id i) && eqb (number_at owner j) (i / 8)) l) (eqb (number_at owner l) (i / 8)) (eqb (number_at iid l) (number_at id i)))
 
 -- so those of an AS are of its links
-pub seen-fits : {id iid owner seen : List ℕ} {links : ℕ} → Seen id iid owner links seen → (a n : ℕ) → a < 16 → n ≤ 8 → seenFit seen a n ≡ idsFit id iid owner links a n
-unfolding seenFit idsFit
-seen-fits {id} {iid} {owner} {seen} {links} h a n b m =
-    all-ext (λ k. eqb (number_at seen (a * 8 + k)) 1) (id_at id iid owner links a) n
+pub seen_fits : {id iid owner seen : List ℕ} {links : ℕ} → Seen id iid owner links seen → (a n : ℕ) → a < 16 → n ≤ 8 → seen_fit seen a n ≡ ids_fit id iid owner links a n
+unfolding seen_fit ids_fit
+seen_fits {id} {iid} {owner} {seen} {links} h a n b m =
+    all_ext (λ k. eqb (number_at seen (a * 8 + k)) 1) (id_at id iid owner links a) n
     (λ k d.
     let e : (a * 8 + k) / 8 ≡ a = omega arith in
-    rw (h.at (a * 8 + k) (omega arith), e) (one-is (isLinkOf iid owner links a (number_at id (a * 8 + k)))))
+    rw (h.at (a * 8 + k) (omega arith), e) (one_is (is_link_of iid owner links a (number_at id (a * 8 + k)))))
 
-pub row_seen : (tag length marked id correlation iid owner : List ℕ) (links : ℕ) {seen : List ℕ} → Seen id iid owner links seen → (n a : ℕ) → a < 16 → n ≤ 8
-    → rowSeen tag length marked id correlation seen n a ≡ rowFit tag length marked id correlation iid owner links n a
-unfolding rowSeen rowFit
-row_seen tag length marked id correlation iid owner links h n a b m = rw (seen-fits h a n b m)
+pub row_seen_lem : (tag length marked id correlation iid owner : List ℕ) (links : ℕ) {seen : List ℕ} → Seen id iid owner links seen → (n a : ℕ) → a < 16 → n ≤ 8
+    → row_seen tag length marked id correlation seen n a ≡ row_fit tag length marked id correlation iid owner links n a
+unfolding row_seen row_fit
+row_seen_lem tag length marked id correlation iid owner links h n a b m = rw (seen_fits h a n b m)
 
 -- ---- the units of an AS looked through
 
-pub marked-none : (id : List ℕ) (x a : ℕ) (old : List ℕ) → length old ≡ 128 → Marked id x a 0 old old
-marked-none id x a old e = record { long = e; at = λ i b. go i (dec_lt i (a * 8)) }
+pub marked_none : (id : List ℕ) (x a : ℕ) (old : List ℕ) → length old ≡ 128 → Marked id x a 0 old old
+marked_none id x a old e = record { long = e; at = λ i b. go i (dec_lt i (a * 8)) }
   where
     none : (u : Bool) → (u && false) ≡ false
     none true = refl
     none false = refl
 
-    go : (i : ℕ) → Dec (i < a * 8) → number_at old i ≡ markedAt id x a 0 old i
+    go : (i : ℕ) → Dec (i < a * 8) → number_at old i ≡ marked_at id x a 0 old i
     go i (yes z) = rw (lt-leb (a * 8) i z)
     go i (no z) = rw (le-ltb i (a * 8 + 0) (omega arith), none (leb (a * 8) i))
 
@@ -162,7 +162,7 @@ marked_more id x a k {old} {new} h b v e = record { long = length-set new (a * 8
         go (yes y) = rw (lt-ltb i (a * 8 + k) y, lt-ltb i (a * 8 + (k + 1)) (omega arith))
         go (no y) = rw (le-ltb i (a * 8 + k) (omega arith), le-ltb i (a * 8 + (k + 1)) (omega arith))
 
-    go : (i : ℕ) → i < 128 → Dec (i ≡ a * 8 + k) → number_at (set new (a * 8 + k) v) i ≡ markedAt id x a (k + 1) old i
+    go : (i : ℕ) → i < 128 → Dec (i ≡ a * 8 + k) → number_at (set new (a * 8 + k) v) i ≡ marked_at id x a (k + 1) old i
     go i q (yes z) = rw (z, get_or-set_same new (a * 8 + k) v 0 (omega (arith, h.long)), le-leb (a * 8) (a * 8 + k) (omega arith), lt-ltb (a * 8 + k) (a * 8 + (k + 1)) (omega arith)) (e ∙ rw before)
     go i q (no z) = get_or-set_other new (a * 8 + k) i v 0 z ∙ h.at i q ∙ rw (after i z)
 
@@ -170,17 +170,17 @@ marked_more id x a k {old} {new} h b v e = record { long = length-set new (a * 8
 
 module _ (count tag length marked id correlation : List ℕ) where
   abbrev units : Units
-  units = unitsOf count tag length marked id correlation
+  units = units_of count tag length marked id correlation
 
   abbrev blanks : ℕ → ℕ → Bool
-  blanks = blankPlaces tag length marked id correlation
+  blanks = blank_places tag length marked id correlation
 
-  blank-places : (from n : ℕ) → all_below (λ k. blankAt units (from + k)) n ≡ blanks from n
-  unfolding blankPlaces narrowBlank wideBlank blankAt
-  blank-places from n =
-      all-ext (λ k. blankAt units (from + k)) (λ k. narrowAt tag length marked from k && wideAt id correlation from k) n
-      (λ k b. regrouped (eqb (number_at tag (from + k)) 0 && eqb (number_at length (from + k)) 0) (eqb (number_at marked (from + k)) 0) (wideAt id correlation from k))
-      ∙ all_two (narrowAt tag length marked from) (wideAt id correlation from) n
+  blank_places_lem : (from n : ℕ) → all_below (λ k. blank_at units (from + k)) n ≡ blanks from n
+  unfolding blank_places narrow_blank wide_blank blank_at
+  blank_places_lem from n =
+      all_ext (λ k. blank_at units (from + k)) (λ k. narrow_at tag length marked from k && wide_at id correlation from k) n
+      (λ k b. regrouped (eqb (number_at tag (from + k)) 0 && eqb (number_at length (from + k)) 0) (eqb (number_at marked (from + k)) 0) (wide_at id correlation from k))
+      ∙ all_two (narrow_at tag length marked from) (wide_at id correlation from) n
     where
       regrouped : (x y z : Bool) → (x && (y && z)) ≡ ((x && y) && z)
       regrouped true y z = refl
@@ -190,10 +190,10 @@ module _ (count tag length marked id correlation : List ℕ) where
     abbrev unit : ℕ → ℕ → Bool
     unit a k = unit_at units iid owner links a (a * 8 + k)
 
-    unit-parts : (a n : ℕ) → all_below (unit a) n ≡ (fieldsFit tag length marked correlation (a * 8) n && idsFit id iid owner links a n)
-    unfolding unit_at fieldsFit idsFit dataFit
-    unit-parts a n =
-        all-ext (unit a) (λ k. fields_at tag length marked correlation (a * 8) k && id_at id iid owner links a k) n
+    unit_parts : (a n : ℕ) → all_below (unit a) n ≡ (fields_fit tag length marked correlation (a * 8) n && ids_fit id iid owner links a n)
+    unfolding unit_at fields_fit ids_fit data_fit
+    unit_parts a n =
+        all_ext (unit a) (λ k. fields_at tag length marked correlation (a * 8) k && id_at id iid owner links a k) n
         (λ k b.
         regrouped
         ((eqb (number_at tag (a * 8 + k)) 0x300 || eqb (number_at tag (a * 8 + k)) 0x301) && (leb 5 (number_at length (a * 8 + k)) && leb (number_at length (a * 8 + k)) 277))
@@ -209,19 +209,19 @@ module _ (count tag length marked id correlation : List ℕ) where
         regrouped false y z = refl
 
     abbrev place : ℕ → ℕ → ℕ → Bool
-    place n a k = cond (ltb k n) (unit a k) (blankAt units (a * 8 + k))
+    place n a k = cond (ltb k n) (unit a k) (blank_at units (a * 8 + k))
 
-    places-whole : (n a : ℕ) → n ≤ 8 → Dec (n ≡ 0) → all_below (place n a) 8 ≡ (rowFit tag length marked id correlation iid owner links n a && emptyFit tag length marked id correlation n a)
-    unfolding rowFit emptyFit
-    places-whole n a b (yes e) =
+    places_whole : (n a : ℕ) → n ≤ 8 → Dec (n ≡ 0) → all_below (place n a) 8 ≡ (row_fit tag length marked id correlation iid owner links n a && empty_fit tag length marked id correlation n a)
+    unfolding row_fit empty_fit
+    places_whole n a b (yes e) =
         rw (eq-eqb n 0 e)
-        (all-ext (place n a) (λ k. blankAt units (a * 8 + k)) 8 (λ k d. rw (le-ltb k n (omega arith)))
-        ∙ blank-places (a * 8) 8)
-    places-whole n a b (no e) =
+        (all_ext (place n a) (λ k. blank_at units (a * 8 + k)) 8 (λ k d. rw (le-ltb k n (omega arith)))
+        ∙ blank_places_lem (a * 8) 8)
+    places_whole n a b (no e) =
         rw (ne_eqb n 0 e)
-        (all_split (unit a) (λ k. blankAt units (a * 8 + k)) n 8 b
-        ∙ rw (unit-parts a n, all-ext (λ k. blankAt units (a * 8 + (n + k))) (λ k. blankAt units (a * 8 + n + k)) (8 - n) (λ k d. let z : a * 8 + (n + k) ≡ a * 8 + n + k = omega arith in rw z), blank-places (a * 8 + n) (8 - n))
-        (regrouped (fieldsFit tag length marked correlation (a * 8) n) (idsFit id iid owner links a n) (blanks (a * 8 + n) (8 - n))))
+        (all_split (unit a) (λ k. blank_at units (a * 8 + k)) n 8 b
+        ∙ rw (unit_parts a n, all_ext (λ k. blank_at units (a * 8 + (n + k))) (λ k. blank_at units (a * 8 + n + k)) (8 - n) (λ k d. let z : a * 8 + (n + k) ≡ a * 8 + n + k = omega arith in rw z), blank_places_lem (a * 8 + n) (8 - n))
+        (regrouped (fields_fit tag length marked correlation (a * 8) n) (ids_fit id iid owner links a n) (blanks (a * 8 + n) (8 - n))))
       where
         regrouped : (x y z : Bool) → ((x && y) && z) ≡ ((x && (y && z)) && true)
         regrouped true true true = refl
@@ -235,83 +235,83 @@ module _ (count tag length marked id correlation : List ℕ) where
     abbrev empty : ℕ → Bool
     empty = empty_at count tag length marked id correlation
 
-    as-whole : (a : ℕ) → unitsOk units waiting iid owner links a ≡ (countAt count waiting a && (row a && empty a))
-    unfolding unitsOk
-    as-whole a = go (countAt count waiting a) refl
+    as_whole : (a : ℕ) → units_ok units waiting iid owner links a ≡ (count_at count waiting a && (row a && empty a))
+    unfolding units_ok
+    as_whole a = go (count_at count waiting a) refl
       where
-        go : (t : Bool) → countAt count waiting a ≡ t → (t && all_below (place (number_at count a) a) 8) ≡ (t && (row a && empty a))
-        go true e = places-whole (number_at count a) a (leb-true (number_at count a) 8 (and_left (leb (number_at count a) 8) (eqb (number_at count a) 0 || is_set waiting a) e)) (ℕ_discrete (number_at count a) 0)
+        go : (t : Bool) → count_at count waiting a ≡ t → (t && all_below (place (number_at count a) a) 8) ≡ (t && (row a && empty a))
+        go true e = places_whole (number_at count a) a (leb-true (number_at count a) 8 (and_left (leb (number_at count a) 8) (eqb (number_at count a) 0 || is_set waiting a) e)) (ℕ_discrete (number_at count a) 0)
         go false e = refl
 
     -- all ASes, test by test
-    units-whole : allUnits units waiting iid owner links ≡ (countsFit count waiting && (rowsFit count tag length marked id correlation iid owner links && emptiesFit count tag length marked id correlation))
-    unfolding allUnits countsFit rowsFit emptiesFit
-    units-whole =
-        all-ext (unitsOk units waiting iid owner links) (λ a. countAt count waiting a && (row a && empty a)) 16 (λ a b. as-whole a)
-        ∙ all_two (countAt count waiting) (λ a. row a && empty a) 16
-        ∙ ap (λ (t : Bool). all_below (countAt count waiting) 16 && t) (all_two row empty 16)
+    units_whole : all_units units waiting iid owner links ≡ (counts_fit count waiting && (rows_fit count tag length marked id correlation iid owner links && empties_fit count tag length marked id correlation))
+    unfolding all_units counts_fit rows_fit empties_fit
+    units_whole =
+        all_ext (units_ok units waiting iid owner links) (λ a. count_at count waiting a && (row a && empty a)) 16 (λ a b. as_whole a)
+        ∙ all_two (count_at count waiting) (λ a. row a && empty a) 16
+        ∙ ap (λ (t : Bool). all_below (count_at count waiting) 16 && t) (all_two row empty 16)
 
-    pub counts-fail : countsFit count waiting ≡ false → false ≡ allUnits units waiting iid owner links
-    counts-fail h = rw (units-whole, h)
+    pub counts_fail : counts_fit count waiting ≡ false → false ≡ all_units units waiting iid owner links
+    counts_fail h = rw (units_whole, h)
 
-    pub empties-fail : countsFit count waiting ≡ true → emptiesFit count tag length marked id correlation ≡ false → false ≡ allUnits units waiting iid owner links
-    empties-fail h e = rw (units-whole, h, e) (none (rowsFit count tag length marked id correlation iid owner links))
+    pub empties_fail : counts_fit count waiting ≡ true → empties_fit count tag length marked id correlation ≡ false → false ≡ all_units units waiting iid owner links
+    empties_fail h e = rw (units_whole, h, e) (none (rows_fit count tag length marked id correlation iid owner links))
       where
         none : (t : Bool) → false ≡ (t && false)
         none true = refl
         none false = refl
 
-    pub rows-said : (r : Bool) → countsFit count waiting ≡ true → emptiesFit count tag length marked id correlation ≡ true → r ≡ rowsFit count tag length marked id correlation iid owner links → r ≡ allUnits units waiting iid owner links
-    rows-said r h e q = rw (units-whole, h, e, ← q) (all r)
+    pub rows_said : (r : Bool) → counts_fit count waiting ≡ true → empties_fit count tag length marked id correlation ≡ true → r ≡ rows_fit count tag length marked id correlation iid owner links → r ≡ all_units units waiting iid owner links
+    rows_said r h e q = rw (units_whole, h, e, ← q) (all r)
       where
         all : (t : Bool) → t ≡ (t && true)
         all true = refl
         all false = refl
 
     -- where no AS holds a unit, all places are blank
-    pub units-none : noneCounted count ≡ true → blanks 0 128 ≡ allUnits units waiting iid owner links
-    unfolding noneCounted allUnits rowFit emptyFit
-    units-none h =
-        sym (blank-places 0 128)
-        ∙ sym (all-rows (blankAt units))
-        ∙ all-ext (λ a. all_below (λ k. blankAt units (a * 8 + k)) 8) (unitsOk units waiting iid owner links) 16
+    pub units_none : none_counted count ≡ true → blanks 0 128 ≡ all_units units waiting iid owner links
+    unfolding none_counted all_units row_fit empty_fit
+    units_none h =
+        sym (blank_places_lem 0 128)
+        ∙ sym (all_rows (blank_at units))
+        ∙ all_ext (λ a. all_below (λ k. blank_at units (a * 8 + k)) 8) (units_ok units waiting iid owner links) 16
         (λ a b.
-        let z : number_at count a ≡ 0 = eqb-true (number_at count a) 0 (all-at (λ a. eqb (number_at count a) 0) 16 h a b) in
-        blank-places (a * 8) 8 ∙ sym (as-whole a ∙ rw z))
+        let z : number_at count a ≡ 0 = eqb-true (number_at count a) 0 (all_at (λ a. eqb (number_at count a) 0) 16 h a b) in
+        blank_places_lem (a * 8) 8 ∙ sym (as_whole a ∙ rw z))
 
 -- no count is above 8
-pub counts-few : (count waiting : List ℕ) → countsFit count waiting ≡ true → (a : ℕ) → a < 16 → number_at count a ≤ 8
-unfolding countsFit
-counts-few count waiting h a b =
-    leb-true (number_at count a) 8 (and_left (leb (number_at count a) 8) (eqb (number_at count a) 0 || is_set waiting a) (all-at (countAt count waiting) 16 h a b))
+pub counts_few : (count waiting : List ℕ) → counts_fit count waiting ≡ true → (a : ℕ) → a < 16 → number_at count a ≤ 8
+unfolding counts_fit
+counts_few count waiting h a b =
+    leb-true (number_at count a) 8 (and_left (leb (number_at count a) 8) (eqb (number_at count a) 0 || is_set waiting a) (all_at (count_at count waiting) 16 h a b))
 
 -- the links of sound tables
-pub tables-links : (g : Gateway) → soundTables g ≡ true → (g.links ≤ 128) × (allUnder g.owner 16 g.links ≡ true)
-unfolding soundTables
-tables-links g h =
-    let c = countsIn g.asps g.ases g.links in
+pub tables_links : (g : Gateway) → sound_tables g ≡ true → (g.links ≤ 128) × (all_under g.owner 16 g.links ≡ true)
+unfolding sound_tables
+tables_links g h =
+    let c = counts_in g.asps g.ases g.links in
     let e = eqb g.spare 0 in
-    let x = soundAsps g.aspid g.up g.asps in
-    let y = soundAses g.up g.member g.active g.mode g.waiting g.asps g.ases in
-    let z = soundLinks g.iid g.owner g.state g.ases g.links in
-    let k = soundColumns g in
+    let x = sound_asps g.aspid g.up g.asps in
+    let y = sound_ases g.up g.member g.active g.mode g.waiting g.asps g.ases in
+    let z = sound_links g.iid g.owner g.state g.ases g.links in
+    let k = sound_columns g in
     let l = limits g.asps g.ases g.links (and_left c e (and_left (c && e) (x && (y && (z && k))) h)) in
-    let p = links-parts g.iid g.owner g.state g.ases g.links (and_left z k (and_right y (z && k) (and_right x (y && (z && k)) (and_right (c && e) (x && (y && (z && k))) h)))) in
-    (l.links, under-wider g.owner g.ases 16 g.links l.ases (column-all g.owner g.ases g.links 128 p.owned l.links))
+    let p = links_parts g.iid g.owner g.state g.ases g.links (and_left z k (and_right y (z && k) (and_right x (y && (z && k)) (and_right (c && e) (x && (y && (z && k))) h)))) in
+    (l.links, under_wider g.owner g.ases 16 g.links l.ases (column_all g.owner g.ases g.links 128 p.owned l.links))
 
 -- the tables of a state, whatever units it holds
 abbrev tables : Gateway → Bool
-tables g = soundTablesOf g.asps g.ases g.links g.spare g.aspid g.up g.member g.active g.mode g.waiting g.iid g.owner g.state g.highspeed g.wholelists
+tables g = sound_tables_of g.asps g.ases g.links g.spare g.aspid g.up g.member g.active g.mode g.waiting g.iid g.owner g.state g.highspeed g.wholelists
 
-tables-of : (g : Gateway) → tables g ≡ soundTables g
-unfolding soundTables soundColumns
-tables-of g = refl
+tables_of_lem : (g : Gateway) → tables g ≡ sound_tables g
+unfolding sound_tables sound_columns
+tables_of_lem g = refl
 
 -- the state: its tables, and where they are sound its units
-pub tables-fail : (g : Gateway) → tables g ≡ false → false ≡ isSound g
-unfolding isSound
-tables-fail g h = rw (← tables-of g, h)
+pub tables_fail : (g : Gateway) → tables g ≡ false → false ≡ is_sound g
+unfolding is_sound
+tables_fail g h = rw (← tables_of_lem g, h)
 
-pub units-said : (g : Gateway) (n : ℕ) (z r : Bool) → tables g ≡ true → n ≡ g.links → z ≡ sized g.held → r ≡ allUnits g.held g.waiting g.iid g.owner n → (z && r) ≡ isSound g
-unfolding isSound soundUnits
-units-said g n z r h e w q = rw (← tables-of g, h, w, ← e, q)
+pub units_said : (g : Gateway) (n : ℕ) (z r : Bool) → tables g ≡ true → n ≡ g.links → z ≡ sized g.held → r ≡ all_units g.held g.waiting g.iid g.owner n → (z && r) ≡ is_sound g
+unfolding is_sound sound_units
+units_said g n z r h e w q = rw (← tables_of_lem g, h, w, ← e, q)

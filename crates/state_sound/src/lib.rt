@@ -1,9 +1,9 @@
 // Whether the whole state is sound (Rule 5.4): its tables, and the units that it holds (Rule 5.21).
 ghost use Rattle.std.specs.Prelude.{◌≡◌, true, cond, ℕ, ◌+◌, ◌<◌, ◌≤◌, length};
 ghost use Rattle.laws.specs.Columns.{number_at};
-ghost use Rattle.state_tables.specs.Sound.{allUnder, isSound, sized, allUnits};
-ghost use Rattle.state_tables.specs.State.{unitsOf};
-ghost use Rattle.state_sound.specs.Inner.Sound.{isSoundOf, narrowBlank, wideBlank, blankPlaces, noneCounted, countsFit, dataFit, fieldsFit, Marked, Seen, seenFit, emptyFit, emptiesFit, rowSeen, rowsFit};
+ghost use Rattle.state_tables.specs.Sound.{all_under, is_sound, sized, all_units};
+ghost use Rattle.state_tables.specs.State.{units_of};
+ghost use Rattle.state_sound.specs.Inner.Sound.{is_sound_of, narrow_blank, wide_blank, blank_places, none_counted, counts_fit, data_fit, fields_fit, Marked, Seen, seen_fit, empty_fit, empties_fit, row_seen, rows_fit};
 
 use state_tables::Gateway;
 
@@ -17,7 +17,7 @@ fn narrow_blank<'a>(
     n: usize,
 ) -> bool
     requires { from + n ≤ 128 }
-    ensures { result ≡ narrowBlank c.now d.now e.now from n }
+    ensures { result ≡ narrow_blank c.now d.now e.now from n }
 {
     let mut ok = true;
     for k in 0..n {
@@ -28,7 +28,7 @@ fn narrow_blank<'a>(
 
 fn wide_blank<'a>(c: &'a [u32; 128], d: &'a [u32; 128], from: usize, n: usize) -> bool
     requires { from + n ≤ 128 }
-    ensures { result ≡ wideBlank c.now d.now from n }
+    ensures { result ≡ wide_blank c.now d.now from n }
 {
     let mut ok = true;
     for k in 0..n {
@@ -48,7 +48,7 @@ fn blank<'a>(
     n: usize,
 ) -> bool
     requires { from + n ≤ 128 }
-    ensures { result ≡ blankPlaces tag.now length.now marked.now id.now correlation.now from n }
+    ensures { result ≡ blank_places tag.now length.now marked.now id.now correlation.now from n }
 {
     let x = narrow_blank(tag, length, marked, from, n);
     let y = wide_blank(id, correlation, from, n);
@@ -56,7 +56,7 @@ fn blank<'a>(
 }
 
 pub fn none_counted(count: &[u8; 16]) -> bool
-    ensures { result ≡ noneCounted count.now }
+    ensures { result ≡ none_counted count.now }
 {
     let mut ok = true;
     for a in 0..16usize {
@@ -67,7 +67,7 @@ pub fn none_counted(count: &[u8; 16]) -> bool
 
 // An AS holds 8 at most, and some only while it waits.
 fn counts_ok<'a>(count: &'a [u8; 16], waiting: &'a [u8; 16]) -> bool
-    ensures { result ≡ countsFit count.now waiting.now }
+    ensures { result ≡ counts_fit count.now waiting.now }
 {
     let mut ok = true;
     for a in 0..16usize {
@@ -78,7 +78,7 @@ fn counts_ok<'a>(count: &'a [u8; 16], waiting: &'a [u8; 16]) -> bool
 
 // A unit but for its link: tag and length of protocol data, and a correlation id only where it is marked.
 fn data_ok(tag: u16, length: u16, marked: u16, correlation: u32) -> bool
-    ensures { result ≡ dataFit tag length marked correlation }
+    ensures { result ≡ data_fit tag length marked correlation }
 {
     (((tag == 768) | (tag == 769)) & ((5 <= length) & (length <= 277)))
         & ((marked == 1) | ((marked == 0) & (correlation == 0)))
@@ -93,7 +93,7 @@ fn fields_ok<'a>(
     n: usize,
 ) -> bool
     requires { from + n ≤ 128 }
-    ensures { result ≡ fieldsFit tag.now length.now marked.now correlation.now from n }
+    ensures { result ≡ fields_fit tag.now length.now marked.now correlation.now from n }
 {
     let mut ok = true;
     for k in 0..n {
@@ -131,7 +131,7 @@ fn seen_of<'a>(
     owner: &'a [u8; 128],
     links: usize,
 ) -> [u32; 128]
-    requires { (links ≤ 128) × (allUnder owner.now 16 links ≡ true) }
+    requires { (links ≤ 128) × (all_under owner.now 16 links ≡ true) }
     ensures { Seen id.now iid.now owner.now links result }
 {
     let mut seen = [0u32; 128];
@@ -144,7 +144,7 @@ fn seen_of<'a>(
 // The first n units of AS a are marked.
 fn ids_ok(seen: &[u32; 128], a: usize, n: usize) -> bool
     requires { (a < 16) × (n ≤ 8) }
-    ensures { result ≡ seenFit seen.now a n }
+    ensures { result ≡ seen_fit seen.now a n }
 {
     let mut ok = true;
     for k in 0..n {
@@ -164,7 +164,7 @@ fn empty_ok<'a>(
     a: usize,
 ) -> bool
     requires { a < 16 }
-    ensures { result ≡ emptyFit tag.now length.now marked.now id.now correlation.now n a }
+    ensures { result ≡ empty_fit tag.now length.now marked.now id.now correlation.now n a }
 {
     if n == 0 {
         return blank(tag, length, marked, id, correlation, a * 8, 8);
@@ -183,7 +183,7 @@ fn row_ok<'a>(
     a: usize,
 ) -> bool
     requires { (a < 16) × (n ≤ 8) }
-    ensures { result ≡ rowSeen tag.now length.now marked.now id.now correlation.now seen.now n a }
+    ensures { result ≡ row_seen tag.now length.now marked.now id.now correlation.now seen.now n a }
 {
     if n == 0 {
         return true;
@@ -203,7 +203,7 @@ fn empties_ok<'a>(
     id: &'a [u32; 128],
     correlation: &'a [u32; 128],
 ) -> bool
-    ensures { result ≡ emptiesFit count.now tag.now length.now marked.now id.now correlation.now }
+    ensures { result ≡ empties_fit count.now tag.now length.now marked.now id.now correlation.now }
 {
     for a in 0..16usize {
         if !empty_ok(tag, length, marked, id, correlation, count[a], a) {
@@ -224,8 +224,8 @@ fn rows_ok<'a>(
     owner: &'a [u8; 128],
     links: usize,
 ) -> bool
-    requires { (links ≤ 128) × (allUnder owner.now 16 links ≡ true) × ((a : ℕ) → a < 16 → number_at count.now a ≤ 8) }
-    ensures { result ≡ rowsFit count.now tag.now length.now marked.now id.now correlation.now iid.now owner.now links }
+    requires { (links ≤ 128) × (all_under owner.now 16 links ≡ true) × ((a : ℕ) → a < 16 → number_at count.now a ≤ 8) }
+    ensures { result ≡ rows_fit count.now tag.now length.now marked.now id.now correlation.now iid.now owner.now links }
 {
     let seen = seen_of(id, iid, owner, links);
     for a in 0..16usize {
@@ -250,8 +250,8 @@ pub fn units_ok<'a>(
     owner: &'a [u8; 128],
     links: usize,
 ) -> bool
-    requires { (links ≤ 128) × (allUnder owner.now 16 links ≡ true) }
-    ensures { result ≡ allUnits (unitsOf count.now tag.now length.now marked.now id.now correlation.now) waiting.now iid.now owner.now links }
+    requires { (links ≤ 128) × (all_under owner.now 16 links ≡ true) }
+    ensures { result ≡ all_units (units_of count.now tag.now length.now marked.now id.now correlation.now) waiting.now iid.now owner.now links }
 {
     if none_counted(count) {
         return blank(tag, length, marked, id, correlation, 0, 128);
@@ -303,7 +303,7 @@ fn sizes_ok<'a>(
     id: &'a [u32; 128],
     correlation: &'a [u32; 128],
 ) -> bool
-    ensures { result ≡ sized (unitsOf count.now tag.now length.now marked.now id.now correlation.now) }
+    ensures { result ≡ sized (units_of count.now tag.now length.now marked.now id.now correlation.now) }
 {
     let narrow = (bytes_in(count) == 16) & ((halves_in(tag) == 128) & (halves_in(length) == 128));
     let wide = (halves_in(marked) == 128)
@@ -335,7 +335,7 @@ pub fn sound_of<'a>(
     id: &'a [u32; 128],
     correlation: &'a [u32; 128],
 ) -> bool
-    ensures { result ≡ isSoundOf asps ases links spare aspid.now up.now member.now active.now mode.now waiting.now iid.now owner.now state.now highspeed.now wholelists.now count.now tag.now length.now marked.now id.now correlation.now }
+    ensures { result ≡ is_sound_of asps ases links spare aspid.now up.now member.now active.now mode.now waiting.now iid.now owner.now state.now highspeed.now wholelists.now count.now tag.now length.now marked.now id.now correlation.now }
 {
     if !state_tables::tables_ok(
         asps, ases, links, spare, aspid, up, member, active, mode, waiting, iid, owner, state,
@@ -360,7 +360,7 @@ pub fn sound_of<'a>(
 }
 
 pub fn is_sound(g: Gateway) -> bool
-    ensures { result ≡ isSound g }
+    ensures { result ≡ is_sound g }
 {
     let asps = g.asps;
     let ases = g.ases;

@@ -5,8 +5,8 @@ use Rattle.std.specs.Prelude.{ℕ, List}
 use Rattle.state_tables.specs.declared.Gateway.{Gateway}
 use Rattle.state_tables.specs.declared.Units.{Units}
 
-abbrev pub gatewayOf : ℕ → ℕ → ℕ → ℕ → List ℕ → List ℕ → List ℕ → List ℕ → List ℕ → List ℕ → List ℕ → List ℕ → List ℕ → List ℕ → List ℕ → Units → Gateway
-gatewayOf asps ases links spare aspid up member active mode waiting iid owner state highspeed wholelists held =
+abbrev pub gateway_of : ℕ → ℕ → ℕ → ℕ → List ℕ → List ℕ → List ℕ → List ℕ → List ℕ → List ℕ → List ℕ → List ℕ → List ℕ → List ℕ → List ℕ → Units → Gateway
+gateway_of asps ases links spare aspid up member active mode waiting iid owner state highspeed wholelists held =
     record {
       asps = asps;
       ases = ases;
@@ -27,6 +27,6 @@ gatewayOf asps ases links spare aspid up member active mode waiting iid owner st
     }
 
 -- its units
-abbrev pub unitsOf : List ℕ → List ℕ → List ℕ → List ℕ → List ℕ → List ℕ → Units
-unitsOf count tag length marked id correlation =
+abbrev pub units_of : List ℕ → List ℕ → List ℕ → List ℕ → List ℕ → List ℕ → Units
+units_of count tag length marked id correlation =
     record { count = count; tag = tag; length = length; marked = marked; id = id; correlation = correlation }

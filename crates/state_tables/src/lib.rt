@@ -2,11 +2,11 @@
 // columns by group of columns.
 ghost use Rattle.std.specs.Prelude.{◌≡◌, true, cond, ◌&&◌, ◌<◌, ◌≤◌, length, ltb};
 ghost use Rattle.laws.specs.Below.{one, all_below};
-ghost use Rattle.state_tables.specs.Inner.Limits.{places, limit, limitsTo, flagsOf, Flags};
-ghost use Rattle.state_tables.specs.Inner.Differ.{padWith, lacksFrom};
-ghost use Rattle.state_tables.specs.Inner.Rows.{rowFails, soundMarks};
-ghost use Rattle.state_tables.specs.Sound.{countsIn, blankFrom, soundColumn, differs, soundAsps, activeIn, modeAt, waitingAt, overrideAt, soundAses, ascends, soundLinks, soundKinds, soundLists, noUnits, zeros};
-ghost use Rattle.state_tables.specs.Inner.Sound.{soundTablesOf};
+ghost use Rattle.state_tables.specs.Inner.Limits.{places, limit, limits_to, flags_of, Flags};
+ghost use Rattle.state_tables.specs.Inner.Differ.{pad_with, lacks_from};
+ghost use Rattle.state_tables.specs.Inner.Rows.{row_fails, sound_marks};
+ghost use Rattle.state_tables.specs.Sound.{counts_in, blank_from, sound_column, differs, sound_asps, active_in, mode_at, waiting_at, override_at, sound_ases, ascends, sound_links, sound_kinds, sound_lists, no_units, zeros};
+ghost use Rattle.state_tables.specs.Inner.Sound.{sound_tables_of};
 
 // Index of a pair: as * 16 + asp. Flags are 0 or 1. Traffic modes: 1 override, 2 load-share, 3 broadcast.
 // States of a link: 0 idle, 1 starting, 2 in service, 3 stopping. `iid` is the interface identifier,
@@ -102,7 +102,7 @@ fn places() -> [u8; 128]
 }
 
 pub fn counts_ok(asps: u8, ases: u8, links: u8) -> bool
-    ensures { result ≡ countsIn asps ases links }
+    ensures { result ≡ counts_in asps ases links }
 {
     (((1 <= asps) & (asps <= 16)) & ((1 <= ases) & (ases <= 16))) & (links <= 128)
 }
@@ -111,7 +111,7 @@ pub fn counts_ok(asps: u8, ases: u8, links: u8) -> bool
 // over by operations on 16 bytes are passed one by one, and so once.
 fn blank<'a>(c: &'a [u8], d: &'a [u8], n: usize, end: usize) -> bool
     requires { (n ≤ end) × (end ≤ length c.now) × (end ≤ length d.now) }
-    ensures { result ≡ (blankFrom c.now n end && blankFrom d.now n end) }
+    ensures { result ≡ (blank_from c.now n end && blank_from d.now n end) }
 {
     let mut ok = true;
     for i in n..end {
@@ -122,7 +122,7 @@ fn blank<'a>(c: &'a [u8], d: &'a [u8], n: usize, end: usize) -> bool
 
 fn blank_wide(c: &[u32], n: usize, end: usize) -> bool
     requires { (n ≤ end) × (end ≤ length c.now) }
-    ensures { result ≡ blankFrom c.now n end }
+    ensures { result ≡ blank_from c.now n end }
 {
     let mut ok = true;
     for i in n..end {
@@ -157,7 +157,7 @@ fn few_new(aspid: &[u32; 16], n: usize) -> bool
 
 // The column after 16 places that hold x: so the 16 places before that of p are x and what comes before p.
 fn padded(aspid: &[u32; 16], x: u32) -> [u32; 32]
-    ensures { result ≡ padWith aspid.now x }
+    ensures { result ≡ pad_with aspid.now x }
 {
     let mut r = [x; 32];
     for q in 0..16usize {
@@ -169,7 +169,7 @@ fn padded(aspid: &[u32; 16], x: u32) -> [u32; 32]
 // None of the 16 places from p on holds x.
 fn lacks(c: &[u32; 32], p: usize, x: u32) -> bool
     requires { p ≤ 16 }
-    ensures { result ≡ lacksFrom c.now p x 16 }
+    ensures { result ≡ lacks_from c.now p x 16 }
 {
     let mut ok = true;
     for q in 0..16usize {
@@ -206,7 +206,7 @@ pub fn all_new(aspid: &[u32; 16], n: usize) -> bool
 // A column's first n places hold numbers below a bound, the others 0: all are below their limits.
 fn under_within<'a>(place: &'a [u8; 128], c: &'a [u8], most: u8, n: u8, end: usize) -> bool
     requires { (place.now ≡ places) × (end ≤ 128) × (end ≤ length c.now) }
-    ensures { result ≡ soundColumn c.now most n end }
+    ensures { result ≡ sound_column c.now most n end }
 {
     let mut ok = true;
     for i in 0..end {
@@ -219,7 +219,7 @@ fn under_within<'a>(place: &'a [u8; 128], c: &'a [u8], most: u8, n: u8, end: usi
 // for any other.
 fn asps_ok<'a>(place: &'a [u8; 128], asps: u8, aspid: &'a [u32; 16], up: &'a [u8; 16]) -> bool
     requires { place.now ≡ places }
-    ensures { asps ≤ 16 → result ≡ soundAsps aspid.now up.now asps }
+    ensures { asps ≤ 16 → result ≡ sound_asps aspid.now up.now asps }
 {
     let n = within(asps, 16);
     let differ = all_new(aspid, n);
@@ -231,7 +231,7 @@ fn asps_ok<'a>(place: &'a [u8; 128], asps: u8, aspid: &'a [u32; 16], up: &'a [u8
 // How many members of AS a are active.
 pub fn count_active(active: &[u8; 256], a: usize) -> usize
     requires { a < 16 }
-    ensures { result ≡ activeIn active.now a }
+    ensures { result ≡ active_in active.now a }
 {
     let mut n: usize = 0;
     for q in 0..16usize {
@@ -249,7 +249,7 @@ fn least(x: u8, y: u8) -> u8
 // The limits of the first 16 places of a column.
 fn limits(place: &[u8; 128], n: u8, most: u8) -> [u8; 16]
     requires { place.now ≡ places }
-    ensures { result ≡ limitsTo n most }
+    ensures { result ≡ limits_to n most }
 {
     let mut r = [0u8; 16];
     for q in 0..16usize {
@@ -260,7 +260,7 @@ fn limits(place: &[u8; 128], n: u8, most: u8) -> [u8; 16]
 
 // The flags of a column, and 0 for what is no flag.
 fn flags(c: &[u8; 16]) -> [u8; 16]
-    ensures { result ≡ flagsOf c.now }
+    ensures { result ≡ flags_of c.now }
 {
     let mut r = [0u8; 16];
     for q in 0..16usize {
@@ -280,7 +280,7 @@ fn row_count<'a>(
     a: usize,
 ) -> u32
     requires { (a < 16) × Flags up.now }
-    ensures { result ≡ cond (rowFails top.now up.now member.now active.now a) 17 (activeIn active.now a) }
+    ensures { result ≡ cond (row_fails top.now up.now member.now active.now a) 17 (active_in active.now a) }
 {
     let mut bad = false;
     let mut n: u32 = 0;
@@ -297,19 +297,19 @@ fn row_count<'a>(
 }
 
 fn mode_ok(mode: u8, inside: bool) -> bool
-    ensures { result ≡ modeAt mode inside }
+    ensures { result ≡ mode_at mode inside }
 {
     (inside & ((1 <= mode) & (mode <= 3))) | (!inside & (mode == 0))
 }
 
 fn waiting_ok(waiting: u8, n: u8, inside: bool) -> bool
-    ensures { result ≡ waitingAt waiting n inside }
+    ensures { result ≡ waiting_at waiting n inside }
 {
     (waiting == 0) | ((waiting == 1) & (inside & (n == 0)))
 }
 
 fn override_ok(mode: u8, n: u8) -> bool
-    ensures { result ≡ overrideAt mode n }
+    ensures { result ≡ override_at mode n }
 {
     (mode != 1) | (n <= 1)
 }
@@ -323,7 +323,7 @@ fn marks_ok<'a>(
     ases: u8,
 ) -> bool
     requires { place.now ≡ places }
-    ensures { result ≡ soundMarks count.now mode.now waiting.now ases 16 }
+    ensures { result ≡ sound_marks count.now mode.now waiting.now ases 16 }
 {
     let mut ok = true;
     for a in 0..16usize {
@@ -349,7 +349,7 @@ fn ases_ok<'a>(
     waiting: &'a [u8; 16],
 ) -> bool
     requires { place.now ≡ places }
-    ensures { ases ≤ 16 → result ≡ soundAses up.now member.now active.now mode.now waiting.now asps ases }
+    ensures { ases ≤ 16 → result ≡ sound_ases up.now member.now active.now mode.now waiting.now asps ases }
 {
     let m = within(ases, 16);
     let top = limits(place, asps, 2);
@@ -389,7 +389,7 @@ fn links_ok<'a>(
     state: &'a [u8; 128],
 ) -> bool
     requires { place.now ≡ places }
-    ensures { links ≤ 128 → result ≡ soundLinks iid.now owner.now state.now ases links }
+    ensures { links ≤ 128 → result ≡ sound_links iid.now owner.now state.now ases links }
 {
     let n = within(links, 128);
     let order = ascending(iid, n);
@@ -408,7 +408,7 @@ fn columns_ok<'a>(
     wholelists: &'a [u8; 16],
 ) -> bool
     requires { place.now ≡ places }
-    ensures { result ≡ (soundKinds highspeed.now links && soundLists wholelists.now asps) }
+    ensures { result ≡ (sound_kinds highspeed.now links && sound_lists wholelists.now asps) }
 {
     let kinds = under_within(place, highspeed, 2, links, 128);
     let lists = under_within(place, wholelists, 2, asps, 16);
@@ -433,7 +433,7 @@ pub fn tables_ok<'a>(
     highspeed: &'a [u8; 128],
     wholelists: &'a [u8; 16],
 ) -> bool
-    ensures { result ≡ soundTablesOf asps ases links spare aspid.now up.now member.now active.now mode.now waiting.now iid.now owner.now state.now highspeed.now wholelists.now }
+    ensures { result ≡ sound_tables_of asps ases links spare aspid.now up.now member.now active.now mode.now waiting.now iid.now owner.now state.now highspeed.now wholelists.now }
 {
     let c = counts_ok(asps, ases, links);
     let e = spare == 0;
@@ -448,7 +448,7 @@ pub fn tables_ok<'a>(
 impl Units {
     // No unit anywhere.
     pub fn none() -> Units
-        ensures { result ≡ noUnits }
+        ensures { result ≡ no_units }
     {
         Units {
             count: [0; 16],

@@ -1,12 +1,12 @@
 // The event that a script's line says: run by the entry of its kind, what it reaches, and its actions as
 // bytes.
 ghost use Rattle.std.specs.Prelude.{◌≡◌};
-ghost use Rattle.event_asked.specs.Happened.{event, eventOf};
+ghost use Rattle.event_asked.specs.Happened.{event, event_of};
 ghost use Rattle.send_message.specs.Send.{Sends};
 ghost use Rattle.event_reach.specs.Reached.{reached};
 ghost use Rattle.rules_event.specs.Entry.{MeetsRules};
 ghost use Rattle.tool_event_run.specs.Line.{said};
-ghost use Rattle.abi_node.specs.Next.{outcomeOf};
+ghost use Rattle.abi_node.specs.Next.{outcome_of};
 
 use abi_node::{Next, Node};
 use codec_write::Written;
@@ -22,7 +22,7 @@ pub fn happen(
     words: &mut [u32],
     g: Gateway,
 ) -> Next
-    ensures { MeetsRules g (event (said kind index msg.now) words.old hold.old) words.old words.new hold.old hold.new (outcomeOf result) }
+    ensures { MeetsRules g (event (said kind index msg.now) words.old hold.old) words.old words.new hold.old hold.new (outcome_of result) }
 {
     let i = index as usize;
     let node = Node { gateway: g };
@@ -45,7 +45,7 @@ pub fn reached_by(
     hold: usize,
     g: Gateway,
 ) -> [bool; 16]
-    ensures { result ≡ reached g (eventOf (said kind index msg.now) room hold) }
+    ensures { result ≡ reached g (event_of (said kind index msg.now) room hold) }
 {
     let i = index as usize;
     match kind {

@@ -9,77 +9,77 @@ use native.Mathlib.Omega.{arith}
 use lib.ListN.{length, length-append, take, drop, length-take}
 use denote.Enum.Declared.{tag_of, declared}
 use Rattle.tool_text.specs.Put.{overlay, Put}
-use Rattle.tool_text.proofs.Puts.{over-append}
+use Rattle.tool_text.proofs.Puts.{over_append}
 use Rattle.codec_wire.specs.declared.Step.{Step}
 use Rattle.codec_wire.specs.declared.Step.TheVariants.{Param, End, Fault}
-use Rattle.codec_wire.specs.Walk.{Par, walk, stepAt, part_of}
+use Rattle.codec_wire.specs.Walk.{Par, walk, step_at, part_of}
 use Rattle.codec_wire.specs.contracts.Step.{enum}
-use Rattle.codec_wire.proofs.Steps.{step-next, Next, pars-next, pars-stop, walk_step}
+use Rattle.codec_wire.proofs.Steps.{step_next, Next, pars_next, pars_stop, walk_step}
 use borrow.Author.Tests.{le-ltb}
 use Rattle.tool_report.specs.declared.Style.{Style}
-use Rattle.tool_report.specs.Shown.{parText, parsText}
+use Rattle.tool_report.specs.Shown.{par_text, pars_text}
 use Rattle.tool_report.specs.Inner.Shown.{par}
-use Rattle.tool_report.proofs.Texts.{par-sized}
+use Rattle.tool_report.proofs.Texts.{par_sized}
 
 -- the parameters take at most eight characters for each byte of the message
-pub pars-most : (style : Style) (s : List ℕ) (at : ℕ) → length (parsText style (walk s at).pars) ≤ 8 * (length s - at)
-unfolding parsText
-pars-most style s at = most (suc (length s - at)) at (omega arith)
+pub pars_most : (style : Style) (s : List ℕ) (at : ℕ) → length (pars_text style (walk s at).pars) ≤ 8 * (length s - at)
+unfolding pars_text
+pars_most style s at = most (suc (length s - at)) at (omega arith)
   where
-    on : (at : ℕ) (w : Step) → stepAt s at ≡ w → ((n : ℕ) → at < n → n ≤ length s → length (parsText style (walk s n).pars) ≤ 8 * (length s - n)) → length (parsText style (walk s at).pars) ≤ 8 * (length s - at)
+    on : (at : ℕ) (w : Step) → step_at s at ≡ w → ((n : ℕ) → at < n → n ≤ length s → length (pars_text style (walk s n).pars) ≤ 8 * (length s - n)) → length (pars_text style (walk s at).pars) ≤ 8 * (length s - at)
     on at (Param t l n) e ih =
-        let k : Next s at l n = step-next s at t l n e in
+        let k : Next s at l n = step_next s at t l n e in
         let p : Par = par t (take (l - 4) (drop (at + 4) s)) in
         let h : length p.body ≤ l - 4 = rw (length-take (l - 4) (drop (at + 4) s)) (omega arith) in
-        let z = par-sized style p in
+        let z = par_sized style p in
         let i = ih n (omega arith) (omega arith) in
-        rw (walk_step s at (Param t l n) e, length-append (parText style p) (parsText style (walk s n).pars)) (omega arith)
+        rw (walk_step s at (Param t l n) e, length-append (par_text style p) (pars_text style (walk s n).pars)) (omega arith)
     on at End e ih = rw (walk_step s at End e) (omega arith)
     on at Fault e ih = rw (walk_step s at Fault e) (omega arith)
 
-    most : (f at : ℕ) → length s - at < f → length (parsText style (walk s at).pars) ≤ 8 * (length s - at)
+    most : (f at : ℕ) → length s - at < f → length (pars_text style (walk s at).pars) ≤ 8 * (length s - at)
     most zero at h = absurd (omega arith)
-    most (suc f) at h = on at (stepAt s at) refl (λ n a b. most f n (omega arith))
+    most (suc f) at h = on at (step_at s at) refl (λ n a b. most f n (omega arith))
 
 -- what the walk finds next, with the value as a part of the message
-pub pars-part : (s : List ℕ) (at t l n : ℕ) → stepAt s at ≡ Param t l n → (walk s at).pars ≡ par t (part_of s at l) ∷ (walk s n).pars
+pub pars_part : (s : List ℕ) (at t l n : ℕ) → step_at s at ≡ Param t l n → (walk s at).pars ≡ par t (part_of s at l) ∷ (walk s n).pars
 unfolding part_of
-pars-part s at t l n e =
-    let k : Next s at l n = step-next s at t l n e in
-    rw (le-ltb l 4 (omega arith), le-ltb (length s) l (omega arith), le-ltb (length s - l) at (omega arith)) (pars-next s at t l n e)
+pars_part s at t l n e =
+    let k : Next s at l n = step_next s at t l n e in
+    rw (le-ltb l 4 (omega arith), le-ltb (length s) l (omega arith), le-ltb (length s - l) at (omega arith)) (pars_next s at t l n e)
 
 -- the text of the parameters from a position on, put at the place reached, completes that of all
 pub record Rest (style : Style) (s before : List ℕ) (from : ℕ) (out : List ℕ) (at used : ℕ) : Type 0 where
-  pub bytes : overlay out used (parsText style (walk s at).pars) ≡ overlay before from (parsText style (walk s 8).pars)
-  pub place : used + length (parsText style (walk s at).pars) ≡ from + length (parsText style (walk s 8).pars)
+  pub bytes : overlay out used (pars_text style (walk s at).pars) ≡ overlay before from (pars_text style (walk s 8).pars)
+  pub place : used + length (pars_text style (walk s at).pars) ≡ from + length (pars_text style (walk s 8).pars)
 
 module _ {style : Style} {s before : List ℕ} {from : ℕ} {out : List ℕ} {at used : ℕ} (h : Rest style s before from out at used) where
-  pub rest-used : used ≤ from + 8 * length s
-  rest-used = let p = h.place in omega (arith, pars-most style s 8)
+  pub rest_used : used ≤ from + 8 * length s
+  rest_used = let p = h.place in omega (arith, pars_most style s 8)
 
-  pub rest-stop : (w : Step) → stepAt s at ≡ w → (tag_of (declared enum) w ≡ 1) ⊎ (tag_of (declared enum) w ≡ 2) → Put before out from (parsText style (walk s 8).pars) used
-  unfolding overlay parsText
-  rest-stop w e k =
-      let z : (walk s at).pars ≡ [] = pars-stop s at w e k in
+  pub rest_stop : (w : Step) → step_at s at ≡ w → (tag_of (declared enum) w ≡ 1) ⊎ (tag_of (declared enum) w ≡ 2) → Put before out from (pars_text style (walk s 8).pars) used
+  unfolding overlay pars_text
+  rest_stop w e k =
+      let z : (walk s at).pars ≡ [] = pars_stop s at w e k in
       record { bytes = rw z at h.bytes; place = sym (add-zero used) ∙ (rw z at h.place) }
 
-  module _ (t l n : ℕ) (e : stepAt s at ≡ Param t l n) where
-    split : parsText style (walk s at).pars ≡ parText style (par t (part_of s at l)) ++ parsText style (walk s n).pars
-    unfolding parsText
-    split = ap (parsText style) (pars-part s at t l n e)
+  module _ (t l n : ℕ) (e : step_at s at ≡ Param t l n) where
+    split : pars_text style (walk s at).pars ≡ par_text style (par t (part_of s at l)) ++ pars_text style (walk s n).pars
+    unfolding pars_text
+    split = ap (pars_text style) (pars_part s at t l n e)
 
-    pub rest-room : used + 2 * length (part_of s at l) ≤ from + 8 * length s
-    rest-room =
-        let z = par-sized style (par t (part_of s at l)) in
-        let p = rw (split, length-append (parText style (par t (part_of s at l))) (parsText style (walk s n).pars)) at h.place in
-        omega (arith, pars-most style s 8)
+    pub rest_room : used + 2 * length (part_of s at l) ≤ from + 8 * length s
+    rest_room =
+        let z = par_sized style (par t (part_of s at l)) in
+        let p = rw (split, length-append (par_text style (par t (part_of s at l))) (pars_text style (walk s n).pars)) at h.place in
+        omega (arith, pars_most style s 8)
 
-    pub rest-next : (out₁ : List ℕ) (used₁ : ℕ) → Put out out₁ used (parText style (par t (part_of s at l))) used₁ → Rest style s before from out₁ n used₁
-    rest-next out₁ used₁ k =
+    pub rest_next : (out₁ : List ℕ) (used₁ : ℕ) → Put out out₁ used (par_text style (par t (part_of s at l))) used₁ → Rest style s before from out₁ n used₁
+    rest_next out₁ used₁ k =
         record {
-          bytes = rw (k.bytes, k.place, over-append out (parText style (par t (part_of s at l))) (parsText style (walk s n).pars) used) (ap (overlay out used) (sym split) ∙ h.bytes);
+          bytes = rw (k.bytes, k.place, over_append out (par_text style (par t (part_of s at l))) (pars_text style (walk s n).pars) used) (ap (overlay out used) (sym split) ∙ h.bytes);
           place =
-              let p = rw (split, length-append (parText style (par t (part_of s at l))) (parsText style (walk s n).pars)) at h.place in
+              let p = rw (split, length-append (par_text style (par t (part_of s at l))) (pars_text style (walk s n).pars)) at h.place in
               let q = k.place in
               omega arith;
         }

@@ -10,8 +10,8 @@ use lib.Dec.{ltb}
 use borrow.Author.Tests.{eq-eqb, ne_eqb, le-ltb, lt-ltb}
 use Rattle.tool_text.specs.Put.{Put}
 use Rattle.tool_text.specs.Digits.{decimal, places, hex}
-use Rattle.tool_text.proofs.Puts.{put_then, put-none}
-use Rattle.tool_text.proofs.Lengths.{length-decimal, length-hex}
+use Rattle.tool_text.proofs.Puts.{put_then, put_none}
+use Rattle.tool_text.proofs.Lengths.{length_decimal, length_hex}
 use Rattle.codec_wire.specs.Walk.{Par, walk}
 use native.Mathlib.Decide.{dec_lt}
 use Rattle.codec_read.specs.declared.Reading.{Reading}
@@ -19,35 +19,35 @@ use Rattle.codec_read.specs.Verdict.{verdict}
 use Rattle.codec_read.specs.Meaning.{reading_of, outcome}
 use Rattle.tool_report.specs.declared.Style.{Style}
 use Rattle.tool_report.specs.declared.Style.TheVariants.{Plain, Bars, Lines}
-use Rattle.tool_report.specs.Shown.{blank, colon, paramWord, joint, two, fields, value, named, fieldsIn, parText, parsText, verdictLine, acceptedText, readText, shownText}
+use Rattle.tool_report.specs.Shown.{blank, colon, param_word, joint, two, fields, value, named, fields_in, par_text, pars_text, verdict_line, accepted_text, read_text, shown_text}
 
-pub joint-plain : (style : Style) → style ≡ Plain → joint style ≡ blank ∷ []
+pub joint_plain : (style : Style) → style ≡ Plain → joint style ≡ blank ∷ []
 unfolding joint
-joint-plain style e = rw e
+joint_plain style e = rw e
 
-pub joint-bars : (style : Style) → style ≡ Bars → joint style ≡ blank ∷ 124 ∷ blank ∷ []
+pub joint_bars : (style : Style) → style ≡ Bars → joint style ≡ blank ∷ 124 ∷ blank ∷ []
 unfolding joint
-joint-bars style e = rw e
+joint_bars style e = rw e
 
-pub joint-lines : (style : Style) → style ≡ Lines → joint style ≡ 10 ∷ []
+pub joint_lines : (style : Style) → style ≡ Lines → joint style ≡ 10 ∷ []
 unfolding joint
-joint-lines style e = rw e
+joint_lines style e = rw e
 
-pub fields-put : {a b c d : List ℕ} {at m n o : ℕ} (t k : ℕ) (v : List ℕ) → k ≡ 4 + length v → Put a b at (two t colon k) m → Put b c m (colon ∷ []) n → Put c d n (hex v) o → Put a d at (fields t v) o
+pub fields_put : {a b c d : List ℕ} {at m n o : ℕ} (t k : ℕ) (v : List ℕ) → k ≡ 4 + length v → Put a b at (two t colon k) m → Put b c m (colon ∷ []) n → Put c d n (hex v) o → Put a d at (fields t v) o
 unfolding fields
-fields-put t n v e h k l = put_then (rw e at h) (put_then k l)
+fields_put t n v e h k l = put_then (rw e at h) (put_then k l)
 
-pub named_put : {a b c d : List ℕ} {at m n o : ℕ} (t k : ℕ) (v : List ℕ) → k ≡ 4 + length v → Put a b at paramWord m → Put b c m (two t blank k) n → Put c d n (value v) o → Put a d at (named t v) o
+pub named_put : {a b c d : List ℕ} {at m n o : ℕ} (t k : ℕ) (v : List ℕ) → k ≡ 4 + length v → Put a b at param_word m → Put b c m (two t blank k) n → Put c d n (value v) o → Put a d at (named t v) o
 unfolding named
 named_put t n v e h k l = put_then h (put_then (rw e at k) l)
 
 pub value_none : (l v : List ℕ) (at : ℕ) → length v ≡ 0 → Put l l at (value v) at
 unfolding value
-value_none l v at e = rw (eq-eqb (length v) 0 e) (put-none l at)
+value_none l v at e = rw (eq-eqb (length v) 0 e) (put_none l at)
 
-pub value-some : {a b c : List ℕ} {at m n : ℕ} (v : List ℕ) → (length v ≡ 0 → ⊥) → Put a b at (blank ∷ []) m → Put b c m (hex v) n → Put a c at (value v) n
+pub value_some : {a b c : List ℕ} {at m n : ℕ} (v : List ℕ) → (length v ≡ 0 → ⊥) → Put a b at (blank ∷ []) m → Put b c m (hex v) n → Put a c at (value v) n
 unfolding value
-value-some v e h k = rw (ne_eqb (length v) 0 e) (put_then h k)
+value_some v e h k = rw (ne_eqb (length v) 0 e) (put_then h k)
 
 -- ---- lengths
 
@@ -55,93 +55,93 @@ some : (b : Bool) (m n : ℕ) → m ≤ 10 → n ≤ 10 → cond b m n ≤ 10
 some true m n h k = h
 some false m n h k = k
 
-pub places-most : (n : ℕ) → places n ≤ 10
+pub places_most : (n : ℕ) → places n ≤ 10
 unfolding places
-places-most n = some (ltb n 10) 1 _ (omega arith) (some (ltb n 100) 2 _ (omega arith) (some (ltb n 1000) 3 _ (omega arith) (some (ltb n 10000) 4 _ (omega arith) (some (ltb n 100000) 5 _ (omega arith) (some (ltb n 1000000) 6 _ (omega arith) (some (ltb n 10000000) 7 _ (omega arith) (some (ltb n 100000000) 8 _ (omega arith) (some (ltb n 1000000000) 9 10 (omega arith) (omega arith)))))))))
+places_most n = some (ltb n 10) 1 _ (omega arith) (some (ltb n 100) 2 _ (omega arith) (some (ltb n 1000) 3 _ (omega arith) (some (ltb n 10000) 4 _ (omega arith) (some (ltb n 100000) 5 _ (omega arith) (some (ltb n 1000000) 6 _ (omega arith) (some (ltb n 10000000) 7 _ (omega arith) (some (ltb n 100000000) 8 _ (omega arith) (some (ltb n 1000000000) 9 10 (omega arith) (omega arith)))))))))
 
-pub decimal-most : (n : ℕ) → length (decimal n) ≤ 10
-decimal-most n = rw (length-decimal n) (places-most n)
+pub decimal_most : (n : ℕ) → length (decimal n) ≤ 10
+decimal_most n = rw (length_decimal n) (places_most n)
 
-pub two-most : (a c b : ℕ) → length (two a c b) ≤ 21
+pub two_most : (a c b : ℕ) → length (two a c b) ≤ 21
 unfolding two
-two-most a c b = rw (length-append (decimal a) (c ∷ decimal b)) (omega (arith, decimal-most a, decimal-most b))
+two_most a c b = rw (length-append (decimal a) (c ∷ decimal b)) (omega (arith, decimal_most a, decimal_most b))
 
-pub joint-most : (style : Style) → length (joint style) ≤ 3
+pub joint_most : (style : Style) → length (joint style) ≤ 3
 unfolding joint
-joint-most Plain = omega arith
-joint-most Bars = omega arith
-joint-most Lines = omega arith
+joint_most Plain = omega arith
+joint_most Bars = omega arith
+joint_most Lines = omega arith
 
 -- a value takes two characters for each byte, and a blank
 pub record Sized (v : List ℕ) (most : ℕ) (text : List ℕ) : Type 0 where
   pub least : 2 * length v ≤ length text
   pub within : length text ≤ most + 2 * length v
 
-fields-sized : (t : ℕ) (v : List ℕ) → Sized v 22 (fields t v)
+fields_sized : (t : ℕ) (v : List ℕ) → Sized v 22 (fields t v)
 unfolding fields
-fields-sized t v =
+fields_sized t v =
     let e = length-append (two t colon (4 + length v)) (colon ∷ hex v) in
-    let k = length-hex v in
-    let m = two-most t colon (4 + length v) in
+    let k = length_hex v in
+    let m = two_most t colon (4 + length v) in
     record { least = rw e (omega arith); within = rw e (omega arith) }
 
-value-sized : (v : List ℕ) → Sized v 1 (value v)
+value_sized : (v : List ℕ) → Sized v 1 (value v)
 unfolding value
-value-sized [] = record { least = omega arith; within = omega arith }
-value-sized (b ∷ v) =
-    let e = length-hex (b ∷ v) in
+value_sized [] = record { least = omega arith; within = omega arith }
+value_sized (b ∷ v) =
+    let e = length_hex (b ∷ v) in
     let z = ne_eqb (suc (length v)) 0 (λ q. omega arith) in
     record { least = rw z (omega arith); within = rw z (omega arith) }
 
-named-sized : (t : ℕ) (v : List ℕ) → Sized v 28 (named t v)
+named_sized : (t : ℕ) (v : List ℕ) → Sized v 28 (named t v)
 unfolding named
-named-sized t v =
+named_sized t v =
     let e = length-append (two t blank (4 + length v)) (value v) in
-    let k = value-sized v in
-    let m = two-most t blank (4 + length v) in
+    let k = value_sized v in
+    let m = two_most t blank (4 + length v) in
     record { least = rw e (omega arith); within = rw e (omega arith) }
 
-in-sized : (style : Style) (t : ℕ) (v : List ℕ) → Sized v 28 (fieldsIn style t v)
-in-sized Plain t v = let k = fields-sized t v in record { least = k.least; within = omega arith }
-in-sized Bars t v = named-sized t v
-in-sized Lines t v = named-sized t v
+in_sized : (style : Style) (t : ℕ) (v : List ℕ) → Sized v 28 (fields_in style t v)
+in_sized Plain t v = let k = fields_sized t v in record { least = k.least; within = omega arith }
+in_sized Bars t v = named_sized t v
+in_sized Lines t v = named_sized t v
 
-pub par-sized : (style : Style) (p : Par) → Sized p.body 31 (parText style p)
-unfolding parText
-par-sized style p =
-    let k = in-sized style p.tag p.body in
-    let j = joint-most style in
-    let e = length-append (joint style) (fieldsIn style p.tag p.body) in
+pub par_sized : (style : Style) (p : Par) → Sized p.body 31 (par_text style p)
+unfolding par_text
+par_sized style p =
+    let k = in_sized style p.tag p.body in
+    let j = joint_most style in
+    let e = length-append (joint style) (fields_in style p.tag p.body) in
     record { least = rw e (omega arith); within = rw e (omega arith) }
 
 -- ---- the verdict
 
 -- a message that reads has at most 2,048 bytes
-long-verdict : (s : List ℕ) → 2048 < length s → verdict s ≡ 7
+long_verdict : (s : List ℕ) → 2048 < length s → verdict s ≡ 7
 unfolding verdict
-long-verdict s h = rw (le-ltb (length s) 8 (omega arith), lt-ltb 2048 (length s) h)
+long_verdict s h = rw (le-ltb (length s) 8 (omega arith), lt-ltb 2048 (length s) h)
 
-pub accepted-short : (s : List ℕ) → (reading_of s).code ≡ 0 → length s ≤ 2048
+pub accepted_short : (s : List ℕ) → (reading_of s).code ≡ 0 → length s ≤ 2048
 unfolding reading_of outcome
-accepted-short s e = go (dec_lt 2048 (length s))
+accepted_short s e = go (dec_lt 2048 (length s))
   where
     go : Dec (2048 < length s) → length s ≤ 2048
-    go (yes h) = let z : ◌≡◌ {A = ℕ} 7 0 = rw (long-verdict s h) at e in absurd (omega arith)
+    go (yes h) = let z : ◌≡◌ {A = ℕ} 7 0 = rw (long_verdict s h) at e in absurd (omega arith)
     go (no h) = omega arith
 
 module _ {a b : List ℕ} {at m : ℕ} (s : List ℕ) (r : Reading) (e : r ≡ reading_of s) where
-  pub read_some : {c : List ℕ} {n : ℕ} → r.code ≡ 0 → Put a b at (decimal r.code) m → Put b c m (parsText Plain (walk s 8).pars) n → Put a c at (readText s) n
-  unfolding readText
+  pub read_some : {c : List ℕ} {n : ℕ} → r.code ≡ 0 → Put a b at (decimal r.code) m → Put b c m (pars_text Plain (walk s 8).pars) n → Put a c at (read_text s) n
+  unfolding read_text
   read_some z h k = rw (← e, eq-eqb r.code 0 z) (put_then h k)
 
-  pub read_none : (r.code ≡ 0 → ⊥) → Put a b at (decimal r.code) m → Put a b at (readText s) m
-  unfolding readText
-  read_none z h = rw (← e, ne_eqb r.code 0 z) (put_then h (put-none b m))
+  pub read_none : (r.code ≡ 0 → ⊥) → Put a b at (decimal r.code) m → Put a b at (read_text s) m
+  unfolding read_text
+  read_none z h = rw (← e, ne_eqb r.code 0 z) (put_then h (put_none b m))
 
-  pub shown-some : (style : Style) → r.code ≡ 0 → Put a b at (acceptedText style r.class r.msgtype s) m → Put a b at (shownText style s) m
-  unfolding shownText
-  shown-some style z h = rw (← e, eq-eqb r.code 0 z) h
+  pub shown_some : (style : Style) → r.code ≡ 0 → Put a b at (accepted_text style r.class r.msgtype s) m → Put a b at (shown_text style s) m
+  unfolding shown_text
+  shown_some style z h = rw (← e, eq-eqb r.code 0 z) h
 
-  pub shown-none : (style : Style) → (r.code ≡ 0 → ⊥) → Put a b at (verdictLine r.code) m → Put a b at (shownText style s) m
-  unfolding shownText
-  shown-none style z h = rw (← e, ne_eqb r.code 0 z) h
+  pub shown_none : (style : Style) → (r.code ≡ 0 → ⊥) → Put a b at (verdict_line r.code) m → Put a b at (shown_text style s) m
+  unfolding shown_text
+  shown_none style z h = rw (← e, ne_eqb r.code 0 z) h

@@ -2,7 +2,7 @@
 ghost use Rattle.std.specs.Prelude.{◌≡◌, ◌+◌, ◌*◌, ◌≤◌, length};
 ghost use Rattle.codec_wire.specs.Walk.{walk, part_of};
 ghost use Rattle.tool_text.specs.Put.{Put};
-ghost use Rattle.tool_report.specs.Shown.{joint, two, value, fields, named, fieldsIn, parText, parsText, headLine, verdictLine, acceptedText, readText, shownText};
+ghost use Rattle.tool_report.specs.Shown.{joint, two, value, fields, named, fields_in, par_text, pars_text, head_line, verdict_line, accepted_text, read_text, shown_text};
 ghost use Rattle.tool_report.specs.Inner.Shown.{par};
 
 use codec_read::Reading;
@@ -85,7 +85,7 @@ fn put_value(v: &[u8], out: &mut [u8; 65536], at: usize) -> usize
 
 fn put_tagged(style: Style, tag: u16, v: &[u8], out: &mut [u8; 65536], at: usize) -> usize
     requires { at + 28 + 2 * length v.now ≤ 65536 }
-    ensures { Put out.old out.new at (fieldsIn style tag v.now) result }
+    ensures { Put out.old out.new at (fields_in style tag v.now) result }
 {
     match style {
         Style::Plain => put_fields(tag, v, out, at),
@@ -97,7 +97,7 @@ fn put_tagged(style: Style, tag: u16, v: &[u8], out: &mut [u8; 65536], at: usize
 // One parameter, with what stands before it.
 fn put_par(style: Style, tag: u16, v: &[u8], out: &mut [u8; 65536], at: usize) -> usize
     requires { at + 31 + 2 * length v.now ≤ 65536 }
-    ensures { Put out.old out.new at (parText style (par tag v.now)) result }
+    ensures { Put out.old out.new at (par_text style (par tag v.now)) result }
 {
     let next = put_joint(style, out, at);
     put_tagged(style, tag, v, out, next)
@@ -106,7 +106,7 @@ fn put_par(style: Style, tag: u16, v: &[u8], out: &mut [u8; 65536], at: usize) -
 // The parameters of a message.
 fn put_pars(style: Style, s: &[u8], out: &mut [u8; 65536], from: usize) -> usize
     requires { from + 8 * length s.now + 31 ≤ 65536 }
-    ensures put { Put out.old out.new from (parsText style (walk s.now 8).pars) result }
+    ensures put { Put out.old out.new from (pars_text style (walk s.now 8).pars) result }
     ensures upper_bound { result ≤ from + 8 * length s.now }
 {
     let mut at = 8;
@@ -132,7 +132,7 @@ fn put_at(
     used: usize,
 ) -> usize
     requires { used + 31 + 2 * length (part_of s.now at len) ≤ 65536 }
-    ensures { Put out.old out.new used (parText style (par tag (part_of s.now at len))) result }
+    ensures { Put out.old out.new used (par_text style (par tag (part_of s.now at len))) result }
 {
     let v = codec_wire::value_at(s, at, len as usize);
     put_par(style, tag, v, out, used)
@@ -140,7 +140,7 @@ fn put_at(
 
 fn put_verdict(code: u32, out: &mut [u8; 65536], at: usize) -> usize
     requires { at + 18 ≤ 65536 }
-    ensures put { Put out.old out.new at (verdictLine code) result }
+    ensures put { Put out.old out.new at (verdict_line code) result }
     ensures upper_bound { result ≤ at + 18 }
 {
     let next = put_bytes(out, at, b"verdict ");
@@ -150,7 +150,7 @@ fn put_verdict(code: u32, out: &mut [u8; 65536], at: usize) -> usize
 // The first line of a message that reads: class, type and bytes.
 fn put_head(class: u32, msgtype: u32, size: u32, out: &mut [u8; 65536], at: usize) -> usize
     requires { at + 40 ≤ 65536 }
-    ensures put { Put out.old out.new at (headLine class msgtype size) result }
+    ensures put { Put out.old out.new at (head_line class msgtype size) result }
     ensures upper_bound { result ≤ at + 40 }
 {
     let word = put_bytes(out, at, b"message ");
@@ -162,7 +162,7 @@ fn put_head(class: u32, msgtype: u32, size: u32, out: &mut [u8; 65536], at: usiz
 // The lines of a message that reads.
 fn put_accepted(style: Style, r: Reading, s: &[u8], out: &mut [u8; 65536], at: usize) -> usize
     requires { (at + 17000 ≤ 65536) × (length s.now ≤ 2048) }
-    ensures put { Put out.old out.new at (acceptedText style r.class r.msgtype s.now) result }
+    ensures put { Put out.old out.new at (accepted_text style r.class r.msgtype s.now) result }
     ensures upper_bound { result ≤ at + 17000 }
 {
     let first = put_head(r.class, r.msgtype, s.len() as u32, out, at);
@@ -174,7 +174,7 @@ fn put_accepted(style: Style, r: Reading, s: &[u8], out: &mut [u8; 65536], at: u
 // What `show` says of any bytes.
 pub fn put_shown(style: Style, s: &[u8], out: &mut [u8; 65536], at: usize) -> usize
     requires { at + 17000 ≤ 65536 }
-    ensures put { Put out.old out.new at (shownText style s.now) result }
+    ensures put { Put out.old out.new at (shown_text style s.now) result }
     ensures upper_bound { result ≤ at + 17000 }
 {
     let r = codec_read::read(s);
@@ -187,7 +187,7 @@ pub fn put_shown(style: Style, s: &[u8], out: &mut [u8; 65536], at: usize) -> us
 // What `read` says of any bytes.
 pub fn put_read(s: &[u8], out: &mut [u8; 65536], at: usize) -> usize
     requires { at + 17000 ≤ 65536 }
-    ensures put { Put out.old out.new at (readText s.now) result }
+    ensures put { Put out.old out.new at (read_text s.now) result }
     ensures upper_bound { result ≤ at + 17000 }
 {
     let r = codec_read::read(s);

@@ -5,8 +5,8 @@
 // function of its own.
 ghost use Rattle.std.specs.Prelude.{◌≡◌, [], ◌∷◌, ◌+◌, ◌≤◌, length};
 ghost use Rattle.tool_text.specs.Put.{Put};
-ghost use Rattle.tool_report.specs.Shown.{readText, shownText};
-ghost use Rattle.tool_script.specs.Script.{badText, commandIn, onBytes, answer_of, answerText, lineText, Answered};
+ghost use Rattle.tool_report.specs.Shown.{read_text, shown_text};
+ghost use Rattle.tool_script.specs.Script.{bad_text, command_in, on_bytes, answer_of, answer_text, line_text, Answered};
 
 use tool_report::Style;
 use tool_text::{Size, bytes_of, first, is, put_byte, rest_of, word_of};
@@ -19,7 +19,7 @@ pub enum Command {
 }
 
 fn command_of(name: &[u8]) -> Command
-    ensures { result ≡ commandIn name.now }
+    ensures { result ≡ command_in name.now }
 {
     if is(name, b"read") {
         return Command::Read;
@@ -33,7 +33,7 @@ fn command_of(name: &[u8]) -> Command
 // A line that is no command.
 fn bad(out: &mut [u8; 65536], at: usize) -> usize
     requires { at + 17000 ≤ 65536 }
-    ensures put { Put out.old out.new at badText result }
+    ensures put { Put out.old out.new at bad_text result }
     ensures value { result ≡ at + 1 }
 {
     put_byte(out, at, b'?')
@@ -42,7 +42,7 @@ fn bad(out: &mut [u8; 65536], at: usize) -> usize
 // `read HEX`
 fn read(hex: &[u8], bytes: &mut [u8; 32768], out: &mut [u8; 65536], at: usize) -> usize
     requires { (at + 17000 ≤ 65536) × (length hex.now ≤ 65535) }
-    ensures answered { Answered bytes.old out.old out.new at (onBytes readText hex.now) result }
+    ensures answered { Answered bytes.old out.old out.new at (on_bytes read_text hex.now) result }
     ensures upper_bound { result ≤ at + 17000 }
 {
     let size = bytes_of(hex, bytes);
@@ -55,7 +55,7 @@ fn read(hex: &[u8], bytes: &mut [u8; 32768], out: &mut [u8; 65536], at: usize) -
 // `show HEX`
 fn show(hex: &[u8], bytes: &mut [u8; 32768], out: &mut [u8; 65536], at: usize) -> usize
     requires { (at + 17000 ≤ 65536) × (length hex.now ≤ 65535) }
-    ensures answered { Answered bytes.old out.old out.new at (onBytes (shownText Style.Bars) hex.now) result }
+    ensures answered { Answered bytes.old out.old out.new at (on_bytes (shown_text Style.Bars) hex.now) result }
     ensures upper_bound { result ≤ at + 17000 }
 {
     let size = bytes_of(hex, bytes);
@@ -87,7 +87,7 @@ fn answer(
 // The answer to a line, without its end.
 fn answer_line(line: &[u8], bytes: &mut [u8; 32768], out: &mut [u8; 65536], at: usize) -> usize
     requires { at + 17000 ≤ 65536 }
-    ensures answered { Answered bytes.old out.old out.new at (answerText line.now) result }
+    ensures answered { Answered bytes.old out.old out.new at (answer_text line.now) result }
     ensures upper_bound { result ≤ at + 17000 }
 {
     if line.len() > 65535 {
@@ -100,7 +100,7 @@ fn answer_line(line: &[u8], bytes: &mut [u8; 32768], out: &mut [u8; 65536], at: 
 // A line of a script: a blank line or a comment has no answer, and any other one line of it.
 pub fn run(line: &[u8], bytes: &mut [u8; 32768], out: &mut [u8; 65536], at: usize) -> usize
     requires { at + 17001 ≤ 65536 }
-    ensures { Answered bytes.old out.old out.new at (lineText line.now) result }
+    ensures { Answered bytes.old out.old out.new at (line_text line.now) result }
 {
     if line.len() == 0 {
         return at;

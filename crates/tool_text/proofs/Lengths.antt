@@ -14,23 +14,23 @@ unfolding digits
 length_digits zero n = refl
 length_digits (suc k) n = length-append (digits k (n / 10)) ((48 + n % 10) ∷ []) ∙ let e = length_digits k (n / 10) in omega arith
 
-pub length-decimal : (n : ℕ) → length (decimal n) ≡ places n
+pub length_decimal : (n : ℕ) → length (decimal n) ≡ places n
 unfolding decimal
-length-decimal n = length_digits (places n) n
+length_decimal n = length_digits (places n) n
 
-pub length-hex : (l : List ℕ) → length (hex l) ≡ 2 * length l
+pub length_hex : (l : List ℕ) → length (hex l) ≡ 2 * length l
 unfolding hex
-length-hex [] = refl
-length-hex (b ∷ bs) = let e = length-hex bs in omega arith
+length_hex [] = refl
+length_hex (b ∷ bs) = let e = length_hex bs in omega arith
 
-pub hex-append : (xs ys : List ℕ) → hex (xs ++ ys) ≡ hex xs ++ hex ys
+pub hex_append : (xs ys : List ℕ) → hex (xs ++ ys) ≡ hex xs ++ hex ys
 unfolding hex
-hex-append [] ys = refl
-hex-append (x ∷ xs) ys = rw (hex-append xs ys)
+hex_append [] ys = refl
+hex_append (x ∷ xs) ys = rw (hex_append xs ys)
 
-pub hex-more : (l : List ℕ) (i : ℕ) → i < length l → hex (take (i + 1) l) ≡ hex (take i l) ++ pair (get_or l i 0)
+pub hex_more : (l : List ℕ) (i : ℕ) → i < length l → hex (take (i + 1) l) ≡ hex (take i l) ++ pair (get_or l i 0)
 unfolding hex
-hex-more l i h = rw (add-one, take-suc l i 0, hex-append)
+hex_more l i h = rw (add-one, take-suc l i 0, hex_append)
 
 pub digits_more : (k n : ℕ) → digits k (n / 10) ++ ((48 + n % 10) ∷ []) ≡ digits (suc k) n
 unfolding digits

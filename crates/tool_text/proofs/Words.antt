@@ -10,22 +10,22 @@ use lib.ListN.{length, get_or, take, drop, drop_of_length-le, length-take, lengt
 use lib.Seq.{drop-cons, take-suc, take_all}
 use lib.Dec.{eqb}
 use borrow.Author.Tests.{eq-eqb, ne_eqb}
-use Rattle.tool_text.specs.Word.{word_in, restIn, same}
+use Rattle.tool_text.specs.Word.{word_in, rest_in, same}
 use Rattle.tool_text.specs.Inner.Word.{Blank}
 
 -- no blank stands before a place
 pub record Passed (line : List ℕ) (i : ℕ) : Type 0 where
   pub within : i ≤ length line
   pub word : take i line ++ word_in (drop i line) ≡ word_in line
-  pub rest : restIn (drop i line) ≡ restIn line
+  pub rest : rest_in (drop i line) ≡ rest_in line
 
 pub passed_none : (line : List ℕ) → Passed line 0
 passed_none line = record { within = omega arith; word = refl; rest = refl }
 
 module _ (line : List ℕ) (i : ℕ) (h : Passed line i) where
-  pub passed-end : length line ≤ i → Blank line i
-  unfolding word_in restIn
-  passed-end b =
+  pub passed_end : length line ≤ i → Blank line i
+  unfolding word_in rest_in
+  passed_end b =
       let z : drop i line ≡ [] = drop_of_length-le line {i = i} b in
       record {
         within = h.within;
@@ -34,9 +34,9 @@ module _ (line : List ℕ) (i : ℕ) (h : Passed line i) where
       }
 
   module _ (b : i < length line) where
-    pub passed-stop : get_or line i 0 ≡ 32 → Blank line i
-    unfolding word_in restIn
-    passed-stop e =
+    pub passed_stop : get_or line i 0 ≡ 32 → Blank line i
+    unfolding word_in rest_in
+    passed_stop e =
         let z : drop i line ≡ 32 ∷ drop (suc i) line = drop-cons line i 0 b ∙ ap (λ (x : ℕ). x ∷ drop (suc i) line) e in
         record {
           within = h.within;
@@ -44,9 +44,9 @@ module _ (line : List ℕ) (i : ℕ) (h : Passed line i) where
           rest = rw add-one (rw z at h.rest);
         }
 
-    pub passed-more : (get_or line i 0 ≡ 32 → ⊥) → Passed line (i + 1)
-    unfolding word_in restIn
-    passed-more e =
+    pub passed_more : (get_or line i 0 ≡ 32 → ⊥) → Passed line (i + 1)
+    unfolding word_in rest_in
+    passed_more e =
         let n = ne_eqb (get_or line i 0) 32 e in
         record {
           within = omega arith;
@@ -57,14 +57,14 @@ module _ (line : List ℕ) (i : ℕ) (h : Passed line i) where
         }
 
 module _ (line : List ℕ) (at : ℕ) (h : Blank line at) where
-  pub rest_part : take (length line - (at + 1)) (drop (at + 1) line) ≡ restIn line
+  pub rest_part : take (length line - (at + 1)) (drop (at + 1) line) ≡ rest_in line
   rest_part = take_all (length line - (at + 1)) (drop (at + 1) line) (omega (arith, length-drop (at + 1) line)) ∙ h.rest
 
-  pub rest-short : length (take (length line - (at + 1)) (drop (at + 1) line)) ≤ length line
-  rest-short = rw (length-take (length line - (at + 1)) (drop (at + 1) line)) (omega arith)
+  pub rest_short : length (take (length line - (at + 1)) (drop (at + 1) line)) ≤ length line
+  rest_short = rw (length-take (length line - (at + 1)) (drop (at + 1) line)) (omega arith)
 
-  pub rest-none : length line ≤ at → [] ≡ restIn line
-  rest-none b = sym (drop_of_length-le line {i = at + 1} (omega arith)) ∙ h.rest
+  pub rest_none : length line ≤ at → [] ≡ rest_in line
+  rest_none b = sym (drop_of_length-le line {i = at + 1} (omega arith)) ∙ h.rest
 
 -- ---- comparing
 

@@ -5,32 +5,32 @@ use Rattle.tool_text.specs.declared.Size.{Size}
 use Rattle.tool_text.specs.declared.Size.TheVariants.{Count, NoBytes}
 
 -- the value of a hex digit; 16 where it is none
-unfoldable pub nibbleOf : ℕ → ℕ
-nibbleOf b = cond (ltb b 48) 16 (cond (ltb b 58) (b - 48) (cond (ltb b 97) 16 (cond (ltb b 103) (b - 87) 16)))
+unfoldable pub nibble_of : ℕ → ℕ
+nibble_of b = cond (ltb b 48) 16 (cond (ltb b 58) (b - 48) (cond (ltb b 97) 16 (cond (ltb b 103) (b - 87) 16)))
 
 -- the byte of two hex digits; 256 where one is none
-unfoldable pub octetOf : ℕ → ℕ → ℕ
-octetOf h l = cond (ltb 15 (nibbleOf h)) 256 (cond (ltb 15 (nibbleOf l)) 256 (nibbleOf h * 16 + nibbleOf l))
+unfoldable pub octet_of : ℕ → ℕ → ℕ
+octet_of h l = cond (ltb 15 (nibble_of h)) 256 (cond (ltb 15 (nibble_of l)) 256 (nibble_of h * 16 + nibble_of l))
 
 -- a word of hex digits, two for each byte
-unfoldable pub isHex : List ℕ → Bool
-isHex [] = true
-isHex (h ∷ []) = false
-isHex (h ∷ l ∷ w) = cond (ltb 255 (octetOf h l)) false (isHex w)
+unfoldable pub is_hex : List ℕ → Bool
+is_hex [] = true
+is_hex (h ∷ []) = false
+is_hex (h ∷ l ∷ w) = cond (ltb 255 (octet_of h l)) false (is_hex w)
 
 -- its bytes
 unfoldable pub unhex : List ℕ → List ℕ
 unhex [] = []
 unhex (h ∷ []) = []
-unhex (h ∷ l ∷ w) = octetOf h l ∷ unhex w
+unhex (h ∷ l ∷ w) = octet_of h l ∷ unhex w
 
-unfoldable pub isDash : List ℕ → Bool
-isDash w = cond (eqb (length w) 1) (eqb (get_or w 0 0) 45) false
+unfoldable pub is_dash : List ℕ → Bool
+is_dash w = cond (eqb (length w) 1) (eqb (get_or w 0 0) 45) false
 
 -- how many bytes a word of hex digits says
 unfoldable pub octets : List ℕ → Size
-octets w = cond (isHex w) (Count (length w / 2)) NoBytes
+octets w = cond (is_hex w) (Count (length w / 2)) NoBytes
 
 -- and a word of them, or `-`
 unfoldable pub size_of : List ℕ → Size
-size_of w = cond (isDash w) (Count 0) (cond (eqb (length w) 0) NoBytes (octets w))
+size_of w = cond (is_dash w) (Count 0) (cond (eqb (length w) 0) NoBytes (octets w))

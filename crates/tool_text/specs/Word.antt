@@ -8,9 +8,9 @@ word_in [] = []
 word_in (b ∷ line) = cond (eqb b 32) [] (b ∷ word_in line)
 
 -- those after it; nothing where there is no blank
-unfoldable pub restIn : List ℕ → List ℕ
-restIn [] = []
-restIn (b ∷ line) = cond (eqb b 32) line (restIn line)
+unfoldable pub rest_in : List ℕ → List ℕ
+rest_in [] = []
+rest_in (b ∷ line) = cond (eqb b 32) line (rest_in line)
 
 -- two lists are the same
 unfoldable pub same : List ℕ → List ℕ → Bool

@@ -2,10 +2,10 @@
 ghost use Rattle.std.specs.Prelude.{◌≡◌, ◌+◌, ◌*◌, ◌-◌, ◌%◌, ◌≤◌, ◌<◌, length, take, [], ◌∷◌, ◌++◌};
 ghost use Rattle.tool_text.specs.Put.{Put};
 ghost use Rattle.tool_text.specs.Digits.{glyph, digits, places, decimal, pair, hex};
-ghost use Rattle.tool_text.specs.Word.{word_in, restIn, same};
+ghost use Rattle.tool_text.specs.Word.{word_in, rest_in, same};
 ghost use Rattle.tool_text.specs.Inner.Word.{Blank};
-ghost use Rattle.tool_text.specs.Parse.{nibbleOf, octetOf, isDash};
-ghost use Rattle.tool_text.specs.Inner.Parse.{addDigit, number_of, Bytes, Octets};
+ghost use Rattle.tool_text.specs.Parse.{nibble_of, octet_of, is_dash};
+ghost use Rattle.tool_text.specs.Inner.Parse.{add_digit, number_of, Bytes, Octets};
 
 // ---- Writing. Each function puts its text into `out` from `at` on and returns the place after it.
 
@@ -146,7 +146,7 @@ pub enum Number {
 
 // A number with one more decimal digit.
 fn add_digit(n: u32, b: u8) -> Number
-    ensures { result ≡ addDigit n b }
+    ensures { result ≡ add_digit n b }
 {
     if b < 48 {
         return Number::NoNumber;
@@ -183,7 +183,7 @@ pub fn number_of(w: &[u8]) -> Number
 
 // The value of a lower-case hex digit; 16 where it is none.
 fn nibble(b: u8) -> u8
-    ensures { (result ≡ nibbleOf b) × (result ≤ 16) }
+    ensures { (result ≡ nibble_of b) × (result ≤ 16) }
 {
     if b < 48 {
         return 16;
@@ -202,7 +202,7 @@ fn nibble(b: u8) -> u8
 
 // The byte of two hex digits; 256 where one is none.
 pub fn octet(h: u8, l: u8) -> u16
-    ensures { (result ≡ octetOf h l) × (result ≤ 256) }
+    ensures { (result ≡ octet_of h l) × (result ≤ 256) }
 {
     let x = nibble(h);
     if x > 15 {
@@ -224,7 +224,7 @@ pub enum Size {
 
 // A word that is one `-`.
 fn is_dash(w: &[u8]) -> bool
-    ensures { result ≡ isDash w.now }
+    ensures { result ≡ is_dash w.now }
 {
     if w.len() != 1 {
         return false;
@@ -292,7 +292,7 @@ pub fn word_of(line: &[u8]) -> &[u8]
 
 // What follows the first blank of a line; nothing where there is none.
 pub fn rest_of(line: &[u8]) -> &[u8]
-    ensures result_value { result.now ≡ restIn line.now }
+    ensures result_value { result.now ≡ rest_in line.now }
     ensures result_in_bounds { length result.now ≤ length line.now }
 {
     let at = blank_at(line);

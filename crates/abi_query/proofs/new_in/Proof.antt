@@ -6,8 +6,8 @@ use native.Mathlib.Omega.{arith}
 use borrow.Author.Rules.{rules}
 use Rattle.laws.specs.Below.{one}
 use Rattle.laws.specs.Columns.{number_at, is_set}
-use Rattle.laws.specs.Inner.Columns.{HalfOf, half-end, half-more, half-none}
-use Rattle.abi_query.specs.Query.{newIn}
+use Rattle.laws.specs.Inner.Columns.{HalfOf, half_end, half_more, half_none}
+use Rattle.abi_query.specs.Query.{new_in}
 use Rattle.abi_query.proofs.new_in.Statement.{statement}
 use Rattle.abi_query.proofs.new_in.Tie as tie
 
@@ -18,14 +18,14 @@ abbrev decreases-loop : tie.decreases-loop
 decreases-loop x y r₀ a₀ r a = 16 - a
 
 loop-holds : tie.Need-loop-init invariant-loop decreases-loop
-loop-holds c = (half-none _ 16 _ refl, omega arith)
+loop-holds c = (half_none _ 16 _ refl, omega arith)
 
 loop-again : tie.Need-loop-preserved invariant-loop decreases-loop
-loop-again c = (half-more _ c.before.before.before.before.loop.invariant.0 (omega arith) c.unit.ensures, search rules)
+loop-again c = (half_more _ c.before.before.before.before.loop.invariant.0 (omega arith) c.unit.ensures, search rules)
 
 returns : tie.Need-returns invariant-loop decreases-loop
-unfolding newIn
-returns c = half-end c.before.loop.invariant.0 c.loop-test.false
+unfolding new_in
+returns c = half_end c.before.loop.invariant.0 c.loop-test.false
 
 pub new-in-spec : {M : Type 1} → statement M
 new-in-spec =

@@ -1,4 +1,4 @@
-use Rattle.codec_parameter.proofs.Uses.{allowed-tree}
+use Rattle.codec_parameter.proofs.Uses.{allowed_tree}
 use Rattle.laws.specs.Inner.Choice.{choices}
 use borrow.Author.Rules.{rules}
 use Rattle.codec_parameter.proofs.allowed_code.Statement.{statement}
@@ -8,7 +8,7 @@ pub allowed-code-spec : {M : Type 1} → statement M
 allowed-code-spec =
     tie.close
     (tie.spec
-    (search rules) (λ c. rw allowed-tree (search choices depth 9)) (λ c. rw allowed-tree (search choices depth 9))
-    (λ c. rw allowed-tree (search choices depth 9)) (λ c. rw allowed-tree (search choices depth 9))
-    (λ c. rw allowed-tree (search choices depth 9)) (λ c. rw allowed-tree (search choices depth 9))
-    (λ c. rw allowed-tree (search choices depth 9)))
+    (search rules) (λ c. rw allowed_tree (search choices depth 9)) (λ c. rw allowed_tree (search choices depth 9))
+    (λ c. rw allowed_tree (search choices depth 9)) (λ c. rw allowed_tree (search choices depth 9))
+    (λ c. rw allowed_tree (search choices depth 9)) (λ c. rw allowed_tree (search choices depth 9))
+    (λ c. rw allowed_tree (search choices depth 9)))

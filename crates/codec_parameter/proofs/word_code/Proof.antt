@@ -1,11 +1,11 @@
 use Rattle.laws.specs.Inner.Choice.{choices}
-use Rattle.codec_parameter.specs.Value.{wordCode}
+use Rattle.codec_parameter.specs.Value.{word_code}
 use borrow.Author.Rules.{rules}
 use Rattle.codec_parameter.proofs.word_code.Statement.{statement}
 use Rattle.codec_parameter.proofs.word_code.Tie as tie
 
 pub word-code-spec : {M : Type 1} → statement M
-unfolding wordCode
+unfolding word_code
 word-code-spec =
     tie.close
     (tie.spec

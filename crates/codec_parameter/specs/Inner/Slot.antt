@@ -1,7 +1,7 @@
 -- The reader keeps what it has seen of each tag in a small table; a tag's index there is its slot.
 -- Assumes nothing.
 use Rattle.std.specs.Prelude.{ℕ, ◌+◌, ◌-◌, ◌*◌, ◌/◌, ◌%◌, ◌^◌, get_or, Bool, true, false, cond, ◌&&◌, List, [], ◌∷◌, ltb, eqb}
-use Rattle.codec_parameter.specs.Table.{Usage, forbidden, optional, mandatory, repeated, isMandatory, Entry}
+use Rattle.codec_parameter.specs.Table.{Usage, forbidden, optional, mandatory, repeated, is_mandatory, Entry}
 use Rattle.codec_parameter.specs.declared.RowInfo.{RowInfo}
 
 -- a slot for each tag that some message has; 0x300 and 0x301 share one. A tag that no message has is at 31.
@@ -18,8 +18,8 @@ tag_at k = cond (ltb k 20) k (k + 748)
 abbrev pub info : ℕ → ℕ → RowInfo
 info u m = record { uses = u; musts = m }
 
-unfoldable pub infoOf : ℕ → RowInfo
-infoOf row =
+unfoldable pub info_of : ℕ → RowInfo
+info_of row =
     cond (eqb row 0) (info 0x203400c 12)
     (cond (eqb row 1) (info 0x40803010c 13)
     (cond (eqb row 2) (info 0x400000100 0)
@@ -39,30 +39,30 @@ infoOf row =
     (info 0x8000000008 609))))))))))))))))
 
 -- the two bits of a slot
-abbrev pub useBits : ℕ → ℕ → ℕ
-useBits uses k = uses / 2 ^ (2 * k) % 4
+abbrev pub use_bits : ℕ → ℕ → ℕ
+use_bits uses k = uses / 2 ^ (2 * k) % 4
 
 -- the usage that they stand for
-unfoldable pub usageOf : ℕ → Usage
-usageOf n = cond (eqb n 0) forbidden (cond (eqb n 2) mandatory (cond (eqb n 3) repeated optional))
+unfoldable pub usage_of : ℕ → Usage
+usage_of n = cond (eqb n 0) forbidden (cond (eqb n 2) mandatory (cond (eqb n 3) repeated optional))
 
 -- how the tag of a slot stands in the messages of a row
-abbrev pub packedUse : ℕ → ℕ → Usage
-packedUse uses k = usageOf (useBits uses k)
+abbrev pub packed_use : ℕ → ℕ → Usage
+packed_use uses k = usage_of (use_bits uses k)
 
 -- each mandatory slot of a row is met
-unfoldable pub allMet : List Entry → List Bool → Bool
-allMet [] met = true
-allMet (e ∷ es) met = cond (isMandatory e.use-as) (get_or met (slot e.tag) false && allMet es met) (allMet es met)
+unfoldable pub all_met : List Entry → List Bool → Bool
+all_met [] met = true
+all_met (e ∷ es) met = cond (is_mandatory e.use_as) (get_or met (slot e.tag) false && all_met es met) (all_met es met)
 
 -- a slot is met; 0 stands for no slot
 abbrev pub asked : List Bool → ℕ → Bool
 asked met k = cond (eqb k 0) true (get_or met k false)
 
 -- each of three packed slots is met
-unfoldable pub allAsked : ℕ → List Bool → Bool
-allAsked m met = (asked met (m % 32) && asked met (m / 32 % 32)) && asked met (m / 1024 % 32)
+unfoldable pub all_asked : ℕ → List Bool → Bool
+all_asked m met = (asked met (m % 32) && asked met (m / 32 % 32)) && asked met (m / 1024 % 32)
 
 -- the row of a type: four bits for each type are its place among the class's rows, 15 for none
-unfoldable pub rowBits : ℕ → ℕ → ℕ → ℕ
-rowBits rows base t = cond (ltb 15 t) 17 (cond (eqb (rows / 2 ^ (4 * t) % 16) 15) 17 (base + rows / 2 ^ (4 * t) % 16))
+unfoldable pub row_bits : ℕ → ℕ → ℕ → ℕ
+row_bits rows base t = cond (ltb 15 t) 17 (cond (eqb (rows / 2 ^ (4 * t) % 16) 15) 17 (base + rows / 2 ^ (4 * t) % 16))

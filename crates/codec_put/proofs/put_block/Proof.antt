@@ -4,7 +4,7 @@ use Rattle.codec_put.specs.Bytes.{overlay}
 use native.Mathlib.Omega.{arith}
 use Prim.Native.Nat.{◌≤◌, ◌-◌}
 use mathlib.Core.Path.{◌≡◌, refl, ap, ◌∙◌}
-use Rattle.codec_put.proofs.Sets.{over-more, first_more, length_over, take-over, begins-at}
+use Rattle.codec_put.proofs.Sets.{over_more, first_more, length_over, take_over, begins_at}
 use lib.Seq.{take_all}
 use Rattle.codec_put.proofs.put_block.Statement.{statement}
 use Rattle.codec_put.proofs.put_block.Tie as tie
@@ -47,7 +47,7 @@ loop2-holds c =
     let v = c.before.before.args.v.now in
     let inv = c.before.loop.invariant in
     let e = rw (take_all c.before.loop.i v (omega arith)) at inv.2 in
-    (omega arith, refl, ap length e ∙ length_over _ 0 v ∙ inv.1, rw e (take-over _ v (omega arith)))
+    (omega arith, refl, ap length e ∙ length_over _ 0 v ∙ inv.1, rw e (take_over _ v (omega arith)))
 
 array-read-out : tie.Need-array-read-out invariant-loop decreases-loop invariant-loop2 decreases-loop2
 array-read-out c = omega arith
@@ -68,7 +68,7 @@ loop2-again : tie.Need-loop2-preserved invariant-loop decreases-loop invariant-l
 loop2-again c = let a = c.before.before.before.before.args in
     let inv = c.before.loop2.invariant in
     let j = c.before.loop2.j in
-    (omega arith, rw (begins-at c.before.before.before.loop.block a.v.now j inv.3 (omega arith), inv.1) (over-more a.out.now a.v.now a.at j (omega arith)), inv.2, inv.3)
+    (omega arith, rw (begins_at c.before.before.before.loop.block a.v.now j inv.3 (omega arith), inv.1) (over_more a.out.now a.v.now a.at j (omega arith)), inv.2, inv.3)
 
 same_length : tie.Need-same-length invariant-loop decreases-loop invariant-loop2 decreases-loop2
 same_length c = ap length c.before.loop2.invariant.1 ∙ simp length_over

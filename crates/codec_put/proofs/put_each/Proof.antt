@@ -4,7 +4,7 @@ use Rattle.codec_put.specs.Bytes.{overlay}
 use native.Mathlib.Omega.{arith}
 use Prim.Native.Nat.{◌≤◌, ◌-◌}
 use mathlib.Core.Path.{◌≡◌, refl, ap, ◌∙◌}
-use Rattle.codec_put.proofs.Sets.{over-more, length_over}
+use Rattle.codec_put.proofs.Sets.{over_more, length_over}
 use lib.Seq.{take_all}
 use Rattle.codec_put.proofs.put_each.Statement.{statement}
 use Rattle.codec_put.proofs.put_each.Tie as tie
@@ -23,7 +23,7 @@ slice-write-out : tie.Need-slice-write-out invariant-loop decreases-loop
 slice-write-out c = rw (c.before.before.loop.invariant.1, length_over) (omega arith)
 
 loop-again : tie.Need-loop-preserved invariant-loop decreases-loop
-loop-again c = let a = c.before.before.before.args in let i = c.before.before.loop.i in (omega arith, rw c.before.before.loop.invariant.1 (over-more a.out.now a.v.now a.at i (omega arith)))
+loop-again c = let a = c.before.before.before.args in let i = c.before.before.loop.i in (omega arith, rw c.before.before.loop.invariant.1 (over_more a.out.now a.v.now a.at i (omega arith)))
 
 same_length : tie.Need-same-length invariant-loop decreases-loop
 same_length c = ap length c.before.loop.invariant.1 ∙ simp length_over

@@ -1,12 +1,12 @@
 use lib.ListN.{length-set}
 use native.Mathlib.Omega.{arith}
-use Rattle.codec_put.proofs.Sets.{over-each}
+use Rattle.codec_put.proofs.Sets.{over_each}
 use borrow.Author.Rules.{rules}
 use Rattle.codec_put.proofs.put_four.Statement.{statement}
 use Rattle.codec_put.proofs.put_four.Tie as tie
 
 returns : tie.Need-returns
-returns c = let a = c.before.before.before.before.args in over-each a.out.now a.v.now a.at (omega arith)
+returns c = let a = c.before.before.before.before.args in over_each a.out.now a.v.now a.at (omega arith)
 
 pub put-four-spec : {M : Type 1} → statement M
 put-four-spec =

@@ -1,4 +1,4 @@
-use Rattle.codec_put.proofs.Sets.{over-four, length_over}
+use Rattle.codec_put.proofs.Sets.{over_four, length_over}
 use lib.ListN.{length, length-set}
 use mathlib.Core.Path.{ap, ◌∙◌}
 use native.Mathlib.Omega.{arith}
@@ -10,7 +10,7 @@ same_length : tie.Need-same-length
 same_length c = ap length c.before.before.put32.ensures ∙ simp (length_over, length-set)
 
 returns : tie.Need-returns
-returns c = over-four _ _ _ _ _ _ _ _ c.before.before.put32.ensures
+returns c = over_four _ _ _ _ _ _ _ _ c.before.before.put32.ensures
 
 pub put-header-spec : {M : Type 1} → statement M
 put-header-spec =

@@ -1,11 +1,11 @@
 use Rattle.codec_parameter.specs.Inner.Slot.{slot}
-use Rattle.codec_read.specs.Inner.Seen.{meaningAt}
+use Rattle.codec_read.specs.Inner.Seen.{meaning_at}
 use borrow.Author.Rules.{rules}
 use Rattle.codec_read.proofs.meaning_at.Statement.{statement}
 use Rattle.codec_read.proofs.meaning_at.Tie as tie
 
 returns : tie.Need-returns
-unfolding meaningAt slot
+unfolding meaning_at slot
 returns c =
     let fourth = c.before in
     let third = fourth.before.before.before.before in

@@ -1,19 +1,19 @@
 use mathlib.Core.Path.{sym, ◌∙◌}
 use native.Mathlib.Omega.{arith}
 use Rattle.codec_read.proofs.Order.{order_same}
-use Rattle.codec_read.proofs.NoParameters.{bare-length, bare-read}
+use Rattle.codec_read.proofs.NoParameters.{bare_length, bare_read}
 use borrow.Author.Rules.{rules}
 use Rattle.codec_read.proofs.read.Statement.{statement}
 use Rattle.codec_read.proofs.read.Tie as tie
 
 class-is-there : tie.Need-shared-slice-read-bare
-class-is-there c = omega (arith, bare-length _ (sym c.before.before.is-bare.ensures ∙ c.before.if1.true))
+class-is-there c = omega (arith, bare_length _ (sym c.before.before.is-bare.ensures ∙ c.before.if1.true))
 
 type-is-there : tie.Need-shared-slice-read-bare-2
-type-is-there c = omega (arith, bare-length _ (sym c.before.before.before.is-bare.ensures ∙ c.before.before.if1.true))
+type-is-there c = omega (arith, bare_length _ (sym c.before.before.before.is-bare.ensures ∙ c.before.before.if1.true))
 
 returns : tie.Need-returns
-returns c = c.bare.ensures ∙ bare-read _ (sym c.before.before.before.before.is-bare.ensures ∙ c.before.before.before.if1.true)
+returns c = c.bare.ensures ∙ bare_read _ (sym c.before.before.before.before.is-bare.ensures ∙ c.before.before.before.if1.true)
 
 returns-2 : tie.Need-returns-2
 returns-2 c = c.read-checks.ensures ∙ order_same _

@@ -5,14 +5,14 @@ use Prim.Native.Nat.{ℕ, ◌-◌}
 use mathlib.Core.Path.{◌≡◌, refl, sym, ap, ◌∙◌}
 use mathlib.Core.List.{[]}
 use lib.ListN.{length}
-use Rattle.codec_read.specs.Inner.Seen.{outcomeAt}
+use Rattle.codec_read.specs.Inner.Seen.{outcome_at}
 use Rattle.laws.specs.Choice.{◌orElse◌}
 use Rattle.codec_read.specs.Verdict.{in_turn, is_none}
 use Rattle.codec_read.proofs.Seen.{seen_none}
-use Rattle.codec_read.proofs.Turns.{head-none, Walked, ends, refused, passes}
-use Rattle.codec_wire.proofs.Steps.{step-next, Next}
+use Rattle.codec_read.proofs.Turns.{head_none, Walked, ends, refused, passes}
+use Rattle.codec_wire.proofs.Steps.{step_next, Next}
 use Rattle.codec_wire.specs.declared.Step.TheVariants.{Param}
-use Rattle.codec_wire.specs.Walk.{stepAt}
+use Rattle.codec_wire.specs.Walk.{step_at}
 use Rattle.codec_read.proofs.read_pars.Statement.{statement}
 use Rattle.codec_read.proofs.read_pars.Tie as tie
 
@@ -24,17 +24,17 @@ decreases-loop s info met₀ words₀ first₀ at₀ met words first at = length
 
 -- the reading is the walk's, and the parameter lies within the message
 reads_at : (c : tie.After-slot-of invariant-loop decreases-loop)
-    → stepAt c.before.before.before.before.before.before.before.args.s.now c.before.before.before.before.before.loop.at
+    → step_at c.before.before.before.before.before.before.before.args.s.now c.before.before.before.before.before.loop.at
     ≡ Param c.before.before.w.given.0.0 c.before.before.w.given.0.1.0 c.before.before.w.given.0.1.1.0
 reads_at c = sym c.before.before.before.before.step-at.ensures ∙ c.before.before.w.given.1
 
 next-at : (c : tie.After-slot-of invariant-loop decreases-loop)
     → Next c.before.before.before.before.before.before.before.args.s.now c.before.before.before.before.before.loop.at
     c.before.before.w.given.0.1.0 c.before.before.w.given.0.1.1.0
-next-at c = step-next _ _ _ _ _ (reads_at c)
+next-at c = step_next _ _ _ _ _ (reads_at c)
 
 loop-holds : tie.Need-loop-init invariant-loop decreases-loop
-loop-holds c = (record { here = head-none _ _; same_code = refl }, (refl, refl))
+loop-holds c = (record { here = head_none _ _; same_code = refl }, (refl, refl))
 
 returns : tie.Need-returns invariant-loop decreases-loop
 returns c = let st = c.before.before.before.before.before.before.before.before.before.before in

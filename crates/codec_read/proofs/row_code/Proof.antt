@@ -1,10 +1,10 @@
-use Rattle.codec_read.specs.Inner.Seen.{rowCode}
+use Rattle.codec_read.specs.Inner.Seen.{row_code}
 use Rattle.laws.specs.Inner.Choice.{choices}
 use Rattle.codec_read.proofs.row_code.Statement.{statement}
 use Rattle.codec_read.proofs.row_code.Tie as tie
 
 pub row-code-spec : {M : Type 1} → statement M
-unfolding rowCode
+unfolding row_code
 row-code-spec =
     tie.close
     (tie.spec

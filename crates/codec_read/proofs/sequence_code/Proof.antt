@@ -1,11 +1,11 @@
-use Rattle.codec_read.specs.Inner.Seen.{sequenceAt}
+use Rattle.codec_read.specs.Inner.Seen.{sequence_at}
 use Rattle.laws.specs.Inner.Choice.{choices}
 use borrow.Author.Rules.{rules}
 use Rattle.codec_read.proofs.sequence_code.Statement.{statement}
 use Rattle.codec_read.proofs.sequence_code.Tie as tie
 
 pub sequence-code-spec : {M : Type 1} → statement M
-unfolding sequenceAt
+unfolding sequence_at
 sequence-code-spec =
     tie.close
     (tie.spec

@@ -5,9 +5,9 @@ use Rattle.std.specs.Prelude.{◌≡◌, ℕ, ◌+◌, ◌%◌, ◌<◌, Bool, t
 use Rattle.laws.specs.Choice.{◌orElse◌, ◌if◌}
 use Rattle.codec_wire.specs.Number.{be}
 use Rattle.codec_wire.specs.Walk.{Par, padded}
-use Rattle.codec_parameter.specs.Table.{table, hasClass, row_in}
-use Rattle.codec_parameter.specs.Inner.Slot.{slot, allAsked}
-use Rattle.codec_read.specs.Verdict.{head, exactly, getBsn, getMessages, most, lastChecks}
+use Rattle.codec_parameter.specs.Table.{table, has_class, row_in}
+use Rattle.codec_parameter.specs.Inner.Slot.{slot, all_asked}
+use Rattle.codec_read.specs.Verdict.{head, exactly, get_bsn, get_messages, most, last_checks}
 use Rattle.laws.specs.Below.{one}
 use Rattle.codec_read.specs.Meaning.{unreadable, outcome}
 use Rattle.codec_read.specs.declared.Reading.{Reading}
@@ -24,26 +24,26 @@ word k (p ∷ ps) = cond (eqb (slot p.tag) k) (head p.body) (word k ps)
 
 -- the two tables say so of the parameters
 pub record Seen (met : List Bool) (words : List ℕ) (ps : List Par) : Type 0 where
-  pub met-is : (k : ℕ) → k < 32 → get_or met k false ≡ there k ps
-  pub words-is : (k : ℕ) → k < 32 → get_or words k 0 ≡ word k ps
+  pub met_is : (k : ℕ) → k < 32 → get_or met k false ≡ there k ps
+  pub words_is : (k : ℕ) → k < 32 → get_or words k 0 ≡ word k ps
 
 -- the sequence number rules, of an action, a result, and whether there is a sequence number
-unfoldable pub sequenceAt : ℕ → ℕ → ℕ → ℕ → Bool → ℕ
-sequenceAt c t retrieval result given =
+unfoldable pub sequence_at : ℕ → ℕ → ℕ → ℕ → Bool → ℕ
+sequence_at c t retrieval result given =
     cond (eqb c 6)
-    (cond (eqb t 10) (exactly (eqb retrieval getMessages) given)
-    (cond (eqb t 11) (cond (eqb retrieval getBsn) (exactly (eqb result 0) given) (exactly false given))
+    (cond (eqb t 10) (exactly (eqb retrieval get_messages) given)
+    (cond (eqb t 11) (cond (eqb retrieval get_bsn) (exactly (eqb result 0) given) (exactly false given))
     0))
     0
 
 -- check 8, of a row whose mandatory slots are packed
 unfoldable pub end_at : ℕ → ℕ → ℕ → List Bool → List ℕ → ℕ
 end_at musts c t met words =
-    (22 if not (allAsked musts met)) or_else sequenceAt c t (get_or words (slot 0x306) 0) (get_or words (slot 0x308) 0) (get_or met (slot 0x307) false)
+    (22 if not (all_asked musts met)) or_else sequence_at c t (get_or words (slot 0x306) 0) (get_or words (slot 0x308) 0) (get_or met (slot 0x307) false)
 
 -- the meaning of an accepted message
-unfoldable pub meaningAt : ℕ → ℕ → List Bool → List ℕ → Reading
-meaningAt c t met words =
+unfoldable pub meaning_at : ℕ → ℕ → List Bool → List ℕ → Reading
+meaning_at c t met words =
     record {
       code = 0;
       class = c;
@@ -62,32 +62,32 @@ meaningAt c t met words =
     }
 
 -- what a number hands back: the meaning, or the refusal
-unfoldable pub outcomeAt : ℕ → ℕ → ℕ → List Bool → List ℕ → Reading
-outcomeAt n c t met words = cond (eqb n 0) (meaningAt c t met words) (unreadable n)
+unfoldable pub outcome_at : ℕ → ℕ → ℕ → List Bool → List ℕ → Reading
+outcome_at n c t met words = cond (eqb n 0) (meaning_at c t met words) (unreadable n)
 
 -- The checks in the order in which the code asks: 3 to 5, of whether the class is listed, the row, the length
 -- field and the number of bytes
-unfoldable pub rowCode : Bool → ℕ → ℕ → ℕ → ℕ
-rowCode listed i n len = cond (not listed) 3 (cond (eqb i 17) 4 (cond (eqb n len) (cond (eqb (len % 4) 0) 0 7) 7))
+unfoldable pub row_code : Bool → ℕ → ℕ → ℕ → ℕ
+row_code listed i n len = cond (not listed) 3 (cond (eqb i 17) 4 (cond (eqb n len) (cond (eqb (len % 4) 0) 0 7) 7))
 
 -- 3 to 8, of what they gave
-unfoldable pub rowOutcome : ℕ → List ℕ → Reading
-rowOutcome n s = cond (eqb n 0) (outcome (lastChecks s) s) (unreadable n)
+unfoldable pub row_outcome : ℕ → List ℕ → Reading
+row_outcome n s = cond (eqb n 0) (outcome (last_checks s) s) (unreadable n)
 
-abbrev pub kindOutcome : List ℕ → Reading
-kindOutcome s = rowOutcome (rowCode (hasClass table (get_or s 2 0)) (row_in table (get_or s 2 0) (get_or s 3 0)) (be 4 s 4) (length s)) s
+abbrev pub kind_outcome : List ℕ → Reading
+kind_outcome s = row_outcome (row_code (has_class table (get_or s 2 0)) (row_in table (get_or s 2 0) (get_or s 3 0)) (be 4 s 4) (length s)) s
 
 -- and all of them
-unfoldable pub checksOutcome : List ℕ → Reading
-checksOutcome s =
+unfoldable pub checks_outcome : List ℕ → Reading
+checks_outcome s =
     cond (ltb (length s) 8) (unreadable 7)
     (cond (ltb most (length s)) (unreadable 7)
-    (cond (eqb (get_or s 0 0) 1) (kindOutcome s) (unreadable 1)))
+    (cond (eqb (get_or s 0 0) 1) (kind_outcome s) (unreadable 1)))
 
 -- a message of the class and type may have no parameter
-unfoldable pub needsNone : ℕ → ℕ → Bool
-needsNone c t = (eqb c 3 && (leb 1 t && leb t 6)) || (eqb c 4 && (leb 1 t && leb t 4))
+unfoldable pub needs_none : ℕ → ℕ → Bool
+needs_none c t = (eqb c 3 && (leb 1 t && leb t 6)) || (eqb c 4 && (leb 1 t && leb t 4))
 
 -- a message of its header alone that is accepted
 unfoldable pub is_bare : List ℕ → Bool
-is_bare s = cond (eqb (length s) 8) ((eqb (get_or s 0 0) 1 && eqb (be 4 s 4) 8) && needsNone (get_or s 2 0) (get_or s 3 0)) false
+is_bare s = cond (eqb (length s) 8) ((eqb (get_or s 0 0) 1 && eqb (be 4 s 4) 8) && needs_none (get_or s 2 0) (get_or s 3 0)) false

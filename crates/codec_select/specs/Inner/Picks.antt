@@ -3,7 +3,7 @@
 use Rattle.std.specs.Prelude.{◌≡◌, refl, ℕ, ◌+◌, Bool, true, false, ◌||◌, List, [], ◌∷◌, length, eqb}
 use Rattle.std.proofs.Common.{ap, ◌∙◌, arith}
 use Rattle.codec_wire.specs.Walk.{Par}
-use Rattle.codec_put.specs.Bytes.{overlay, parsBytes}
+use Rattle.codec_put.specs.Bytes.{overlay, pars_bytes}
 use Rattle.codec_select.specs.Only.{only}
 use Rattle.codec_select.specs.declared.Which.{Which}
 use Rattle.codec_select.specs.declared.Which.TheVariants.{Nothing, All, Mode, Ids, Heartbeat}
@@ -23,7 +23,7 @@ pub record PutBytes (out : List ℕ) (at : ℕ) (bs : List ℕ) (r : ℕ) (out' 
 
 -- the same of parameters
 abbrev pub PutPars : List ℕ → ℕ → List Par → ℕ → List ℕ → Type 0
-PutPars out at ps r out' = PutBytes out at (parsBytes ps) r out'
+PutPars out at ps r out' = PutBytes out at (pars_bytes ps) r out'
 
 module _ (f : ℕ → Bool) (p : Par) (ps : List Par) where
   pub only_yes : f p.tag ≡ true → only f (p ∷ ps) ≡ p ∷ only f ps
@@ -43,16 +43,16 @@ unfolding only
 only_none [] = refl
 only_none (p ∷ ps) = only_none ps
 
-pub only-all : (ps : List Par) → only (λ t. true) ps ≡ ps
+pub only_all : (ps : List Par) → only (λ t. true) ps ≡ ps
 unfolding only
-only-all [] = refl
-only-all (p ∷ ps) = ap (λ (x : List Par). p ∷ x) (only-all ps)
+only_all [] = refl
+only_all (p ∷ ps) = ap (λ (x : List Par). p ∷ x) (only_all ps)
 
 -- where none are picked nothing is written
-pub none-size : (ps : List Par) → 0 ≡ length (parsBytes (only (picks Nothing) ps))
-unfolding parsBytes
-none-size ps = rw (only_none ps)
+pub none_size : (ps : List Par) → 0 ≡ length (pars_bytes (only (picks Nothing) ps))
+unfolding pars_bytes
+none_size ps = rw (only_none ps)
 
-pub none-put : (out : List ℕ) (at : ℕ) (ps : List Par) → PutPars out at (only (picks Nothing) ps) at out
-unfolding parsBytes overlay
-none-put out at ps = rw (only_none ps) (record { next = omega arith; bytes = refl })
+pub none_put : (out : List ℕ) (at : ℕ) (ps : List Par) → PutPars out at (only (picks Nothing) ps) at out
+unfolding pars_bytes overlay
+none_put out at ps = rw (only_none ps) (record { next = omega arith; bytes = refl })

@@ -40,7 +40,7 @@ use denote.Triple.Table.{entered, cited}
 use denote.Triple.Walked.{says, Stays, stay_none, walk_of, Goes-none, Walks, ends_at, walked, walk_Meets}
 use denote.Exit.{yes}
 use denote.Triple.Clauses.{ensured, lasts}
-use Rattle.codec_wire.specs.Walk.{stepAt}
+use Rattle.codec_wire.specs.Walk.{step_at}
 use Rattle.codec_wire.specs.declared.Place.{Place}
 use Rattle.codec_wire.specs.declared.Step.{Step}
 use Rattle.codec_wire.proofs.Taken.{B, Msg, Own, opened}
@@ -76,7 +76,7 @@ module _ {M : Type 1} {𝓤 : Ura M} (𝓛 : Logic 𝓤) (mem : Memory → SProp
   v = slice_val d.msg.ref_ptr (length d.msg.now)
 
   abbrev found : Step
-  found = stepAt d.msg.now d.at
+  found = step_at d.msg.now d.at
 
   abbrev Post : Val → SProp 𝓤
   Post = (walk_of 𝓛 next.ended stayed (next.clauses 𝓛 mem run)).post (((κ, tt), (q, tt), tt, (d, tt), (mach ∷ [], tt)), tt)

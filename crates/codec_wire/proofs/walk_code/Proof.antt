@@ -1,5 +1,5 @@
 use Rattle.codec_wire.specs.Walk.{Walk}
-use Rattle.codec_wire.proofs.Steps.{step-next, walk_step, walk-stop}
+use Rattle.codec_wire.proofs.Steps.{step_next, walk_step, walk_stop}
 use Rattle.codec_wire.specs.Walk.{walk}
 use mathlib.Core.Path.{◌≡◌, refl, sym, ap, ◌∙◌}
 use Prim.Native.Nat.{◌-◌}
@@ -16,10 +16,10 @@ abbrev decreases-loop : tie.decreases-loop
 decreases-loop s from at₀ at = length s - at
 
 returns : tie.Need-returns invariant-loop decreases-loop
-returns c = c.step-code.ensures ∙ ap (λ (w : Walk). w.code) (sym (walk-stop _ _ _ (sym c.before.before.step-at.ensures) c.before.match.keys2)) ∙ c.before.before.before.loop.invariant
+returns c = c.step-code.ensures ∙ ap (λ (w : Walk). w.code) (sym (walk_stop _ _ _ (sym c.before.before.step-at.ensures) c.before.match.keys2)) ∙ c.before.before.before.loop.invariant
 
 loop-less : tie.Need-loop-smaller invariant-loop decreases-loop
-loop-less c = let e = c.before.before.before.step-at.ensures in let k = step-next _ _ _ _ _ (sym e ∙ c.before.w.given.1) in omega arith
+loop-less c = let e = c.before.before.before.step-at.ensures in let k = step_next _ _ _ _ _ (sym e ∙ c.before.w.given.1) in omega arith
 
 loop-again : tie.Need-loop-preserved invariant-loop decreases-loop
 loop-again c = ap (λ (w : Walk). w.code) (sym (walk_step _ _ _ (sym c.before.before.before.step-at.ensures ∙ c.before.w.given.1))) ∙ c.before.before.before.before.loop.invariant

@@ -1,11 +1,11 @@
 -- `event_asked::asked`: by the number of the kind. Assumes nothing.
-use Rattle.event_asked.specs.Inner.Ask.{asks-1, asks-2, asks-3, asks-4, asks_none, not-message}
+use Rattle.event_asked.specs.Inner.Ask.{asks_1, asks_2, asks_3, asks_4, asks_none, not_message}
 use borrow.Author.Rules.{rules}
 use Rattle.event_asked.proofs.asked.Statement.{statement}
 use Rattle.event_asked.proofs.asked.Tie as tie
 
 returns-6 : tie.Need-returns-6
-returns-6 c = let h = not-message _ c.before.before.before.before.if1.false in asks_none _ _ _ h.0 c.before.before.before.if2.false c.before.before.if3.false c.before.if4.false c.if5.false h.1
+returns-6 c = let h = not_message _ c.before.before.before.before.if1.false in asks_none _ _ _ h.0 c.before.before.before.if2.false c.before.before.if3.false c.before.if4.false c.if5.false h.1
 
 pub asked-spec : {M : Type 1} → statement M
 asked-spec =
@@ -13,8 +13,8 @@ asked-spec =
     (tie.spec
     (λ c κs. c.if1.true)
     (λ c. c.ask-message.ensures)
-    (λ c. asks-1 _ _ _ c.if2.true)
-    (λ c. asks-2 _ _ _ c.if3.true)
-    (λ c. asks-3 _ _ _ c.if4.true)
-    (λ c. asks-4 _ _ _ c.if5.true)
+    (λ c. asks_1 _ _ _ c.if2.true)
+    (λ c. asks_2 _ _ _ c.if3.true)
+    (λ c. asks_3 _ _ _ c.if4.true)
+    (λ c. asks_4 _ _ _ c.if5.true)
     returns-6)

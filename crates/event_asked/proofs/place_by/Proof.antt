@@ -1,7 +1,7 @@
 -- `event_asked::place_by`: by what is asked. Assumes nothing.
 use mathlib.Core.Path.{◌∙◌}
 use borrow.Author.Rules.{rules}
-use Rattle.event_asked.specs.Inner.Place.{asp-none}
+use Rattle.event_asked.specs.Inner.Place.{asp_none}
 use Rattle.event_asked.proofs.place_by.Statement.{statement}
 use Rattle.event_asked.proofs.place_by.Tie as tie
 
@@ -37,7 +37,7 @@ place-by-spec =
     (λ c. rw c.before.before.before.ask3.given.1 (c.place-at3.ensures.0, c.place-at3.ensures.1 ∙ c.before.asp-in3.ensures))
     (λ c. rw c.before.before.before.ask4.given.1 (c.IsPlace-in.ensures.0, c.IsPlace-in.ensures.1 ∙ c.before.asp-in4.ensures))
     (λ c. rw c.before.before.before.ask5.given.1 (c.place-at4.ensures.0, c.place-at4.ensures.1 ∙ c.before.asp-in5.ensures))
-    (λ c. rw c.before.enum_told.given.1 (c.place-at5.ensures.0, c.place-at5.ensures.1 ∙ asp-none))
-    (λ c. rw c.before.before.ask6.given.1 (c.place-at6.ensures.0, c.place-at6.ensures.1 ∙ asp-none))
-    (λ c. rw c.before.before.ask7.given.1 (c.place-at7.ensures.0, c.place-at7.ensures.1 ∙ asp-none))
-    (λ c. rw c.before.before.ask8.given.1 (c.place-in2.ensures.0, c.place-in2.ensures.1 ∙ asp-none)))
+    (λ c. rw c.before.enum_told.given.1 (c.place-at5.ensures.0, c.place-at5.ensures.1 ∙ asp_none))
+    (λ c. rw c.before.before.ask6.given.1 (c.place-at6.ensures.0, c.place-at6.ensures.1 ∙ asp_none))
+    (λ c. rw c.before.before.ask7.given.1 (c.place-at7.ensures.0, c.place-at7.ensures.1 ∙ asp_none))
+    (λ c. rw c.before.before.ask8.given.1 (c.place-in2.ensures.0, c.place-in2.ensures.1 ∙ asp_none)))

@@ -4,7 +4,7 @@ use mathlib.Core.Bool.{false≢true}
 use native.Mathlib.Omega.{arith}
 use borrow.Author.Tests.{not-true, not-false}
 use borrow.Author.Rules.{rules}
-use Rattle.event_asked.specs.Inner.Place.{asp-small}
+use Rattle.event_asked.specs.Inner.Place.{asp_small}
 use Rattle.event_asked.proofs.placed.Statement.{statement}
 use Rattle.event_asked.proofs.placed.Tie as tie
 
@@ -12,7 +12,7 @@ place-by-requires : tie.Need-place-by-requires
 place-by-requires c κs = let t = c.before.before.requires (not-false _ c.before.if1.false) in rw c.wide.ensures t
 
 returns-2 : tie.Need-returns-2
-returns-2 c = let h = rw c.before.wide.ensures at c.place-by.ensures in (h.0.small, λ _. h.0, rw h.1 (asp-small _), λ _. h.1)
+returns-2 c = let h = rw c.before.wide.ensures at c.place-by.ensures in (h.0.small, λ _. h.0, rw h.1 (asp_small _), λ _. h.1)
 
 pub placed-spec : {M : Type 1} → statement M
 placed-spec =

@@ -9,52 +9,52 @@ use Rattle.codec_wire.specs.Walk.{walk}
 use Rattle.codec_read.specs.Meaning.{reading_of}
 use Rattle.codec_read.specs.declared.Reading.{Reading}
 use Rattle.state_tables.specs.declared.Gateway.{Gateway}
-use Rattle.rules_action.specs.Types.{aspUp, aspDown, aspActive, aspInactive}
-use Rattle.rules_event.specs.Identifiers.{ownsGood, isMember}
-use Rattle.rules_event.specs.Rules.{isError, classTypeOf}
-use Rattle.rules_event.specs.Reach.{ownsId, readReach, messageReach}
-use Rattle.event_others.specs.Inner.Other.{typeIn, typed}
+use Rattle.rules_action.specs.Types.{asp_up, asp_down, asp_active, asp_inactive}
+use Rattle.rules_event.specs.Identifiers.{owns_good, is_member}
+use Rattle.rules_event.specs.Rules.{is_error, class_type_of}
+use Rattle.rules_event.specs.Reach.{owns_id, read_reach, message_reach}
+use Rattle.event_others.specs.Inner.Other.{type_in, typed}
 use Rattle.event_links.specs.Inner.Side.{code_is}
 
 -- Active and Inactive: with identifiers the owners of the good ones, without any the ASes of p
-unfoldable pub namedReach : Gateway → ℕ → List ℕ → ℕ → ℕ → Bool
-namedReach g p s ids a = cond (eqb ids 1) (ownsGood g p (walk s 8).pars a) (isMember g a p)
+unfoldable pub named_reach : Gateway → ℕ → List ℕ → ℕ → ℕ → Bool
+named_reach g p s ids a = cond (eqb ids 1) (owns_good g p (walk s 8).pars a) (is_member g a p)
 
 -- neither Up, Down, Active nor Inactive: class 6 reaches the owner of its identifier; wrong says that it is
 -- an Error
-unfoldable pub otherReach : Gateway → Bool → Reading → ℕ → Bool
-otherReach g wrong r a = cond wrong false (cond (eqb r.code 0) (cond (eqb r.class 6) (ownsId g r.id a) false) false)
+unfoldable pub other_reach : Gateway → Bool → Reading → ℕ → Bool
+other_reach g wrong r a = cond wrong false (cond (eqb r.code 0) (cond (eqb r.class 6) (owns_id g r.id a) false) false)
 
 module _ (g : Gateway) (p : ℕ) (s : List ℕ) (a : ℕ) where
   -- a message with a type is read
-  reach-read : (t : ℕ) → typeIn (isError s) (reading_of s) ≡ t → (0 ≡ t → ⊥) → messageReach g p s a ≡ readReach g p s (reading_of s) a
-  unfolding messageReach
-  reach-read t e n = let y = typed (isError s) (reading_of s) t e n in rw (y.right, ← code_is s, eq-eqb (reading_of s).code 0 y.code)
+  reach_read : (t : ℕ) → type_in (is_error s) (reading_of s) ≡ t → (0 ≡ t → ⊥) → message_reach g p s a ≡ read_reach g p s (reading_of s) a
+  unfolding message_reach
+  reach_read t e n = let y = typed (is_error s) (reading_of s) t e n in rw (y.right, ← code_is s, eq-eqb (reading_of s).code 0 y.code)
 
-  pub reach-up : typeIn (isError s) (reading_of s) ≡ aspUp → messageReach g p s a ≡ isMember g a p
-  unfolding readReach
-  reach-up e = reach-read aspUp e (λ z. omega arith) ∙ rw (typed _ _ aspUp e (λ z. omega arith)).type
+  pub reach_up : type_in (is_error s) (reading_of s) ≡ asp_up → message_reach g p s a ≡ is_member g a p
+  unfolding read_reach
+  reach_up e = reach_read asp_up e (λ z. omega arith) ∙ rw (typed _ _ asp_up e (λ z. omega arith)).type
 
-  pub reach-down : typeIn (isError s) (reading_of s) ≡ aspDown → messageReach g p s a ≡ isMember g a p
-  unfolding readReach
-  reach-down e = reach-read aspDown e (λ z. omega arith) ∙ rw (typed _ _ aspDown e (λ z. omega arith)).type
+  pub reach_down : type_in (is_error s) (reading_of s) ≡ asp_down → message_reach g p s a ≡ is_member g a p
+  unfolding read_reach
+  reach_down e = reach_read asp_down e (λ z. omega arith) ∙ rw (typed _ _ asp_down e (λ z. omega arith)).type
 
   -- Active, Inactive
-  pub reach-active : typeIn (isError s) (reading_of s) ≡ aspActive → messageReach g p s a ≡ namedReach g p s (reading_of s).ids a
-  unfolding readReach namedReach
-  reach-active e = reach-read aspActive e (λ z. omega arith) ∙ rw (typed _ _ aspActive e (λ z. omega arith)).type
+  pub reach_active : type_in (is_error s) (reading_of s) ≡ asp_active → message_reach g p s a ≡ named_reach g p s (reading_of s).ids a
+  unfolding read_reach named_reach
+  reach_active e = reach_read asp_active e (λ z. omega arith) ∙ rw (typed _ _ asp_active e (λ z. omega arith)).type
 
-  pub reach-inactive : typeIn (isError s) (reading_of s) ≡ aspInactive → messageReach g p s a ≡ namedReach g p s (reading_of s).ids a
-  unfolding readReach namedReach
-  reach-inactive e = reach-read aspInactive e (λ z. omega arith) ∙ rw (typed _ _ aspInactive e (λ z. omega arith)).type
+  pub reach_inactive : type_in (is_error s) (reading_of s) ≡ asp_inactive → message_reach g p s a ≡ named_reach g p s (reading_of s).ids a
+  unfolding read_reach named_reach
+  reach_inactive e = reach_read asp_inactive e (λ z. omega arith) ∙ rw (typed _ _ asp_inactive e (λ z. omega arith)).type
 
-  pub reach-other : (typeIn (isError s) (reading_of s) ≡ aspUp → ⊥) → (typeIn (isError s) (reading_of s) ≡ aspDown → ⊥) → (typeIn (isError s) (reading_of s) ≡ aspActive → ⊥) → (typeIn (isError s) (reading_of s) ≡ aspInactive → ⊥) → messageReach g p s a ≡ otherReach g (isError s) (reading_of s) a
-  unfolding messageReach readReach otherReach typeIn
-  reach-other = rw (← code_is s) (go (isError s) (eqb (reading_of s).code 0))
+  pub reach_other : (type_in (is_error s) (reading_of s) ≡ asp_up → ⊥) → (type_in (is_error s) (reading_of s) ≡ asp_down → ⊥) → (type_in (is_error s) (reading_of s) ≡ asp_active → ⊥) → (type_in (is_error s) (reading_of s) ≡ asp_inactive → ⊥) → message_reach g p s a ≡ other_reach g (is_error s) (reading_of s) a
+  unfolding message_reach read_reach other_reach type_in
+  reach_other = rw (← code_is s) (go (is_error s) (eqb (reading_of s).code 0))
     where
-      go : (u v : Bool) → (cond u 0 (cond v (classTypeOf (reading_of s)) 0) ≡ aspUp → ⊥) → (cond u 0 (cond v (classTypeOf (reading_of s)) 0) ≡ aspDown → ⊥) → (cond u 0 (cond v (classTypeOf (reading_of s)) 0) ≡ aspActive → ⊥) → (cond u 0 (cond v (classTypeOf (reading_of s)) 0) ≡ aspInactive → ⊥)
-          → cond (u || not v) false (readReach g p s (reading_of s) a)
-          ≡ cond u false (cond v (cond (eqb (reading_of s).class 6) (ownsId g (reading_of s).id a) false) false)
+      go : (u v : Bool) → (cond u 0 (cond v (class_type_of (reading_of s)) 0) ≡ asp_up → ⊥) → (cond u 0 (cond v (class_type_of (reading_of s)) 0) ≡ asp_down → ⊥) → (cond u 0 (cond v (class_type_of (reading_of s)) 0) ≡ asp_active → ⊥) → (cond u 0 (cond v (class_type_of (reading_of s)) 0) ≡ asp_inactive → ⊥)
+          → cond (u || not v) false (read_reach g p s (reading_of s) a)
+          ≡ cond u false (cond v (cond (eqb (reading_of s).class 6) (owns_id g (reading_of s).id a) false) false)
       go true v x y z w = refl
-      go false true x y z w = rw (ne_eqb (classTypeOf (reading_of s)) aspUp x, ne_eqb (classTypeOf (reading_of s)) aspDown y, ne_eqb (classTypeOf (reading_of s)) aspActive z, ne_eqb (classTypeOf (reading_of s)) aspInactive w)
+      go false true x y z w = rw (ne_eqb (class_type_of (reading_of s)) asp_up x, ne_eqb (class_type_of (reading_of s)) asp_down y, ne_eqb (class_type_of (reading_of s)) asp_active z, ne_eqb (class_type_of (reading_of s)) asp_inactive w)
       go false false x y z w = refl

@@ -9,6 +9,6 @@ rise-spec =
     (λ c κs. search rules)
     (λ c κs. search rules)
     (λ c κs. search rules)
-    (λ c. rw c.before.before.if1.true (rw (c.before.to-asp2.ensures, c.before.before.before.to-asp.ensures) at c.change-two.ensures))
+    (λ c. rw c.before.before.if1.true (rw (c.before.to-asp2.ensures, c.before.before.before.to-asp.ensures) at c.change_two.ensures))
     (λ c κs. search rules)
-    (λ c. rw c.before.if1.false (rw c.before.before.to-asp.ensures at c.change-one.ensures)))
+    (λ c. rw c.before.if1.false (rw c.before.before.to-asp.ensures at c.change_one.ensures)))

@@ -1,11 +1,11 @@
-use Rattle.rules_event.specs.Inner.Decision.{effectIn, firstActions}
+use Rattle.rules_event.specs.Inner.Decision.{effect_in, first_actions}
 use borrow.Author.Rules.{rules}
 use mathlib.Core.Path.{refl}
 use Rattle.event_decision.proofs.change_one.Statement.{statement}
 use Rattle.event_decision.proofs.change_one.Tie as tie
 
 returns : tie.Need-returns
-unfolding effectIn firstActions
+unfolding effect_in first_actions
 returns c = record { is = refl; few = search rules; asp = search rules; place = search rules }
 
 pub change-one-spec : {M : Type 1} → statement M

@@ -6,4 +6,4 @@ pub order-spec : {M : Type 1} → statement M
 order-spec =
     tie.close
     (tie.spec (λ c κs. search rules) (λ c κs. search rules)
-    (λ c. rw c.before.to-link.ensures at c.say-one.ensures))
+    (λ c. rw c.before.to-link.ensures at c.say_one.ensures))

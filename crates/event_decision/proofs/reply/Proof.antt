@@ -6,4 +6,4 @@ pub reply-spec : {M : Type 1} → statement M
 reply-spec =
     tie.close
     (tie.spec (λ c κs. search rules) (λ c κs. search rules)
-    (λ c. rw c.before.to-asp.ensures at c.say-one.ensures))
+    (λ c. rw c.before.to-asp.ensures at c.say_one.ensures))

@@ -10,22 +10,22 @@ use Rattle.rules_server.specs.declared.Change.TheVariants.{AspUp, AspDown, Deact
 use Rattle.rules_server.specs.Inner.Change.{fits}
 use Rattle.rules_event.specs.declared.Decision.{Decision}
 use Rattle.rules_event.specs.Effect.{Effect}
-use Rattle.rules_event.specs.Asp.{activeEffect, inactiveEffect}
-use Rattle.rules_event.specs.Inner.Decision.{effectIn}
+use Rattle.rules_event.specs.Asp.{active_effect, inactive_effect}
+use Rattle.rules_event.specs.Inner.Decision.{effect_in}
 
 -- the ASP of a change; 0 where it has none
-abbrev pub aspOf : Change → ℕ
-aspOf (AspUp p) = p
-aspOf (AspDown p) = p
-aspOf (Deactivate p) = p
-aspOf (Activate p) = p
-aspOf Recover = 0
+abbrev pub asp_of : Change → ℕ
+asp_of (AspUp p) = p
+asp_of (AspDown p) = p
+asp_of (Deactivate p) = p
+asp_of (Activate p) = p
+asp_of Recover = 0
 
 -- the work is the effect d; what is performed stays within the tables
 pub record Decides (w : Decision) (d : Effect) : Type 0 where
-  pub is : effectIn w ≡ d
+  pub is : effect_in w ≡ d
   pub few : w.count ≤ 2
-  pub asp : aspOf w.change < 16
+  pub asp : asp_of w.change < 16
   pub place : w.link < 128
 
 -- the work is the effect d of every state for which P holds; P says which columns of it were lent
@@ -34,14 +34,14 @@ pub record DecidesOn (P : Gateway → Type 0) (d : Gateway → Effect) (w : Deci
 
 -- Active where on holds, else Inactive, in the ASes named, with what is told beside the Ack
 unfoldable pub act : Gateway → ℕ → Bool → ℕ → List Action → List Bool → Effect
-act g p on mode = λ told named. cond on (activeEffect g p mode told named) (inactiveEffect p told named)
+act g p on mode = λ told named. cond on (active_effect g p mode told named) (inactive_effect p told named)
 
-pub fits-asp : (k : Change) → aspOf k < 16 → fits k ≡ true
-fits-asp (AspUp p) h = refl
-fits-asp (AspDown p) h = refl
-fits-asp (Deactivate p) h = refl
-fits-asp (Activate p) h = lt-ltb p 16 h
-fits-asp Recover h = refl
+pub fits_asp : (k : Change) → asp_of k < 16 → fits k ≡ true
+fits_asp (AspUp p) h = refl
+fits_asp (AspDown p) h = refl
+fits_asp (Deactivate p) h = refl
+fits_asp (Activate p) h = lt-ltb p 16 h
+fits_asp Recover h = refl
 
 -- the same effect, otherwise written
 pub decided : {w : Decision} {d e : Effect} → Decides w d → d ≡ e → Decides w e
@@ -50,28 +50,28 @@ decided h e = rw e at h
 -- ---- a work decides a choice by deciding the arm taken
 
 module _ {w : Decision} (x y : Effect) where
-  pub by-yes : (b : Bool) → b ≡ true → Decides w x → Decides w (cond b x y)
-  by-yes b e q = rw e q
+  pub by_yes : (b : Bool) → b ≡ true → Decides w x → Decides w (cond b x y)
+  by_yes b e q = rw e q
 
-  pub by-no : (b : Bool) → b ≡ false → Decides w y → Decides w (cond b x y)
-  by-no b e q = rw e q
+  pub by_no : (b : Bool) → b ≡ false → Decides w y → Decides w (cond b x y)
+  by_no b e q = rw e q
 
-  pub by-eq : (a b : ℕ) → a ≡ b → Decides w x → Decides w (cond (eqb a b) x y)
-  by-eq a b h q = rw (eq-eqb a b h) q
+  pub by_eq : (a b : ℕ) → a ≡ b → Decides w x → Decides w (cond (eqb a b) x y)
+  by_eq a b h q = rw (eq-eqb a b h) q
 
-  pub by-ne : (a b : ℕ) → (a ≡ b → ⊥) → Decides w y → Decides w (cond (eqb a b) x y)
-  by-ne a b h q = rw (ne_eqb a b h) q
+  pub by_ne : (a b : ℕ) → (a ≡ b → ⊥) → Decides w y → Decides w (cond (eqb a b) x y)
+  by_ne a b h q = rw (ne_eqb a b h) q
 
-  pub by-not-eq : (a b : ℕ) → a ≡ b → Decides w y → Decides w (cond (not (eqb a b)) x y)
-  by-not-eq a b h q = rw (eq-eqb a b h) q
+  pub by_not_eq : (a b : ℕ) → a ≡ b → Decides w y → Decides w (cond (not (eqb a b)) x y)
+  by_not_eq a b h q = rw (eq-eqb a b h) q
 
-  pub by-not-ne : (a b : ℕ) → (a ≡ b → ⊥) → Decides w x → Decides w (cond (not (eqb a b)) x y)
-  by-not-ne a b h q = rw (ne_eqb a b h) q
+  pub by_not_ne : (a b : ℕ) → (a ≡ b → ⊥) → Decides w x → Decides w (cond (not (eqb a b)) x y)
+  by_not_ne a b h q = rw (ne_eqb a b h) q
 
-  pub by-lt : (a b : ℕ) → a < b → Decides w x → Decides w (cond (ltb a b) x y)
-  by-lt a b h q = rw (lt-ltb a b h) q
+  pub by_lt : (a b : ℕ) → a < b → Decides w x → Decides w (cond (ltb a b) x y)
+  by_lt a b h q = rw (lt-ltb a b h) q
 
-  pub by-ge : (a b : ℕ) → b ≤ a → Decides w y → Decides w (cond (ltb a b) x y)
-  by-ge a b h q = rw (le-ltb a b h) q
+  pub by_ge : (a b : ℕ) → b ≤ a → Decides w y → Decides w (cond (ltb a b) x y)
+  by_ge a b h q = rw (le-ltb a b h) q
 
-pub ruleset decisions = (by-lt, by-ge, by-eq, by-ne, by-not-eq, by-not-ne, by-yes, by-no)
+pub ruleset decisions = (by_lt, by_ge, by_eq, by_ne, by_not_eq, by_not_ne, by_yes, by_no)

@@ -13,28 +13,28 @@ use Rattle.rules_event.specs.declared.Decision.{Decision}
 use Rattle.rules_event.specs.declared.Link.{Link}
 use Rattle.rules_event.specs.declared.Owner.{Owner}
 use Rattle.rules_event.specs.Effect.{Effect, send}
-use Rattle.rules_event.specs.Link.{recipientsOf, toRecipients, holdEffect, linkMessageOn}
+use Rattle.rules_event.specs.Link.{recipients_of, to_recipients, hold_effect, link_message_on}
 use Rattle.event_decision.specs.Inner.Decides.{Decides, decided}
-use Rattle.event_links.specs.Inner.Records.{pendingIn}
+use Rattle.event_links.specs.Inner.Records.{pending_in}
 use Rattle.event_links.proofs.link_message.Statement.{statement}
 use Rattle.event_links.proofs.link_message.Tie as tie
 
 module _ (active s : List ℕ) (k : Link) (o : Owner) (r : Reading) (a : ℕ) (f : a ≡ k.owner) where
   abbrev passing : Effect
-  passing = send (toRecipients (recipientsOf active k o) k (r.class * 256 + r.msgtype))
+  passing = send (to_recipients (recipients_of active k o) k (r.class * 256 + r.msgtype))
 
   -- what the rule says
   abbrev ruled : Effect
-  ruled = linkMessageOn (pendingIn active o k.owner) s k o (recipientsOf active k o) r
+  ruled = link_message_on (pending_in active o k.owner) s k o (recipients_of active k o) r
 
-  choice : ruled ≡ cond (eqb r.msgtype 1 && pendingIn active o a) (holdEffect s r a o) passing
-  unfolding linkMessageOn
+  choice : ruled ≡ cond (eqb r.msgtype 1 && pending_in active o a) (hold_effect s r a o) passing
+  unfolding link_message_on
   choice = rw f
 
-  held : {w : Decision} (p : Bool) → p ≡ pendingIn active o a → (eqb r.msgtype 1 && p) ≡ true → Decides w (holdEffect s r a o) → Decides w ruled
+  held : {w : Decision} (p : Bool) → p ≡ pending_in active o a → (eqb r.msgtype 1 && p) ≡ true → Decides w (hold_effect s r a o) → Decides w ruled
   held p q t d = decided d (sym (choice ∙ rw (← q, t)))
 
-  passed : {w : Decision} (p : Bool) → p ≡ pendingIn active o a → (eqb r.msgtype 1 && p) ≡ false → Decides w passing → Decides w ruled
+  passed : {w : Decision} (p : Bool) → p ≡ pending_in active o a → (eqb r.msgtype 1 && p) ≡ false → Decides w passing → Decides w ruled
   passed p q t d = decided d (sym (choice ∙ rw (← q, t)))
 
 hold-work-requires : tie.Need-hold-work-requires
@@ -46,7 +46,7 @@ returns : tie.Need-returns
 returns c = held _ _ _ _ _ _ c.before.before.before.before.wide.ensures _ c.before.before.is-pending.ensures c.before.if1.true c.hold-work.ensures
 
 returns-2 : tie.Need-returns-2
-unfolding toRecipients
+unfolding to_recipients
 returns-2 c =
     passed _ _ _ _ _ _ c.before.before.before.before.before.before.before.wide.ensures _ c.before.before.before.before.before.is-pending.ensures c.before.before.before.before.if1.false
     (rw c.before.before.before.recipients-of.ensures at c.spread.ensures)

@@ -1,31 +1,31 @@
-use Rattle.rules_event.specs.Link.{linkEffect}
+use Rattle.rules_event.specs.Link.{link_effect}
 use Rattle.event_decision.specs.Inner.Decides.{decisions}
 use borrow.Author.Rules.{rules}
 use Rattle.event_links.proofs.link_work.Statement.{statement}
 use Rattle.event_links.proofs.link_work.Tie as tie
 
 returns : tie.Need-returns
-unfolding linkEffect
+unfolding link_effect
 returns c = search decisions depth 9
 
 returns-2 : tie.Need-returns-2
-unfolding linkEffect
+unfolding link_effect
 returns-2 c = search decisions depth 9
 
 returns-3 : tie.Need-returns-3
-unfolding linkEffect
+unfolding link_effect
 returns-3 c = search decisions depth 9
 
 returns-4 : tie.Need-returns-4
-unfolding linkEffect
+unfolding link_effect
 returns-4 c = search decisions depth 9
 
 returns-5 : tie.Need-returns-5
-unfolding linkEffect
+unfolding link_effect
 returns-5 c = search decisions depth 9
 
 returns-6 : tie.Need-returns-6
-unfolding linkEffect
+unfolding link_effect
 returns-6 c = search decisions depth 9
 
 pub link-work-spec : {M : Type 1} → statement M

@@ -1,10 +1,10 @@
-use Rattle.rules_event.specs.Rules.{fromAsp}
+use Rattle.rules_event.specs.Rules.{from_asp}
 use mathlib.Core.Path.{refl}
 use Rattle.event_others.proofs.from_asp.Statement.{statement}
 use Rattle.event_others.proofs.from_asp.Tie as tie
 
 returns : tie.Need-returns
-unfolding fromAsp
+unfolding from_asp
 returns c = refl
 
 pub from-asp-spec : {M : Type 1} → statement M

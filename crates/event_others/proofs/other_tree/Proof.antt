@@ -1,28 +1,28 @@
 -- `event_others::other_tree`: test for test. Assumes nothing.
 use borrow.Author.Rules.{rules}
 use Rattle.event_decision.specs.Inner.Decides.{decisions}
-use Rattle.event_others.specs.Inner.Other.{otherTree}
+use Rattle.event_others.specs.Inner.Other.{other_tree}
 use Rattle.event_others.proofs.other_tree.Statement.{statement}
 use Rattle.event_others.proofs.other_tree.Tie as tie
 
 returns : tie.Need-returns
-unfolding otherTree
+unfolding other_tree
 returns c = search decisions depth 12
 
 returns-2 : tie.Need-returns-2
-unfolding otherTree
+unfolding other_tree
 returns-2 c = search decisions depth 12
 
 returns-3 : tie.Need-returns-3
-unfolding otherTree
+unfolding other_tree
 returns-3 c = let d = c.class-six.ensures in search decisions depth 12
 
 returns-4 : tie.Need-returns-4
-unfolding otherTree
+unfolding other_tree
 returns-4 c = search decisions depth 12
 
 returns-5 : tie.Need-returns-5
-unfolding otherTree
+unfolding other_tree
 returns-5 c = search decisions depth 12
 
 pub other-tree-spec : {M : Type 1} → statement M

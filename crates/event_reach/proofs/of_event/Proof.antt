@@ -1,16 +1,16 @@
 -- `event_reach::of_event`: nothing where it is refused, else what is asked reaches. Assumes nothing.
 use mathlib.Core.Path.{◌≡◌, sym, ◌∙◌}
 use borrow.Author.Rules.{rules}
-use Rattle.state_tables.specs.Sound.{isSound}
-use Rattle.state_tables.specs.Inner.Laws.{counts-within}
+use Rattle.state_tables.specs.Sound.{is_sound}
+use Rattle.state_tables.specs.Inner.Laws.{counts_within}
 use Rattle.state_ranges.specs.Inner.Laws.{table}
 use Rattle.rules_event.specs.Event.{lending, Event}
-use Rattle.rules_event.specs.Rules.{refusal, refusalOf, inPlan}
-use Rattle.event_asked.specs.Happened.{happened, eventOf}
-use Rattle.event_asked.specs.Inner.Ask.{ask-fits-at}
-use Rattle.event_asked.specs.Inner.Place.{known_in, refusal-in}
+use Rattle.rules_event.specs.Rules.{refusal, refusal_of, in_plan}
+use Rattle.event_asked.specs.Happened.{happened, event_of}
+use Rattle.event_asked.specs.Inner.Ask.{ask_fits_at}
+use Rattle.event_asked.specs.Inner.Place.{known_in, refusal_in_lem}
 use Rattle.rules_event.specs.Inner.Accepted.{Accepted, accepted}
-use Rattle.event_reach.specs.Inner.Rows.{row_is, reached-no, reached-yes}
+use Rattle.event_reach.specs.Inner.Rows.{row_is, reached_no, reached_yes}
 use Rattle.event_reach.proofs.of_event.Statement.{statement}
 use Rattle.event_reach.proofs.of_event.Tie as tie
 
@@ -29,18 +29,18 @@ start c = c.before.before
 
 -- the event
 abbrev happens : tie.After-asked → Event
-happens c = eventOf (happened (start c).args.kind (start c).args.i (start c).args.msg.now) (start c).args.room (start c).args.hold
+happens c = event_of (happened (start c).args.kind (start c).args.i (start c).args.msg.now) (start c).args.room (start c).args.hold
 
 refusal_is : (c : tie.After-refused) → c.refused.result ≡ refusal (start (to-asked c)).args.t1 (happens (to-asked c))
 refusal_is c =
     let s = start (to-asked c) in
     let g = s.args.t1 in
     c.refused.ensures
-    ∙ (λ j. refusalOf (to-sound c).is-sound.result (known_in g.asps g.ases (to-placed c).placed.result.there (c.before.link_at.ensures j) (to-asked c).asked.result) (lending s.args.room s.args.hold))
-    ∙ refusal-in g (to-asked c).asked.result _ _ _ (lending s.args.room s.args.hold) (to-sound c).is-sound.ensures (to-placed c).placed.ensures.1
-    ∙ (λ j. refusalOf (isSound g) ((to-asked c).asked.ensures.known g j) (lending s.args.room s.args.hold))
+    ∙ (λ j. refusal_of (to-sound c).is-sound.result (known_in g.asps g.ases (to-placed c).placed.result.there (c.before.link_at.ensures j) (to-asked c).asked.result) (lending s.args.room s.args.hold))
+    ∙ refusal_in_lem g (to-asked c).asked.result _ _ _ (lending s.args.room s.args.hold) (to-sound c).is-sound.ensures (to-placed c).placed.ensures.1
+    ∙ (λ j. refusal_of (is_sound g) ((to-asked c).asked.ensures.known g j) (lending s.args.room s.args.hold))
 
-taken : (c : tie.After-refused) → c.refused.result ≡ 0 → Accepted (isSound (start (to-asked c)).args.t1) (inPlan (start (to-asked c)).args.t1 (happens (to-asked c)).kind) (lending (start (to-asked c)).args.room (start (to-asked c)).args.hold)
+taken : (c : tie.After-refused) → c.refused.result ≡ 0 → Accepted (is_sound (start (to-asked c)).args.t1) (in_plan (start (to-asked c)).args.t1 (happens (to-asked c)).kind) (lending (start (to-asked c)).args.room (start (to-asked c)).args.hold)
 taken c h = accepted _ _ _ (sym (refusal_is c) ∙ h)
 
 placed-requires : tie.Need-placed-requires
@@ -55,14 +55,14 @@ row-of-requires c κs =
     let a = (to-asked r).asked.ensures in
     let t = taken r c.before.before.before.before.before.if1.false in
     let w = c.before.before.before.before.wide.ensures in
-    (rw w (table g t.sound-yes), ask-fits-at g _ (to-asked r).asked.result w (counts-within g t.sound-yes) (a.known g ∙ t.known-yes) a.small)
+    (rw w (table g t.sound_yes), ask_fits_at g _ (to-asked r).asked.result w (counts_within g t.sound_yes) (a.known g ∙ t.known_yes) a.small)
 
 returns-2 : tie.Need-returns-2
 returns-2 c =
     let r = c.before.before.before.before.before.before.before.before.before in
     let a = to-asked r in
     let g = (start a).args.t1 in
-    reached-yes g (happens a) (refusal_is r) c.before.before.before.before.before.before.before.before.if1.false (row_is g (start a).args.msg.now a.asked.result (happens a) c.before.before.before.before.before.before.before.wide.ensures c.before.before.row_of.ensures (a.asked.ensures.reach g)) (rw c.before.wide2.ensures at c.within.ensures)
+    reached_yes g (happens a) (refusal_is r) c.before.before.before.before.before.before.before.before.if1.false (row_is g (start a).args.msg.now a.asked.result (happens a) c.before.before.before.before.before.before.before.wide.ensures c.before.before.row_of.ensures (a.asked.ensures.reach g)) (rw c.before.wide2.ensures at c.within.ensures)
 
 pub of-event-spec : {M : Type 1} → statement M
 of-event-spec =
@@ -73,7 +73,7 @@ of-event-spec =
     placed-requires
     (λ c κs. search rules)
     (λ c κs. search rules)
-    (λ c. reached-no _ (happens (to-asked c.before)) (refusal_is c.before) c.if1.true)
+    (λ c. reached_no _ (happens (to-asked c.before)) (refusal_is c.before) c.if1.true)
     (λ c κs. search rules)
     row-of-requires
     (λ c κs. search rules)

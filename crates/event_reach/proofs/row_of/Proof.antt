@@ -34,7 +34,7 @@ row-of-spec =
     (λ c. rw c.before.before.ask.given.1 c.column-of.ensures)
     (λ c. rw c.before.before.ask2.given.1 c.column-of2.ensures)
     (λ c. rw c.before.before.ask3.given.1 c.named-row.ensures)
-    (λ c. rw c.before.before.ask4.given.1 c.other_row.ensures)
+    (λ c. rw c.before.before.ask4.given.1 c.other_row_lem.ensures)
     (λ c. rw c.before.before.ask5.given.1 c.column-of3.ensures)
     (λ c. rw c.before.before.ask6.given.1 c.only.ensures)
     (λ c. rw c.before.before.ask7.given.1 c.owner_at.ensures)

@@ -2,7 +2,7 @@
 use native.Mathlib.Omega.{arith}
 use borrow.Author.Rules.{rules}
 use Rattle.event_decision.specs.Inner.Decides.{decided}
-use Rattle.event_run.specs.Inner.Columns.{asp-at, up-on, down-on, message-on, other-on}
+use Rattle.event_run.specs.Inner.Columns.{asp_at_lem, up_on, down_on, message_on, other_on}
 use Rattle.event_run.proofs.decided.Statement.{statement}
 use Rattle.event_run.proofs.decided.Tie as tie
 
@@ -12,7 +12,7 @@ returns c =
     let i = c.before.before.before.before.before.requires in
     let b = rw e at i.1 in
     let q = rw e at i.4 in
-    record { on = λ g h. rw e (c.up-work.ensures.on g (asp-at g _ b q h.asp-is, h.member_is, h.active-is)) }
+    record { on = λ g h. rw e (c.up-work.ensures.on g (asp_at_lem g _ b q h.asp_is, h.member_is, h.active_is)) }
 
 returns-3 : tie.Need-returns-3
 returns-3 c =
@@ -20,7 +20,7 @@ returns-3 c =
     let i = c.before.before.before.before.before.requires in
     let b = rw e at i.1 in
     let q = rw e at i.4 in
-    record { on = λ g h. rw e (c.traffic-work.ensures.on g (record { links-is = h.links-is; asp-is = asp-at g _ b q h.asp-is; member_is = h.member_is; mode-is = h.mode-is; iid-is = h.iid-is; owner-is = h.owner-is })) }
+    record { on = λ g h. rw e (c.traffic-work.ensures.on g (record { links_is = h.links_is; asp_is = asp_at_lem g _ b q h.asp_is; member_is = h.member_is; mode_is = h.mode_is; iid_is = h.iid_is; owner_is = h.owner_is })) }
 
 returns-4 : tie.Need-returns-4
 returns-4 c =
@@ -29,7 +29,7 @@ returns-4 c =
     let q = rw e at i.2 in
     let b = rw e at i.1 in
     let z = rw e at i.4 in
-    record { on = λ g h. rw e (decided c.other-work.ensures (other-on g _ _ _ (asp-at g _ b.0 z h.asp-is) h.member_is h.active-is h.iid-is h.links-is h.link-is c.before.before.wide.ensures c.before.sender-of.ensures q)) }
+    record { on = λ g h. rw e (decided c.other-work.ensures (other_on g _ _ _ (asp_at_lem g _ b.0 z h.asp_is) h.member_is h.active_is h.iid_is h.links_is h.link_is c.before.before.wide.ensures c.before.sender-of.ensures q)) }
 
 returns-7 : tie.Need-returns-7
 returns-7 c =
@@ -37,7 +37,7 @@ returns-7 c =
     let i = c.before.before.before.before.requires in
     let q = rw e at i.2 in
     let b = rw e at i.1 in
-    record { on = λ g h. rw e (decided c.link-turns.ensures (up-on g _ h.active-is h.link-is h.owned_by q b)) }
+    record { on = λ g h. rw e (decided c.link-turns.ensures (up_on g _ h.active_is h.link_is h.owned_by q b)) }
 
 returns-8 : tie.Need-returns-8
 returns-8 c =
@@ -45,7 +45,7 @@ returns-8 c =
     let i = c.before.before.before.before.requires in
     let q = rw e at i.2 in
     let b = rw e at i.1 in
-    record { on = λ g h. rw e (decided c.link-turns2.ensures (down-on g _ h.active-is h.link-is h.owned_by q b)) }
+    record { on = λ g h. rw e (decided c.link-turns2.ensures (down_on g _ h.active_is h.link_is h.owned_by q b)) }
 
 returns-9 : tie.Need-returns-9
 returns-9 c =
@@ -53,7 +53,7 @@ returns-9 c =
     let i = c.before.before.before.before.before.requires in
     let q = rw e at i.2 in
     let t = rw e at i.1 in
-    record { on = λ g h. rw e (decided c.link-message.ensures (message-on g _ _ h.active-is h.iid-is h.links-is h.link-is h.owned_by q t.0)) }
+    record { on = λ g h. rw e (decided c.link-message.ensures (message_on g _ _ h.active_is h.iid_is h.links_is h.link_is h.owned_by q t.0)) }
 
 pub decided-spec : {M : Type 1} → statement M
 decided-spec =

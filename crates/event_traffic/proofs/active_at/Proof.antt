@@ -1,4 +1,4 @@
-use Rattle.event_decision.specs.Inner.Decides.{decisions, by-no}
+use Rattle.event_decision.specs.Inner.Decides.{decisions, by_no}
 use borrow.Author.Rules.{rules}
 use Rattle.event_traffic.proofs.active_at.Statement.{statement}
 use Rattle.event_traffic.proofs.active_at.Tie as tie
@@ -10,4 +10,4 @@ active-at-spec =
     (λ c κs. search rules)
     (λ c. search decisions depth 5)
     (λ c κs. search rules)
-    (λ c. by-no _ _ _ c.before.if1.false c.acked.ensures))
+    (λ c. by_no _ _ _ c.before.if1.false c.acked.ensures))

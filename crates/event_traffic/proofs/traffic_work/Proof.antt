@@ -6,41 +6,41 @@ use Rattle.laws.specs.Columns.{number_at}
 use borrow.Author.Rules.{rules}
 use borrow.Author.Tests.{eq-eqb}
 use Rattle.rules_server.specs.Record.{some}
-use Rattle.state_sets.specs.Inner.Bits.{flagsOf}
+use Rattle.state_sets.specs.Inner.Bits.{flags_of}
 use Rattle.event_decision.specs.Inner.Decides.{decisions}
-use Rattle.rules_event.specs.Asp.{trafficEffect}
-use Rattle.rules_event.specs.Records.{aspAt}
+use Rattle.rules_event.specs.Asp.{traffic_effect}
+use Rattle.rules_event.specs.Records.{asp_at}
 use Rattle.rules_event.specs.declared.Asp.{Asp}
 use Rattle.state_tables.specs.declared.Gateway.{Gateway}
-use Rattle.event_traffic.specs.Inner.Aims.{nothingDone, takesWhole, aims-on, aimed-fails, aimed-acts}
+use Rattle.event_traffic.specs.Inner.Aims.{nothing_done, takes_whole, aims_on, aimed_fails, aimed_acts}
 use Rattle.event_traffic.proofs.traffic_work.Statement.{statement}
 use Rattle.event_traffic.proofs.traffic_work.Tie as tie
 
 -- the fields that the code asks are those of every state that has p so
-up-on : (g : Gateway) (p : ℕ) {s : Asp} → aspAt g p ≡ s → s.up ≡ 1 → eqb (number_at g.up p) 1 ≡ true
-up-on g p e h = eq-eqb _ 1 (ap (λ (x : Asp). x.up) e ∙ h)
+up_on : (g : Gateway) (p : ℕ) {s : Asp} → asp_at g p ≡ s → s.up ≡ 1 → eqb (number_at g.up p) 1 ≡ true
+up_on g p e h = eq-eqb _ 1 (ap (λ (x : Asp). x.up) e ∙ h)
 
-whole-on : (ids found none : Bool) (g : Gateway) (p : ℕ) {s : Asp} → aspAt g p ≡ s → nothingDone ids found (takesWhole g p) none ≡ nothingDone ids found (eqb s.wholelists 1) none
-whole-on ids found none g p e = ap (λ (x : Asp). nothingDone ids found (eqb x.wholelists 1) none) e
+whole-on : (ids found none : Bool) (g : Gateway) (p : ℕ) {s : Asp} → asp_at g p ≡ s → nothing_done ids found (takes_whole g p) none ≡ nothing_done ids found (eqb s.wholelists 1) none
+whole-on ids found none g p e = ap (λ (x : Asp). nothing_done ids found (eqb x.wholelists 1) none) e
 
 returns : tie.Need-returns
-unfolding trafficEffect
-returns c = record { on = λ g h. rw (ap (λ (x : Asp). x.up) h.asp-is) (search decisions depth 9) }
+unfolding traffic_effect
+returns c = record { on = λ g h. rw (ap (λ (x : Asp). x.up) h.asp_is) (search decisions depth 9) }
 
 -- the test, in the rule's words
-tested : (c : tie.After-does-nothing) → c.does-nothing.result ≡ nothingDone (eqb c.before.before.before.before.before.before.before.before.before.args.r.ids 1) c.before.before.before.before.aim.result.refused.found (eqb c.before.before.before.before.before.before.before.before.before.args.a.wholelists 1) (not (some (flagsOf c.before.before.before.before.aim.result.set)))
+tested : (c : tie.After-does-nothing) → c.does-nothing.result ≡ nothing_done (eqb c.before.before.before.before.before.before.before.before.before.args.r.ids 1) c.before.before.before.before.aim.result.refused.found (eqb c.before.before.before.before.before.before.before.before.before.args.a.wholelists 1) (not (some (flags_of c.before.before.before.before.aim.result.set)))
 unfolding some
 tested c = rw c.before.is_none.ensures at c.does-nothing.ensures
 
 returns-2 : tie.Need-returns-2
 returns-2 c =
     let k = c.before.before.before.before.before.before in
-    record { on = λ g h. aimed-fails g _ _ _ _ _ (up-on g _ h.asp-is k.before.before.if1.false) (aims-on g _ _ h k.aim.ensures) (whole-on _ _ _ g _ h.asp-is ∙ sym (tested c.before.before) ∙ c.before.if2.true) c.fails.ensures }
+    record { on = λ g h. aimed_fails g _ _ _ _ _ (up_on g _ h.asp_is k.before.before.if1.false) (aims_on g _ _ h k.aim.ensures) (whole-on _ _ _ g _ h.asp_is ∙ sym (tested c.before.before) ∙ c.before.if2.true) c.fails.ensures }
 
 returns-3 : tie.Need-returns-3
 returns-3 c =
     let k = c.before.before.before.before.before.before in
-    record { on = λ g h. aimed-acts g _ _ _ _ _ (up-on g _ h.asp-is k.before.before.if1.false) (aims-on g _ _ h k.aim.ensures) (whole-on _ _ _ g _ h.asp-is ∙ sym (tested c.before.before) ∙ c.before.if2.false) (c.act-in.ensures.on g h.mode-is) }
+    record { on = λ g h. aimed_acts g _ _ _ _ _ (up_on g _ h.asp_is k.before.before.if1.false) (aims_on g _ _ h k.aim.ensures) (whole-on _ _ _ g _ h.asp_is ∙ sym (tested c.before.before) ∙ c.before.if2.false) (c.act-in.ensures.on g h.mode_is) }
 
 pub traffic-work-spec : {M : Type 1} → statement M
 traffic-work-spec =

@@ -2,7 +2,7 @@
 use Prim.Native.Nat.{◌≤◌, ◌-◌}
 use native.Mathlib.Omega.{arith}
 use borrow.Author.Rules.{rules}
-use Rattle.event_units.specs.Inner.Rows.{Rows, rows_end, rows_none, rows-place}
+use Rattle.event_units.specs.Inner.Rows.{Rows, rows_end, rows_none, rows_place}
 use Rattle.event_units.proofs.clear_counts.Statement.{statement}
 use Rattle.event_units.proofs.clear_counts.Tie as tie
 
@@ -16,7 +16,7 @@ loop-holds : tie.Need-loop-init invariant-loop decreases-loop
 loop-holds c = (rows_none, omega arith)
 
 loop-again : tie.Need-loop-preserved invariant-loop decreases-loop
-loop-again c = (rows-place c.before.before.before.loop.invariant.0 c.unless.ensures, search rules)
+loop-again c = (rows_place c.before.before.before.loop.invariant.0 c.unless.ensures, search rules)
 
 returns : tie.Need-returns invariant-loop decreases-loop
 returns c = rows_end c.before.loop.invariant.0 (search rules) c.loop-test.false

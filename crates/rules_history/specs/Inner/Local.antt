@@ -22,9 +22,9 @@ pub record Local {B E O K S M : Type 0} {W : K → Type 0} (get : B → (k : K) 
   pub same_writes : (b b' : B) (e : E) → Agree get reads writes b b' e → (k : K) → writes b' e k ≡ writes b e k
   pub same_next : (b b' : B) (e : E) → Agree get reads writes b b' e → (k : K) → writes b e k ≡ true → get (next b' e) k ≡ get (next b e) k
   -- what an event does to the shape goes by a mark that hangs on what it reads
-  pub same-shapes : (b b' : B) (e : E) → Agree get reads writes b b' e → shapes b' e ≡ shapes b e
+  pub same_shapes : (b b' : B) (e : E) → Agree get reads writes b b' e → shapes b' e ≡ shapes b e
   pub reshaped : (b : B) (e : E) → shape (next b e) ≡ reshape (shapes b e) (shape b)
-  pub reshape-trade : (u v : M) (s : S) → reshape u (reshape v s) ≡ reshape v (reshape u s)
+  pub reshape_trade : (u v : M) (s : S) → reshape u (reshape v s) ≡ reshape v (reshape u s)
 
 module _ {B E O K S M : Type 0} {W : K → Type 0} (get : B → (k : K) → W k) (shape : B → S) (reads writes : B → E → K → Bool) (shapes : B → E → M) (reshape : M → S → S) (out : B → E → O) (next : B → E → B)
     (L : Local get shape reads writes shapes reshape out next) where
@@ -48,7 +48,7 @@ module _ {B E O K S M : Type 0} {W : K → Type 0} (get : B → (k : K) → W k)
   -- the shape after e and then f
   twice : (b : B) (e f : E) → Apart get reads writes b e f → shape (next (next b e) f) ≡ reshape (shapes b f) (reshape (shapes b e) (shape b))
   twice b e f ef =
-      L.reshaped (next b e) f ∙ (λ j. reshape (L.same-shapes b (next b e) f (agree_after b e f ef) j) (L.reshaped b e j))
+      L.reshaped (next b e) f ∙ (λ j. reshape (L.same_shapes b (next b e) f (agree_after b e f ef) j) (L.reshaped b e j))
 
   pub commutes : (b : B) (e f : E) → Apart get reads writes b e f → Apart get reads writes b f e → Commute out next b e f
   commutes b e f ef fe =
@@ -57,5 +57,5 @@ module _ {B E O K S M : Type 0} {W : K → Type 0} (get : B → (k : K) → W k)
         second = L.same_out b (next b e) f (agree_after b e f ef);
         both =
             L.ext (next (next b e) f) (next (next b f) e) (λ k. one_key b e f ef fe k (writes b e k) (writes b f k) refl refl)
-            (twice b e f ef ∙ L.reshape-trade (shapes b f) (shapes b e) (shape b) ∙ sym (twice b f e fe));
+            (twice b e f ef ∙ L.reshape_trade (shapes b f) (shapes b e) (shape b) ∙ sym (twice b f e fe));
       }

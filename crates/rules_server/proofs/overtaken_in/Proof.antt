@@ -2,12 +2,12 @@
 use borrow.Author.Rules.{rules}
 use Rattle.laws.specs.Columns.{tabulate}
 use Rattle.rules_server.specs.Change.{nobody}
-use Rattle.rules_server.specs.Inner.Flag.{overtaken-one}
+use Rattle.rules_server.specs.Inner.Flag.{overtaken_one}
 use Rattle.rules_server.proofs.overtaken_in.Statement.{statement}
 use Rattle.rules_server.proofs.overtaken_in.Tie as tie
 
 returns : tie.Need-returns
-returns c = let k = c.before.enum_told.given in rw k.1 (overtaken-one _ (rw k.1 at c.before.before.before.before.requires) _ _ c.overtake.ensures)
+returns c = let k = c.before.enum_told.given in rw k.1 (overtaken_one _ (rw k.1 at c.before.before.before.before.requires) _ _ c.overtake.ensures)
 
 returns-2 : tie.Need-returns-2
 unfolding nobody tabulate

@@ -2,110 +2,110 @@
 -- Assumes nothing.
 use Rattle.std.specs.Prelude.{ℕ, ◌≤◌, ◌<◌, ◌≡◌, refl, Bool, true, false, ◌&&◌, cond, not, List, [], eqb, length}
 use Rattle.std.proofs.Common.{◌∙◌, sym, arith, length-append, eq-eqb, ne_eqb, ltb-true}
-use Rattle.laws.specs.Below.{concatBelow}
-use Rattle.laws.specs.Inner.Below.{any-not, concat-ext, concat-empty, when-nil}
-use Rattle.laws.specs.Columns.{flagAt}
-use Rattle.rules_action.specs.Types.{mgmtNotify, asState, otherActive}
-use Rattle.rules_action.specs.Words.{toEach, toAll}
-use Rattle.rules_action.specs.Inner.Words.{toAll-short}
+use Rattle.laws.specs.Below.{concat_below}
+use Rattle.laws.specs.Inner.Below.{any_not, concat_ext, concat_empty, when_nil}
+use Rattle.laws.specs.Columns.{flag_at}
+use Rattle.rules_action.specs.Types.{mgmt_notify, as_state, other_active}
+use Rattle.rules_action.specs.Words.{to_each, to_all}
+use Rattle.rules_action.specs.Inner.Words.{to_all_short}
 use Rattle.rules_action.specs.declared.Action.{Action}
-use Rattle.rules_server.specs.Record.{some, stateIn}
-use Rattle.rules_server.specs.Change.{after, overtaken, overtakenIn, recordWith, nobody}
-use Rattle.rules_server.specs.Inner.Change.{fits, nobody-none, some_at, some-some, overtaken-was, some-turned}
+use Rattle.rules_server.specs.Record.{some, state_in}
+use Rattle.rules_server.specs.Change.{after, overtaken, overtaken_in, record_with, nobody}
+use Rattle.rules_server.specs.Inner.Change.{fits, nobody_none, some_at, some_some, overtaken_was, some_turned}
 use Rattle.rules_server.specs.declared.AsRecord.{AsRecord}
 use Rattle.rules_server.specs.declared.Change.{Change}
 use Rattle.rules_server.specs.declared.Change.TheVariants.{AspUp, AspDown, Deactivate, Activate, Recover}
-use Rattle.rules_server.specs.Inner.Units.{letOut-short}
-use Rattle.rules_server.specs.Notify.{notify, isNotified, notifiesTo, notifies, actionsIn}
+use Rattle.rules_server.specs.Inner.Units.{let_out_short}
+use Rattle.rules_server.specs.Notify.{notify, is_notified, notifies_to, notifies, actions_in}
 
 -- ---- what the code writes: one kind of Notify or the other, for both never go out in one AS
 
 unfoldable pub announced : AsRecord → AsRecord → ℕ → List Action
 announced s t a =
-    cond (eqb (stateIn t) 0) [] (cond (eqb (stateIn s) (stateIn t)) [] (toAll t.ups mgmtNotify a (asState (stateIn t))))
+    cond (eqb (state_in t) 0) [] (cond (eqb (state_in s) (state_in t)) [] (to_all t.ups mgmt_notify a (as_state (state_in t))))
 
 unfoldable pub spoken : List Bool → AsRecord → AsRecord → ℕ → List Action
-spoken lost s t a = cond (some lost) (toAll lost mgmtNotify a otherActive) (announced s t a)
+spoken lost s t a = cond (some lost) (to_all lost mgmt_notify a other_active) (announced s t a)
 
-announced-told : (s t : AsRecord) (a : ℕ) → announced s t a ≡ cond (isNotified s t) (toAll t.ups mgmtNotify a (asState (stateIn t))) []
-unfolding announced isNotified
-announced-told s t a = go (eqb (stateIn t) 0) (eqb (stateIn s) (stateIn t))
+announced_told : (s t : AsRecord) (a : ℕ) → announced s t a ≡ cond (is_notified s t) (to_all t.ups mgmt_notify a (as_state (state_in t))) []
+unfolding announced is_notified
+announced_told s t a = go (eqb (state_in t) 0) (eqb (state_in s) (state_in t))
   where
-    go : (u v : Bool) → cond u [] (cond v [] (toAll t.ups mgmtNotify a (asState (stateIn t)))) ≡ cond (not u && not v) (toAll t.ups mgmtNotify a (asState (stateIn t))) []
+    go : (u v : Bool) → cond u [] (cond v [] (to_all t.ups mgmt_notify a (as_state (state_in t)))) ≡ cond (not u && not v) (to_all t.ups mgmt_notify a (as_state (state_in t))) []
     go true v = refl
     go false true = refl
     go false false = refl
 
 -- where nobody is overtaken the new state is told, if any
-notifies-new : (lost : List Bool) (s t : AsRecord) (a : ℕ) → some lost ≡ false → notifies lost s t a ≡ announced s t a
-unfolding notifies some notifiesTo toAll toEach
-notifies-new lost s t a h = go (isNotified s t) refl ∙ sym (announced-told s t a)
+notifies_new : (lost : List Bool) (s t : AsRecord) (a : ℕ) → some lost ≡ false → notifies lost s t a ≡ announced s t a
+unfolding notifies some notifies_to to_all to_each
+notifies_new lost s t a h = go (is_notified s t) refl ∙ sym (announced_told s t a)
   where
-    none : (q : ℕ) → q < 16 → flagAt lost q ≡ false
-    none = any-not (flagAt lost) 16 h
+    none : (q : ℕ) → q < 16 → flag_at lost q ≡ false
+    none = any_not (flag_at lost) 16 h
 
-    go : (u : Bool) → isNotified s t ≡ u → concatBelow (notifiesTo lost s t a) 16 ≡ cond u (toAll t.ups mgmtNotify a (asState (stateIn t))) []
-    go true e = concat-ext _ _ 16 (λ q b. rw (none q b, e))
-    go false e = concat-ext _ (λ (q : ℕ). []) 16 (λ q b. rw (none q b, e)) ∙ concat-empty 16
+    go : (u : Bool) → is_notified s t ≡ u → concat_below (notifies_to lost s t a) 16 ≡ cond u (to_all t.ups mgmt_notify a (as_state (state_in t))) []
+    go true e = concat_ext _ _ 16 (λ q b. rw (none q b, e))
+    go false e = concat_ext _ (λ (q : ℕ). []) 16 (λ q b. rw (none q b, e)) ∙ concat_empty 16
 
 -- where the state is not told those overtaken are
-notifies-lost : (lost : List Bool) (s t : AsRecord) (a : ℕ) → isNotified s t ≡ false → notifies lost s t a ≡ toAll lost mgmtNotify a otherActive
-unfolding notifies notifiesTo toAll toEach
-notifies-lost lost s t a e = concat-ext _ _ 16 (λ q b. rw e (when-nil (flagAt lost q) (notify a otherActive q)))
+notifies_lost : (lost : List Bool) (s t : AsRecord) (a : ℕ) → is_notified s t ≡ false → notifies lost s t a ≡ to_all lost mgmt_notify a other_active
+unfolding notifies notifies_to to_all to_each
+notifies_lost lost s t a e = concat_ext _ _ 16 (λ q b. rw e (when_nil (flag_at lost q) (notify a other_active q)))
 
-state-active : (s : AsRecord) → some s.acts ≡ true → stateIn s ≡ 3
-unfolding stateIn
-state-active s h = rw h
+state_active : (s : AsRecord) → some s.acts ≡ true → state_in s ≡ 3
+unfolding state_in
+state_active s h = rw h
 
 -- overtaking, the AS was active, and stays so
-told-on : (p : ℕ) (s : AsRecord) → p < 16 → some (overtaken s.acts s.mode p) ≡ true → isNotified s (after (Activate p) s) ≡ false
-unfolding isNotified recordWith
-told-on p s b h =
-    let x = some-some (overtaken s.acts s.mode p) h in
-    let old : stateIn s ≡ 3 = state-active s (some_at s.acts x.0 x.1 (overtaken-was s.acts s.mode p x.0 x.1 x.2)) in
-    let new : stateIn (after (Activate p) s) ≡ 3 = state-active (after (Activate p) s) (some-turned s.acts s.mode p b) in
+told_on : (p : ℕ) (s : AsRecord) → p < 16 → some (overtaken s.acts s.mode p) ≡ true → is_notified s (after (Activate p) s) ≡ false
+unfolding is_notified record_with
+told_on p s b h =
+    let x = some_some (overtaken s.acts s.mode p) h in
+    let old : state_in s ≡ 3 = state_active s (some_at s.acts x.0 x.1 (overtaken_was s.acts s.mode p x.0 x.1 x.2)) in
+    let new : state_in (after (Activate p) s) ≡ 3 = state_active (after (Activate p) s) (some_turned s.acts s.mode p b) in
     rw (old, new)
 
-pub spoken-is : (k : Change) (s : AsRecord) (a : ℕ) → fits k ≡ true → spoken (overtakenIn k s) s (after k s) a ≡ notifies (overtakenIn k s) s (after k s) a
+pub spoken_is : (k : Change) (s : AsRecord) (a : ℕ) → fits k ≡ true → spoken (overtaken_in k s) s (after k s) a ≡ notifies (overtaken_in k s) s (after k s) a
 unfolding spoken
-spoken-is (AspUp p) s a h = rw nobody-none (sym (notifies-new nobody s (after (AspUp p) s) a nobody-none))
-spoken-is (AspDown p) s a h = rw nobody-none (sym (notifies-new nobody s (after (AspDown p) s) a nobody-none))
-spoken-is (Deactivate p) s a h = rw nobody-none (sym (notifies-new nobody s (after (Deactivate p) s) a nobody-none))
-spoken-is (Activate p) s a h = go (some (overtaken s.acts s.mode p)) refl
+spoken_is (AspUp p) s a h = rw nobody_none (sym (notifies_new nobody s (after (AspUp p) s) a nobody_none))
+spoken_is (AspDown p) s a h = rw nobody_none (sym (notifies_new nobody s (after (AspDown p) s) a nobody_none))
+spoken_is (Deactivate p) s a h = rw nobody_none (sym (notifies_new nobody s (after (Deactivate p) s) a nobody_none))
+spoken_is (Activate p) s a h = go (some (overtaken s.acts s.mode p)) refl
   where
     go : (u : Bool) → some (overtaken s.acts s.mode p) ≡ u
-        → cond u (toAll (overtaken s.acts s.mode p) mgmtNotify a otherActive) (announced s (after (Activate p) s) a) ≡ notifies (overtaken s.acts s.mode p) s (after (Activate p) s) a
-    go true e = sym (notifies-lost (overtaken s.acts s.mode p) s (after (Activate p) s) a (told-on p s (ltb-true p 16 h) e))
-    go false e = sym (notifies-new (overtaken s.acts s.mode p) s (after (Activate p) s) a e)
-spoken-is Recover s a h = rw nobody-none (sym (notifies-new nobody s (after Recover s) a nobody-none))
+        → cond u (to_all (overtaken s.acts s.mode p) mgmt_notify a other_active) (announced s (after (Activate p) s) a) ≡ notifies (overtaken s.acts s.mode p) s (after (Activate p) s) a
+    go true e = sym (notifies_lost (overtaken s.acts s.mode p) s (after (Activate p) s) a (told_on p s (ltb-true p 16 h) e))
+    go false e = sym (notifies_new (overtaken s.acts s.mode p) s (after (Activate p) s) a e)
+spoken_is Recover s a h = rw nobody_none (sym (notifies_new nobody s (after Recover s) a nobody_none))
 
 -- ---- at most 24 actions in an AS
 
-spoken-short : (lost : List Bool) (s t : AsRecord) (a : ℕ) → length (spoken lost s t a) ≤ 16
+spoken_short : (lost : List Bool) (s t : AsRecord) (a : ℕ) → length (spoken lost s t a) ≤ 16
 unfolding spoken announced
-spoken-short lost s t a = go (some lost) (eqb (stateIn t) 0) (eqb (stateIn s) (stateIn t))
+spoken_short lost s t a = go (some lost) (eqb (state_in t) 0) (eqb (state_in s) (state_in t))
   where
-    go : (w u v : Bool) → length (cond w (toAll lost mgmtNotify a otherActive) (cond u [] (cond v [] (toAll t.ups mgmtNotify a (asState (stateIn t)))))) ≤ 16
-    go true u v = toAll-short lost mgmtNotify a otherActive
+    go : (w u v : Bool) → length (cond w (to_all lost mgmt_notify a other_active) (cond u [] (cond v [] (to_all t.ups mgmt_notify a (as_state (state_in t)))))) ≤ 16
+    go true u v = to_all_short lost mgmt_notify a other_active
     go false true v = omega arith
     go false false true = omega arith
-    go false false false = toAll-short t.ups mgmtNotify a (asState (stateIn t))
+    go false false false = to_all_short t.ups mgmt_notify a (as_state (state_in t))
 
-pub actionsIn-short : (named : Bool) (k : Change) (a : ℕ) (s : AsRecord) (n : ℕ) (id : List ℕ) → fits k ≡ true → length (actionsIn named k a s n id) ≤ 24
-unfolding actionsIn
-actionsIn-short true k a s n id h = rw (← spoken-is k s a h) (rw length-append (omega (arith, letOut-short k n id a, spoken-short (overtakenIn k s) s (after k s) a)))
-actionsIn-short false k a s n id h = omega arith
+pub actions_in_short : (named : Bool) (k : Change) (a : ℕ) (s : AsRecord) (n : ℕ) (id : List ℕ) → fits k ≡ true → length (actions_in named k a s n id) ≤ 24
+unfolding actions_in
+actions_in_short true k a s n id h = rw (← spoken_is k s a h) (rw length-append (omega (arith, let_out_short k n id a, spoken_short (overtaken_in k s) s (after k s) a)))
+actions_in_short false k a s n id h = omega arith
 
 -- ---- the three ways of `announced`
 
-pub announced-down : (s t : AsRecord) (a : ℕ) → stateIn t ≡ 0 → announced s t a ≡ []
+pub announced_down : (s t : AsRecord) (a : ℕ) → state_in t ≡ 0 → announced s t a ≡ []
 unfolding announced
-announced-down s t a h = rw (eq-eqb _ _ h)
+announced_down s t a h = rw (eq-eqb _ _ h)
 
-pub announced-same : (s t : AsRecord) (a : ℕ) → (stateIn t ≡ 0 → ⊥) → stateIn s ≡ stateIn t → announced s t a ≡ []
+pub announced_same : (s t : AsRecord) (a : ℕ) → (state_in t ≡ 0 → ⊥) → state_in s ≡ state_in t → announced s t a ≡ []
 unfolding announced
-announced-same s t a g h = rw (ne_eqb _ _ g, eq-eqb _ _ h)
+announced_same s t a g h = rw (ne_eqb _ _ g, eq-eqb _ _ h)
 
-pub announced-new : (s t : AsRecord) (a : ℕ) → (stateIn t ≡ 0 → ⊥) → (stateIn s ≡ stateIn t → ⊥) → announced s t a ≡ toAll t.ups mgmtNotify a (asState (stateIn t))
+pub announced_new : (s t : AsRecord) (a : ℕ) → (state_in t ≡ 0 → ⊥) → (state_in s ≡ state_in t → ⊥) → announced s t a ≡ to_all t.ups mgmt_notify a (as_state (state_in t))
 unfolding announced
-announced-new s t a g h = rw (ne_eqb _ _ g, ne_eqb _ _ h)
+announced_new s t a g h = rw (ne_eqb _ _ g, ne_eqb _ _ h)

@@ -2,26 +2,26 @@
 -- Assumes nothing.
 use Rattle.std.specs.Prelude.{ℕ, ◌≤◌, List, ltb, length}
 use Rattle.std.proofs.Common.{arith}
-use Rattle.laws.specs.Below.{concatBelow, when}
-use Rattle.laws.specs.Inner.Below.{concat-short, when-short}
-use Rattle.state_tables.specs.Sound.{unitIndex}
+use Rattle.laws.specs.Below.{concat_below, when}
+use Rattle.laws.specs.Inner.Below.{concat_short, when_short}
+use Rattle.state_tables.specs.Sound.{unit_index}
 use Rattle.rules_action.specs.declared.Action.{Action}
 use Rattle.rules_server.specs.declared.Change.{Change}
 use Rattle.rules_server.specs.declared.Change.TheVariants.{AspUp, AspDown, Deactivate, Activate, Recover}
-use Rattle.rules_server.specs.Units.{sending, unitOut, unitsOut, letOut}
+use Rattle.rules_server.specs.Units.{sending, unit_out, units_out, let_out}
 
-pub unitOut-short : (p n : ℕ) (id : List ℕ) (a k : ℕ) → length (unitOut p n id a k) ≤ 1
-unfolding unitOut
-unitOut-short p n id a k = when-short (ltb k n) (sending p id (unitIndex a k))
+pub unit_out_short : (p n : ℕ) (id : List ℕ) (a k : ℕ) → length (unit_out p n id a k) ≤ 1
+unfolding unit_out
+unit_out_short p n id a k = when_short (ltb k n) (sending p id (unit_index a k))
 
-pub unitsOut-short : (p n : ℕ) (id : List ℕ) (a : ℕ) → length (unitsOut p n id a) ≤ 8
-unfolding unitsOut
-unitsOut-short p n id a = concat-short (unitOut p n id a) 1 (unitOut-short p n id a) 8
+pub units_out_short : (p n : ℕ) (id : List ℕ) (a : ℕ) → length (units_out p n id a) ≤ 8
+unfolding units_out
+units_out_short p n id a = concat_short (unit_out p n id a) 1 (unit_out_short p n id a) 8
 
-pub letOut-short : (k : Change) (n : ℕ) (id : List ℕ) (a : ℕ) → length (letOut k n id a) ≤ 8
-unfolding letOut
-letOut-short (AspUp p) n id a = omega arith
-letOut-short (AspDown p) n id a = omega arith
-letOut-short (Deactivate p) n id a = omega arith
-letOut-short (Activate p) n id a = unitsOut-short p n id a
-letOut-short Recover n id a = omega arith
+pub let_out_short : (k : Change) (n : ℕ) (id : List ℕ) (a : ℕ) → length (let_out k n id a) ≤ 8
+unfolding let_out
+let_out_short (AspUp p) n id a = omega arith
+let_out_short (AspDown p) n id a = omega arith
+let_out_short (Deactivate p) n id a = omega arith
+let_out_short (Activate p) n id a = units_out_short p n id a
+let_out_short Recover n id a = omega arith

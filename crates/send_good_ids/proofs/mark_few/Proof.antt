@@ -3,7 +3,7 @@ use Prim.Native.Nat.{◌-◌}
 use mathlib.Core.Bool.{false}
 use native.Mathlib.Omega.{arith}
 use borrow.Author.Rules.{rules}
-use Rattle.send_good_ids.specs.Inner.Marks.{Passed, passed_none, passed-id, passed-end}
+use Rattle.send_good_ids.specs.Inner.Marks.{Passed, passed_none, passed_id, passed_end}
 use Rattle.send_good_ids.proofs.mark_few.Statement.{statement}
 use Rattle.send_good_ids.proofs.mark_few.Tie as tie
 
@@ -23,10 +23,10 @@ mark-id-requires : tie.Need-mark-id-requires invariant-loop decreases-loop
 mark-id-requires c κs = let w = c.before.before.before.loop.invariant in (w.long, w.few, w.up)
 
 loop-again : tie.Need-loop-preserved invariant-loop decreases-loop
-loop-again c = passed-id c.before.before.before.before.loop.invariant (search rules) c.before.before.start-at.ensures c.mark-id.ensures
+loop-again c = passed_id c.before.before.before.before.loop.invariant (search rules) c.before.before.start-at.ensures c.mark-id.ensures
 
 returns : tie.Need-returns invariant-loop decreases-loop
-returns c = passed-end c.before.loop.invariant (search rules)
+returns c = passed_end c.before.loop.invariant (search rules)
 
 pub mark-few-spec : {M : Type 1} → statement M
 mark-few-spec =

@@ -4,7 +4,7 @@ use mathlib.Core.Bool.{false}
 use native.Mathlib.Omega.{arith}
 use borrow.Author.Rules.{rules}
 use Rattle.state_index.specs.Inner.Spots.{Spots}
-use Rattle.send_good_ids.specs.Inner.Marks.{Passed, passed_none, passed-id, passed-end, past-most, found-adds}
+use Rattle.send_good_ids.specs.Inner.Marks.{Passed, passed_none, passed_id, passed_end, past_most, found_adds}
 use Rattle.send_good_ids.proofs.mark_many.Statement.{statement}
 use Rattle.send_good_ids.proofs.mark_many.Tie as tie
 
@@ -30,15 +30,15 @@ past-if-requires : tie.Need-past-if-requires invariant-loop decreases-loop
 past-if-requires c κs = c.before.find.ensures.small
 
 mark-requires : tie.Need-mark-requires invariant-loop decreases-loop
-mark-requires c κs = (c.before.before.before.before.before.before.loop.invariant.0.long, c.before.before.find.ensures.small, past-most _ _ c.before.before.find.result.known c.past-if.ensures c.before.before.find.ensures.small)
+mark-requires c κs = (c.before.before.before.before.before.before.loop.invariant.0.long, c.before.before.find.ensures.small, past_most _ _ c.before.before.find.result.known c.past-if.ensures c.before.before.find.ensures.small)
 
 loop-again : tie.Need-loop-preserved invariant-loop decreases-loop
 loop-again c =
     let w = c.before.before.before.before.before.before.before.loop.invariant in
-    (passed-id w.0 (search rules) c.before.before.before.before.before.start-at.ensures (found-adds _ _ _ w.0.up c.before.before.before.find.ensures c.before.past-if.ensures c.mark.ensures), w.1)
+    (passed_id w.0 (search rules) c.before.before.before.before.before.start-at.ensures (found_adds _ _ _ w.0.up c.before.before.before.find.ensures c.before.past-if.ensures c.mark.ensures), w.1)
 
 returns : tie.Need-returns invariant-loop decreases-loop
-returns c = passed-end c.before.loop.invariant.0 (search rules)
+returns c = passed_end c.before.loop.invariant.0 (search rules)
 
 pub mark-many-spec : {M : Type 1} → statement M
 mark-many-spec =

@@ -3,7 +3,7 @@ use Prim.Native.Nat.{◌-◌}
 use mathlib.Core.Bool.{true}
 use native.Mathlib.Omega.{arith}
 use borrow.Author.Rules.{rules}
-use Rattle.send_good_ids.specs.Inner.Marks.{Passed, passed_none, passed-more, passed-end}
+use Rattle.send_good_ids.specs.Inner.Marks.{Passed, passed_none, passed_more, passed_end}
 use Rattle.send_good_ids.proofs.mark_ranges.Statement.{statement}
 use Rattle.send_good_ids.proofs.mark_ranges.Tie as tie
 
@@ -27,10 +27,10 @@ mark-range-requires c κs = let w = c.before.before.before.before.loop.invariant
 
 loop-again : tie.Need-loop-preserved invariant-loop decreases-loop
 loop-again c =
-    passed-more c.before.before.before.before.before.loop.invariant (search rules) c.before.before.before.start-at.ensures c.before.before.stop-at.ensures c.mark-range.ensures
+    passed_more c.before.before.before.before.before.loop.invariant (search rules) c.before.before.before.start-at.ensures c.before.before.stop-at.ensures c.mark-range.ensures
 
 returns : tie.Need-returns invariant-loop decreases-loop
-returns c = passed-end c.before.loop.invariant (search rules)
+returns c = passed_end c.before.loop.invariant (search rules)
 
 pub mark-ranges-spec : {M : Type 1} → statement M
 mark-ranges-spec =

@@ -3,14 +3,14 @@ use Prim.Native.Nat.{◌≤◌, ◌-◌}
 use mathlib.Core.Path.{◌≡◌, sym, ◌∙◌}
 use native.Mathlib.Omega.{arith}
 use borrow.Author.Rules.{rules}
-use Rattle.laws.specs.Below.{countBelow}
-use Rattle.laws.specs.Inner.Below.{at-end, count_none, count-more}
+use Rattle.laws.specs.Below.{count_below}
+use Rattle.laws.specs.Inner.Below.{at_end, count_none, count_more}
 use Rattle.send_message.specs.Inner.Form.{owns}
 use Rattle.send_message.proofs.count_byte.Statement.{statement}
 use Rattle.send_message.proofs.count_byte.Tie as tie
 
 abbrev invariant-loop : tie.invariant-loop
-invariant-loop owner links a n₀ l₀ n l = (n ≡ countBelow (owns owner a) l) × (n ≤ l) × (l ≤ links) × (links ≤ 128)
+invariant-loop owner links a n₀ l₀ n l = (n ≡ count_below (owns owner a) l) × (n ≤ l) × (l ≤ links) × (links ≤ 128)
 
 abbrev decreases-loop : tie.decreases-loop
 decreases-loop owner links a n₀ l₀ n l = links - l
@@ -19,12 +19,12 @@ loop-holds : tie.Need-loop-init invariant-loop decreases-loop
 loop-holds c = (sym (count_none _), search rules, search rules, search rules)
 
 loop-again : tie.Need-loop-preserved invariant-loop decreases-loop
-loop-again c = (rw (count-more, c.before.before.before.loop.invariant.0, c.one-if.ensures.0), omega (arith, c.one-if.ensures.1), search rules, search rules)
+loop-again c = (rw (count_more, c.before.before.before.loop.invariant.0, c.one-if.ensures.0), omega (arith, c.one-if.ensures.1), search rules, search rules)
 
 returns : tie.Need-returns invariant-loop decreases-loop
 returns c =
     let i = c.before.before.loop.invariant in
-    (c.wide.ensures ∙ at-end (countBelow _) i.0 c.before.loop-test.false i.2, omega (arith, c.wide.ensures))
+    (c.wide.ensures ∙ at_end (count_below _) i.0 c.before.loop-test.false i.2, omega (arith, c.wide.ensures))
 
 pub count-byte-spec : {M : Type 1} → statement M
 count-byte-spec =

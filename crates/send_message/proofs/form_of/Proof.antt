@@ -1,11 +1,11 @@
 use Rattle.laws.specs.Inner.Choice.{choices}
-use Rattle.send_message.specs.Inner.Form.{formOf}
+use Rattle.send_message.specs.Inner.Form.{form_of}
 use borrow.Author.Rules.{rules}
 use Rattle.send_message.proofs.form_of.Statement.{statement}
 use Rattle.send_message.proofs.form_of.Tie as tie
 
 pub form-of-spec : {M : Type 1} → statement M
-unfolding formOf
+unfolding form_of
 form-of-spec =
     tie.close
     (tie.spec

@@ -5,9 +5,9 @@ use lib.ListN.{length}
 use borrow.Author.Rules.{rules}
 use Rattle.codec_put.specs.Bytes.{bytes16}
 use Rattle.codec_put.proofs.Sets.{length_over}
-use Rattle.codec_select.proofs.Runs.{put-none, run-two}
+use Rattle.codec_select.proofs.Runs.{put_none, run_two}
 use Rattle.send_message.specs.Inner.Form.{ids_in}
-use Rattle.send_message.proofs.Owned.{Lists, listed-none, listed-length, listed_at, listed-put}
+use Rattle.send_message.proofs.Owned.{Lists, listed_none, listed_length, listed_at, listed_put}
 use Rattle.send_message.proofs.put_listed.Statement.{statement}
 use Rattle.send_message.proofs.put_listed.Tie as tie
 
@@ -18,27 +18,27 @@ lists c = listed_at _ _ _ _ _ c.before.listed-size.ensures.0 c.if1.false
 
 returns : tie.Need-returns
 returns c = let a = c.before.before.before.args in
-    rw (listed-none a.iid.now a.owner.now a.links a.f (sym c.before.listed-size.ensures.0 ∙ c.if1.true)) (put-none _ _)
+    rw (listed_none a.iid.now a.owner.now a.links a.f (sym c.before.listed-size.ensures.0 ∙ c.if1.true)) (put_none _ _)
 
 put-head-requires : tie.Need-put-head-requires
 put-head-requires c κs = let a = c.before.before.before.before.args in
     let h = lists c.before in
     let s = h.size_is in
-    let e = listed-length a.iid.now a.owner.now a.links a.f in
+    let e = listed_length a.iid.now a.owner.now a.links a.f in
     omega arith
 
 put-owned-requires : tie.Need-put-owned-requires
 put-owned-requires c κs = let a = c.before.before.before.before.before.before.before.before.args in
     let h = lists c.before.before.before.before.before in
     let s = h.size_is in
-    let e = listed-length a.iid.now a.owner.now a.links a.f in
+    let e = listed_length a.iid.now a.owner.now a.links a.f in
     let l = ap length c.before.before.before.put-head.ensures ∙ length_over _ _ _ in
     (search rules, omega arith)
 
 returns-2 : tie.Need-returns-2
 returns-2 c = let a = c.before.before.before.before.before.before.before.before.before.before.before.args in
-    listed-put a.iid.now a.owner.now a.links a.f _ (lists c.before.before.before.before.before.before.before.before) _ _ _ _
-    (run-two (bytes16 0x1 ++ bytes16 c.before.before.before.before.before.before.before.before.before.listed-size.result) (ids_in a.iid.now a.owner.now a.links a.f.owned)
+    listed_put a.iid.now a.owner.now a.links a.f _ (lists c.before.before.before.before.before.before.before.before) _ _ _ _
+    (run_two (bytes16 0x1 ++ bytes16 c.before.before.before.before.before.before.before.before.before.listed-size.result) (ids_in a.iid.now a.owner.now a.links a.f.owned)
     (record { next = refl; bytes = c.before.before.before.before.before.before.put-head.ensures }) c.before.before.put-owned.ensures)
 
 pub put-listed-spec : {M : Type 1} → statement M

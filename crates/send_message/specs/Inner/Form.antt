@@ -8,22 +8,22 @@ use Rattle.std.proofs.Math.Bool.{true, false, cond, not}
 use Rattle.std.proofs.lemmas.Bool.{false≢true}
 use mathlib.Core.List.{List, [], ◌∷◌, ◌++◌, append-nil}
 use Rattle.std.proofs.Math.Dec.{eqb}
-use Rattle.laws.specs.Below.{concatBelow, countBelow, when}
+use Rattle.laws.specs.Below.{concat_below, count_below, when}
 use Rattle.laws.specs.Columns.{number_at}
-use Rattle.codec_wire.specs.Walk.{Par, stepAt, walkF, walk}
-use Rattle.codec_put.specs.Bytes.{par, parSize, bytes32}
+use Rattle.codec_wire.specs.Walk.{Par, step_at, walk_f, walk}
+use Rattle.codec_put.specs.Bytes.{par, par_size, bytes32}
 use Rattle.codec_write.specs.Encode.{size_of}
 use Rattle.codec_select.specs.Only.{only}
-use Rattle.codec_select.specs.Inner.Picks.{picks, only_none, only-all}
+use Rattle.codec_select.specs.Inner.Picks.{picks, only_none, only_all}
 use Rattle.codec_select.specs.declared.Which.{Which}
 use Rattle.codec_select.specs.declared.Which.TheVariants.{Nothing, All, Mode, Ids, Heartbeat}
 use Rattle.state_tables.specs.declared.Gateway.{Gateway}
 use Rattle.rules_action.specs.declared.Action.{Action}
-use Rattle.rules_action.specs.Types.{mgmtError, mgmtNotify, beatAck, aspUpAck, aspDownAck, aspActiveAck, aspInactiveAck, userData, dataAck}
-use Rattle.rules_event.specs.Event.{EventKind, message, lost, recovery, linkUp, linkDown, linkMessage}
-use Rattle.rules_event.specs.Sent.{isPassed}
-use Rattle.send_message.specs.Message.{numberPar, listPar, ids_of, idsPar, errorPars, notifyPars, trafficAckPars, beatAckPars, linkPars, heldBody, unitPars, replyPars, sentPars}
-use Rattle.send_message.specs.Inner.Stands.{isTrafficAck, StandsFor, stands-none, Lends}
+use Rattle.rules_action.specs.Types.{mgmt_error, mgmt_notify, beat_ack, asp_up_ack, asp_down_ack, asp_active_ack, asp_inactive_ack, user_data, data_ack}
+use Rattle.rules_event.specs.Event.{EventKind, message, lost, recovery, link_up, link_down, link_message}
+use Rattle.rules_event.specs.Sent.{is_passed}
+use Rattle.send_message.specs.Message.{number_par, list_par, ids_of, ids_par, error_pars, notify_pars, traffic_ack_pars, beat_ack_pars, link_pars, held_body, unit_pars, reply_pars, sent_pars}
+use Rattle.send_message.specs.Inner.Stands.{is_traffic_ack, StandsFor, stands_none, Lends}
 use Rattle.send_message.specs.declared.Form.{Form}
 use Rattle.send_message.specs.declared.Unit.{Unit}
 
@@ -38,42 +38,42 @@ id_at iid owner a l = cond (owns owner a l) (bytes32 (number_at iid l)) []
 
 -- the identifiers of AS a's links, of the first n
 unfoldable pub ids_in : List ℕ → List ℕ → ℕ → ℕ → List ℕ
-ids_in iid owner n a = concatBelow (id_at iid owner a) n
+ids_in iid owner n a = concat_below (id_at iid owner a) n
 
-unfoldable pub idsParIn : List ℕ → List ℕ → ℕ → ℕ → List Par
-idsParIn iid owner n a = listPar (ids_in iid owner n a)
+unfoldable pub ids_par_in : List ℕ → List ℕ → ℕ → ℕ → List Par
+ids_par_in iid owner n a = list_par (ids_in iid owner n a)
 
 -- the data of a unit, whose body is lent, and the second number
-unfoldable pub heldPars : List ℕ → Form → List Par
-heldPars body f = when f.held (par f.heldtag body) ++ when f.two (numberPar f.tag2 f.number2)
+unfoldable pub held_pars : List ℕ → Form → List Par
+held_pars body f = when f.held (par f.heldtag body) ++ when f.two (number_par f.tag2 f.number2)
 
-unfoldable pub saidPars : List ℕ → Form → List Par
-saidPars body f = when f.one (numberPar f.tag f.number) ++ heldPars body f
+unfoldable pub said_pars : List ℕ → Form → List Par
+said_pars body f = when f.one (number_par f.tag f.number) ++ held_pars body f
 
-unfoldable pub listedPars : List ℕ → List ℕ → ℕ → Form → List Par
-listedPars iid owner n f = cond f.listed (idsParIn iid owner n f.owned) []
+unfoldable pub listed_pars : List ℕ → List ℕ → ℕ → Form → List Par
+listed_pars iid owner n f = cond f.listed (ids_par_in iid owner n f.owned) []
 
-unfoldable pub copiedPars : List Par → Form → List Par
-copiedPars ps f = only (picks f.first) ps ++ only (picks f.after) ps
+unfoldable pub copied_pars : List Par → Form → List Par
+copied_pars ps f = only (picks f.first) ps ++ only (picks f.after) ps
 
-unfoldable pub formPars : List ℕ → List ℕ → ℕ → List Par → List ℕ → Form → List Par
-formPars iid owner n ps body f = saidPars body f ++ (listedPars iid owner n f ++ copiedPars ps f)
+unfoldable pub form_pars : List ℕ → List ℕ → ℕ → List Par → List ℕ → Form → List Par
+form_pars iid owner n ps body f = said_pars body f ++ (listed_pars iid owner n f ++ copied_pars ps f)
 
 -- the message of a form goes into a buffer at a position
 pub record FormFits (iid owner : List ℕ) (n : ℕ) (ps : List Par) (body : List ℕ) (f : Form) (size at : ℕ) (out : List ℕ) : Type 0 where
   pub links : n ≤ 128
   pub short : length body ≤ 65531
-  pub size_is : size ≡ size_of (formPars iid owner n ps body f)
+  pub size_is : size ≡ size_of (form_pars iid owner n ps body f)
   pub small : size ≤ 2048
   pub room : at + size ≤ length out
 
 -- the bytes that a unit's data take in their parameter
-unfoldable pub dataSize : Bool → ℕ → ℕ
-dataSize held n = cond held (parSize n) 0
+unfoldable pub data_size : Bool → ℕ → ℕ
+data_size held n = cond held (par_size n) 0
 
 -- the bytes that the identifiers take in their parameter, from how many there are
-unfoldable pub listedSize : List ℕ → ℕ → Bool → ℕ → ℕ
-listedSize owner n listed a = cond listed (cond (eqb (countBelow (owns owner a) n) 0) 0 (4 + 4 * countBelow (owns owner a) n)) 0
+unfoldable pub listed_size : List ℕ → ℕ → Bool → ℕ → ℕ
+listed_size owner n listed a = cond listed (cond (eqb (count_below (owns owner a) n) 0) 0 (4 + 4 * count_below (owns owner a) n)) 0
 
 -- ---- the form of an action
 
@@ -153,16 +153,16 @@ copying ct first after =
 
 -- of an action that passes a message on, or of one that the gateway makes; u is the unit that it sends, if it
 -- sends one
-unfoldable pub formOf : Bool → Action → Unit → Form
-formOf passed o u =
+unfoldable pub form_of : Bool → Action → Unit → Form
+form_of passed o u =
     cond passed (copying o.classtype All Nothing)
-    (cond (eqb o.classtype mgmtError) (saying o.classtype 0xc o.value (eqb o.value 2) 0x1 o.subject)
-    (cond (eqb o.classtype mgmtNotify) (listing o.classtype 0xd o.value o.subject)
-    (cond (eqb o.classtype aspUpAck || eqb o.classtype aspDownAck) (copying o.classtype Nothing Nothing)
-    (cond (eqb o.classtype beatAck) (copying o.classtype Heartbeat Nothing)
-    (cond (eqb o.classtype aspActiveAck || eqb o.classtype aspInactiveAck) (copying o.classtype Mode Ids)
-    (cond (eqb o.classtype userData) (releasing o.classtype o.subject u)
-    (saying o.classtype 0x1 o.subject (eqb o.classtype dataAck) 0x13 o.value)))))))
+    (cond (eqb o.classtype mgmt_error) (saying o.classtype 0xc o.value (eqb o.value 2) 0x1 o.subject)
+    (cond (eqb o.classtype mgmt_notify) (listing o.classtype 0xd o.value o.subject)
+    (cond (eqb o.classtype asp_up_ack || eqb o.classtype asp_down_ack) (copying o.classtype Nothing Nothing)
+    (cond (eqb o.classtype beat_ack) (copying o.classtype Heartbeat Nothing)
+    (cond (eqb o.classtype asp_active_ack || eqb o.classtype asp_inactive_ack) (copying o.classtype Mode Ids)
+    (cond (eqb o.classtype user_data) (releasing o.classtype o.subject u)
+    (saying o.classtype 0x1 o.subject (eqb o.classtype data_ack) 0x13 o.value)))))))
 
 -- the unit at an index
 unfoldable pub unit_of : Gateway → ℕ → Unit
@@ -171,73 +171,73 @@ unit_of g i = record { tag = number_at g.held.tag i; marked = eqb (number_at g.h
 -- ---- it says what the message has
 
 -- nothing is copied
-none-twice : (ps : List Par) → only (picks Nothing) ps ++ only (picks Nothing) ps ≡ []
-none-twice ps = rw (only_none ps)
+none_twice : (ps : List Par) → only (picks Nothing) ps ++ only (picks Nothing) ps ≡ []
+none_twice ps = rw (only_none ps)
 
 none_after : (ps qs : List Par) → qs ++ only (picks Nothing) ps ≡ qs
 none_after ps qs = rw (only_none ps) (append-nil qs)
 
 module _ (iid owner : List ℕ) (n : ℕ) (ps : List Par) (body : List ℕ) where
   abbrev pars : Form → List Par
-  pars f = formPars iid owner n ps body f
+  pars f = form_pars iid owner n ps body f
 
-  pub copying-pars : (ct : ℕ) (a b : Which) → pars (copying ct a b) ≡ only (picks a) ps ++ only (picks b) ps
-  unfolding formPars saidPars heldPars listedPars copiedPars
-  copying-pars ct a b = refl
+  pub copying_pars : (ct : ℕ) (a b : Which) → pars (copying ct a b) ≡ only (picks a) ps ++ only (picks b) ps
+  unfolding form_pars said_pars held_pars listed_pars copied_pars
+  copying_pars ct a b = refl
 
-  pub saying-pars : (ct t m : ℕ) (two : Bool) (t2 m2 : ℕ) → pars (saying ct t m two t2 m2) ≡ numberPar t m ∷ when two (numberPar t2 m2)
-  unfolding formPars saidPars heldPars listedPars copiedPars
-  saying-pars ct t m two t2 m2 = rw (none-twice ps) (ap (λ (x : List Par). numberPar t m ∷ x) (append-nil (when two (numberPar t2 m2))))
+  pub saying_pars : (ct t m : ℕ) (two : Bool) (t2 m2 : ℕ) → pars (saying ct t m two t2 m2) ≡ number_par t m ∷ when two (number_par t2 m2)
+  unfolding form_pars said_pars held_pars listed_pars copied_pars
+  saying_pars ct t m two t2 m2 = rw (none_twice ps) (ap (λ (x : List Par). number_par t m ∷ x) (append-nil (when two (number_par t2 m2))))
 
-  pub releasing-pars : (ct m : ℕ) (u : Unit) → pars (releasing ct m u) ≡ numberPar 0x1 m ∷ par u.tag body ∷ when u.marked (numberPar 0x13 u.correlation)
-  unfolding formPars saidPars heldPars listedPars copiedPars
-  releasing-pars ct m u = rw (none-twice ps) (ap (λ (x : List Par). numberPar 0x1 m ∷ par u.tag body ∷ x) (append-nil (when u.marked (numberPar 0x13 u.correlation))))
+  pub releasing_pars : (ct m : ℕ) (u : Unit) → pars (releasing ct m u) ≡ number_par 0x1 m ∷ par u.tag body ∷ when u.marked (number_par 0x13 u.correlation)
+  unfolding form_pars said_pars held_pars listed_pars copied_pars
+  releasing_pars ct m u = rw (none_twice ps) (ap (λ (x : List Par). number_par 0x1 m ∷ par u.tag body ∷ x) (append-nil (when u.marked (number_par 0x13 u.correlation))))
 
-  pub listing-pars : (ct t m a : ℕ) → pars (listing ct t m a) ≡ numberPar t m ∷ idsParIn iid owner n a
-  unfolding formPars saidPars heldPars listedPars copiedPars
-  listing-pars ct t m a = rw (none-twice ps) (ap (λ (x : List Par). numberPar t m ∷ x) (append-nil (idsParIn iid owner n a)))
+  pub listing_pars : (ct t m a : ℕ) → pars (listing ct t m a) ≡ number_par t m ∷ ids_par_in iid owner n a
+  unfolding form_pars said_pars held_pars listed_pars copied_pars
+  listing_pars ct t m a = rw (none_twice ps) (ap (λ (x : List Par). number_par t m ∷ x) (append-nil (ids_par_in iid owner n a)))
 
-pub form-passed : (g : Gateway) (ps : List Par) (body : List ℕ) (o : Action) (u : Unit) → formPars g.iid g.owner g.links ps body (formOf true o u) ≡ ps
-unfolding formOf
-form-passed g ps body o u = copying-pars g.iid g.owner g.links ps body o.classtype All Nothing ∙ none_after ps (only (picks All) ps) ∙ only-all ps
+pub form_passed : (g : Gateway) (ps : List Par) (body : List ℕ) (o : Action) (u : Unit) → form_pars g.iid g.owner g.links ps body (form_of true o u) ≡ ps
+unfolding form_of
+form_passed g ps body o u = copying_pars g.iid g.owner g.links ps body o.classtype All Nothing ∙ none_after ps (only (picks All) ps) ∙ only_all ps
 
 -- each answer of the gateway, by its message; i is the index of the unit that it sends, and the parameters ps
 -- that are lent stand for those received, rs
 module _ (g : Gateway) (h : List ℕ) (rs ps : List Par) (i : ℕ) (o : Action) (w : StandsFor g rs ps o) where
   abbrev on : Form → List Par
-  on f = formPars g.iid g.owner g.links ps (heldBody g h i) f
+  on f = form_pars g.iid g.owner g.links ps (held_body g h i) f
 
-  error-is : on (saying o.classtype 0xc o.value (eqb o.value 2) 0x1 o.subject) ≡ errorPars o
-  unfolding errorPars
-  error-is = saying-pars g.iid g.owner g.links ps (heldBody g h i) o.classtype 0xc o.value (eqb o.value 2) 0x1 o.subject
+  error_is : on (saying o.classtype 0xc o.value (eqb o.value 2) 0x1 o.subject) ≡ error_pars o
+  unfolding error_pars
+  error_is = saying_pars g.iid g.owner g.links ps (held_body g h i) o.classtype 0xc o.value (eqb o.value 2) 0x1 o.subject
 
-  notify-is : on (listing o.classtype 0xd o.value o.subject) ≡ notifyPars g o
-  unfolding notifyPars idsPar ids_of idsParIn ids_in
-  notify-is = listing-pars g.iid g.owner g.links ps (heldBody g h i) o.classtype 0xd o.value o.subject
+  notify_is : on (listing o.classtype 0xd o.value o.subject) ≡ notify_pars g o
+  unfolding notify_pars ids_par ids_of ids_par_in ids_in
+  notify_is = listing_pars g.iid g.owner g.links ps (held_body g h i) o.classtype 0xd o.value o.subject
 
   none_is : on (copying o.classtype Nothing Nothing) ≡ []
-  none_is = copying-pars g.iid g.owner g.links ps (heldBody g h i) o.classtype Nothing Nothing ∙ none-twice ps
+  none_is = copying_pars g.iid g.owner g.links ps (held_body g h i) o.classtype Nothing Nothing ∙ none_twice ps
 
-  beat-is : eqb o.classtype beatAck ≡ true → on (copying o.classtype Heartbeat Nothing) ≡ beatAckPars rs
-  unfolding beatAckPars
-  beat-is e = copying-pars g.iid g.owner g.links ps (heldBody g h i) o.classtype Heartbeat Nothing ∙ none_after ps (only (picks Heartbeat) ps) ∙ w.beats e
+  beat_is : eqb o.classtype beat_ack ≡ true → on (copying o.classtype Heartbeat Nothing) ≡ beat_ack_pars rs
+  unfolding beat_ack_pars
+  beat_is e = copying_pars g.iid g.owner g.links ps (held_body g h i) o.classtype Heartbeat Nothing ∙ none_after ps (only (picks Heartbeat) ps) ∙ w.beats e
 
-  traffic-is : isTrafficAck o.classtype ≡ true → on (copying o.classtype Mode Ids) ≡ trafficAckPars g o.to rs
-  traffic-is e = copying-pars g.iid g.owner g.links ps (heldBody g h i) o.classtype Mode Ids ∙ w.traffics e
+  traffic_is : is_traffic_ack o.classtype ≡ true → on (copying o.classtype Mode Ids) ≡ traffic_ack_pars g o.to rs
+  traffic_is e = copying_pars g.iid g.owner g.links ps (held_body g h i) o.classtype Mode Ids ∙ w.traffics e
 
-  unit-is : on (releasing o.classtype o.subject (unit_of g i)) ≡ unitPars g h i o
-  unfolding unitPars unit_of
-  unit-is = releasing-pars g.iid g.owner g.links ps (heldBody g h i) o.classtype o.subject (unit_of g i)
+  unit_is : on (releasing o.classtype o.subject (unit_of g i)) ≡ unit_pars g h i o
+  unfolding unit_pars unit_of
+  unit_is = releasing_pars g.iid g.owner g.links ps (held_body g h i) o.classtype o.subject (unit_of g i)
 
-  link-is : on (saying o.classtype 0x1 o.subject (eqb o.classtype dataAck) 0x13 o.value) ≡ linkPars o
-  unfolding linkPars
-  link-is = saying-pars g.iid g.owner g.links ps (heldBody g h i) o.classtype 0x1 o.subject (eqb o.classtype dataAck) 0x13 o.value
+  link_is : on (saying o.classtype 0x1 o.subject (eqb o.classtype data_ack) 0x13 o.value) ≡ link_pars o
+  unfolding link_pars
+  link_is = saying_pars g.iid g.owner g.links ps (held_body g h i) o.classtype 0x1 o.subject (eqb o.classtype data_ack) 0x13 o.value
 
-  pub form-reply : formPars g.iid g.owner g.links ps (heldBody g h i) (formOf false o (unit_of g i)) ≡ replyPars g h rs i o
-  unfolding formOf replyPars
-  form-reply = go (eqb o.classtype mgmtError) (eqb o.classtype mgmtNotify) (eqb o.classtype aspUpAck || eqb o.classtype aspDownAck) (eqb o.classtype beatAck) (isTrafficAck o.classtype) (eqb o.classtype userData) refl refl
+  pub form_reply : form_pars g.iid g.owner g.links ps (held_body g h i) (form_of false o (unit_of g i)) ≡ reply_pars g h rs i o
+  unfolding form_of reply_pars
+  form_reply = go (eqb o.classtype mgmt_error) (eqb o.classtype mgmt_notify) (eqb o.classtype asp_up_ack || eqb o.classtype asp_down_ack) (eqb o.classtype beat_ack) (is_traffic_ack o.classtype) (eqb o.classtype user_data) refl refl
     where
-      go : (e n u b a d : Bool) → eqb o.classtype beatAck ≡ b → isTrafficAck o.classtype ≡ a
+      go : (e n u b a d : Bool) → eqb o.classtype beat_ack ≡ b → is_traffic_ack o.classtype ≡ a
           → on
           (cond e (saying o.classtype 0xc o.value (eqb o.value 2) 0x1 o.subject)
           (cond n (listing o.classtype 0xd o.value o.subject)
@@ -245,23 +245,23 @@ module _ (g : Gateway) (h : List ℕ) (rs ps : List Par) (i : ℕ) (o : Action) 
           (cond b (copying o.classtype Heartbeat Nothing)
           (cond a (copying o.classtype Mode Ids)
           (cond d (releasing o.classtype o.subject (unit_of g i))
-          (saying o.classtype 0x1 o.subject (eqb o.classtype dataAck) 0x13 o.value)))))))
-          ≡ cond e (errorPars o) (cond n (notifyPars g o) (cond u [] (cond b (beatAckPars rs) (cond a (trafficAckPars g o.to rs) (cond d (unitPars g h i o) (linkPars o))))))
-      go true n u b a d x y = error-is
-      go false true u b a d x y = notify-is
+          (saying o.classtype 0x1 o.subject (eqb o.classtype data_ack) 0x13 o.value)))))))
+          ≡ cond e (error_pars o) (cond n (notify_pars g o) (cond u [] (cond b (beat_ack_pars rs) (cond a (traffic_ack_pars g o.to rs) (cond d (unit_pars g h i o) (link_pars o))))))
+      go true n u b a d x y = error_is
+      go false true u b a d x y = notify_is
       go false false true b a d x y = none_is
-      go false false false true a d x y = beat-is x
-      go false false false false true d x y = traffic-is y
-      go false false false false false true x y = unit-is
-      go false false false false false false x y = link-is
+      go false false false true a d x y = beat_is x
+      go false false false false true d x y = traffic_is y
+      go false false false false false true x y = unit_is
+      go false false false false false false x y = link_is
 
 -- ---- each form that an action may have, and what it depends on
 
 module _ (P : Form → Type 0) (passed : Bool) (o : Action) (u : Unit) where
-  pub form-cases : ((a b : Which) → P (copying o.classtype a b)) → ((t m : ℕ) (two : Bool) (t2 m2 : ℕ) → P (saying o.classtype t m two t2 m2)) → ((t m a : ℕ) → P (listing o.classtype t m a))
-      → ((eqb o.classtype userData && not passed) ≡ true → P (releasing o.classtype o.subject u)) → P (formOf passed o u)
-  unfolding formOf
-  form-cases c s l r = go passed (eqb o.classtype mgmtError) (eqb o.classtype mgmtNotify) (eqb o.classtype aspUpAck || eqb o.classtype aspDownAck) (eqb o.classtype beatAck) (eqb o.classtype aspActiveAck || eqb o.classtype aspInactiveAck) (eqb o.classtype userData) r
+  pub form_cases : ((a b : Which) → P (copying o.classtype a b)) → ((t m : ℕ) (two : Bool) (t2 m2 : ℕ) → P (saying o.classtype t m two t2 m2)) → ((t m a : ℕ) → P (listing o.classtype t m a))
+      → ((eqb o.classtype user_data && not passed) ≡ true → P (releasing o.classtype o.subject u)) → P (form_of passed o u)
+  unfolding form_of
+  form_cases c s l r = go passed (eqb o.classtype mgmt_error) (eqb o.classtype mgmt_notify) (eqb o.classtype asp_up_ack || eqb o.classtype asp_down_ack) (eqb o.classtype beat_ack) (eqb o.classtype asp_active_ack || eqb o.classtype asp_inactive_ack) (eqb o.classtype user_data) r
     where
       go : (p e n v b a d : Bool) → ((d && not p) ≡ true → P (releasing o.classtype o.subject u))
           → P
@@ -272,7 +272,7 @@ module _ (P : Form → Type 0) (passed : Bool) (o : Action) (u : Unit) where
           (cond b (copying o.classtype Heartbeat Nothing)
           (cond a (copying o.classtype Mode Ids)
           (cond d (releasing o.classtype o.subject u)
-          (saying o.classtype 0x1 o.subject (eqb o.classtype dataAck) 0x13 o.value))))))))
+          (saying o.classtype 0x1 o.subject (eqb o.classtype data_ack) 0x13 o.value))))))))
       go true e n v b a d q = c _ _
       go false true n v b a d q = s _ _ _ _ _
       go false false true v b a d q = l _ _ _
@@ -282,45 +282,45 @@ module _ (P : Form → Type 0) (passed : Bool) (o : Action) (u : Unit) where
       go false false false false false false true q = q refl
       go false false false false false false false q = s _ _ _ _ _
 
-and-true : (b : Bool) → (b && true) ≡ false → b ≡ false
-and-true true e = e
-and-true false e = e
+and_true : (b : Bool) → (b && true) ≡ false → b ≡ false
+and_true true e = e
+and_true false e = e
 
 -- the unit and its bytes are in the message of Data that is not passed on, and in no other
-module _ (passed : Bool) (o : Action) (h : (eqb o.classtype userData && not passed) ≡ false) where
-  no-unit : (u : Unit) → (formOf passed o u).held ≡ false
-  no-unit u = form-cases (λ f. f.held ≡ false) passed o u (λ a b. refl) (λ t m two t2 m2. refl) (λ t m a. refl) (λ e. absurd (false≢true (sym h ∙ e)))
+module _ (passed : Bool) (o : Action) (h : (eqb o.classtype user_data && not passed) ≡ false) where
+  no_unit : (u : Unit) → (form_of passed o u).held ≡ false
+  no_unit u = form_cases (λ f. f.held ≡ false) passed o u (λ a b. refl) (λ t m two t2 m2. refl) (λ t m a. refl) (λ e. absurd (false≢true (sym h ∙ e)))
 
-  pub other-form : (u v : Unit) → formOf passed o u ≡ formOf passed o v
-  unfolding formOf
-  other-form u v = go passed h
+  pub other_form : (u v : Unit) → form_of passed o u ≡ form_of passed o v
+  unfolding form_of
+  other_form u v = go passed h
     where
-      go : (p : Bool) → (eqb o.classtype userData && not p) ≡ false → formOf p o u ≡ formOf p o v
+      go : (p : Bool) → (eqb o.classtype user_data && not p) ≡ false → form_of p o u ≡ form_of p o v
       go true q = refl
-      go false q = rw (and-true (eqb o.classtype userData) q)
+      go false q = rw (and_true (eqb o.classtype user_data) q)
 
-  pub other-pars : (iid owner : List ℕ) (n : ℕ) (ps : List Par) (b c : List ℕ) (u : Unit) → formPars iid owner n ps b (formOf passed o u) ≡ formPars iid owner n ps c (formOf passed o u)
-  unfolding formPars saidPars heldPars
-  other-pars iid owner n ps b c u = rw (no-unit u)
+  pub other_pars : (iid owner : List ℕ) (n : ℕ) (ps : List Par) (b c : List ℕ) (u : Unit) → form_pars iid owner n ps b (form_of passed o u) ≡ form_pars iid owner n ps c (form_of passed o u)
+  unfolding form_pars said_pars held_pars
+  other_pars iid owner n ps b c u = rw (no_unit u)
 
 -- ---- of an event: the message lent
 
-pub no-pars : (walk [] 8).pars ≡ []
-unfolding walk walkF stepAt
-no-pars = refl
+pub no_pars : (walk [] 8).pars ≡ []
+unfolding walk walk_f step_at
+no_pars = refl
 
 module _ (g : Gateway) (h : List ℕ) (i : ℕ) (o : Action) (x : List ℕ) where
-  no-message : x ≡ [] → replyPars g h [] i o ≡ formPars g.iid g.owner g.links (walk x 8).pars (heldBody g h i) (formOf false o (unit_of g i))
-  no-message e = rw (e, no-pars) (sym (form-reply g h [] [] i o (stands-none g o)))
+  no_message : x ≡ [] → reply_pars g h [] i o ≡ form_pars g.iid g.owner g.links (walk x 8).pars (held_body g h i) (form_of false o (unit_of g i))
+  no_message e = rw (e, no_pars) (sym (form_reply g h [] [] i o (stands_none g o)))
 
-  pub sent-form : (k : EventKind) → Lends g k x o → sentPars g h k i o ≡ formPars g.iid g.owner g.links (walk x 8).pars (heldBody g h i) (formOf (isPassed k) o (unit_of g i))
-  sent-form (message p s) w = sym (form-reply g h (walk s 8).pars (walk x 8).pars i o w)
-  sent-form (lost p) e = no-message e
-  sent-form (recovery a) e = no-message e
-  sent-form (linkUp l) e = no-message e
-  sent-form (linkDown l) e = no-message e
-  sent-form (linkMessage s) e = rw e (sym (form-passed g (walk s 8).pars (heldBody g h i) o (unit_of g i)))
+  pub sent_form : (k : EventKind) → Lends g k x o → sent_pars g h k i o ≡ form_pars g.iid g.owner g.links (walk x 8).pars (held_body g h i) (form_of (is_passed k) o (unit_of g i))
+  sent_form (message p s) w = sym (form_reply g h (walk s 8).pars (walk x 8).pars i o w)
+  sent_form (lost p) e = no_message e
+  sent_form (recovery a) e = no_message e
+  sent_form (link_up l) e = no_message e
+  sent_form (link_down l) e = no_message e
+  sent_form (link_message s) e = rw e (sym (form_passed g (walk s 8).pars (held_body g h i) o (unit_of g i)))
 
 -- the class of a form is the action's, whose classes are below 256
-pub form-class : (ct : ℕ) → ct < 65536 → class_of ct ≡ ct / 256
-form-class ct h = omega arith
+pub form_class : (ct : ℕ) → ct < 65536 → class_of ct ≡ ct / 256
+form_class ct h = omega arith

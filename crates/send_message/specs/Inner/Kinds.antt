@@ -6,17 +6,17 @@ use Rattle.std.proofs.Math.Dec.{eqb}
 use Rattle.std.proofs.Common.{ne_eqb}
 use Rattle.state_tables.specs.declared.Gateway.{Gateway}
 use Rattle.rules_action.specs.declared.Action.{Action}
-use Rattle.event_asked.specs.Happened.{messageKind, linkMessageKind, happened}
-use Rattle.rules_event.specs.Event.{EventKind, message, lost, recovery, linkUp, linkDown, linkMessage, messageOf}
-use Rattle.rules_event.specs.Sent.{isPassed}
+use Rattle.event_asked.specs.Happened.{message_kind, link_message_kind, happened}
+use Rattle.rules_event.specs.Event.{EventKind, message, lost, recovery, link_up, link_down, link_message, message_of}
+use Rattle.rules_event.specs.Sent.{is_passed}
 use Rattle.send_message.specs.Inner.Stands.{Lends}
 
 -- the message of a call of the kind k that is lent a message s: s where the event is a message
 unfoldable pub lent_by : ℕ → List ℕ → List ℕ
-lent_by k s = cond (eqb k messageKind) s (cond (eqb k linkMessageKind) s [])
+lent_by k s = cond (eqb k message_kind) s (cond (eqb k link_message_kind) s [])
 
 -- what holds of the number of a kind and its event, from each kind; any other number is no kind
-by_kind : (P : ℕ → EventKind → Type 0) (k i : ℕ) (s : List ℕ) → P 0 (message i s) → P 1 (lost i) → P 2 (recovery i) → P 3 (linkUp i) → P 4 (linkDown i) → P 5 (linkMessage s)
+by_kind : (P : ℕ → EventKind → Type 0) (k i : ℕ) (s : List ℕ) → P 0 (message i s) → P 1 (lost i) → P 2 (recovery i) → P 3 (link_up i) → P 4 (link_down i) → P 5 (link_message s)
     → (eqb k 0 ≡ false → eqb k 5 ≡ false → P k (lost 65536)) → P k (happened k i s)
 by_kind P k i s a b c d e f g = go (ℕ_discrete k 0) (ℕ_discrete k 1) (ℕ_discrete k 2) (ℕ_discrete k 3) (ℕ_discrete k 4) (ℕ_discrete k 5)
   where
@@ -30,10 +30,10 @@ by_kind P k i s a b c d e f g = go (ℕ_discrete k 0) (ℕ_discrete k 1) (ℕ_di
     go (no x) (no y) (no u) (no v) (no w) (no q) = rw (ne_eqb k 0 x, ne_eqb k 1 y, ne_eqb k 2 u, ne_eqb k 3 v, ne_eqb k 4 w, ne_eqb k 5 q) (g (ne_eqb k 0 x) (ne_eqb k 5 q))
 
 module _ (k i : ℕ) (s : List ℕ) where
-  pub kinds : (messageOf (happened k i s) ≡ lent_by k s) × (isPassed (happened k i s) ≡ eqb k linkMessageKind)
+  pub kinds : (message_of (happened k i s) ≡ lent_by k s) × (is_passed (happened k i s) ≡ eqb k link_message_kind)
   unfolding lent_by
-  kinds = by_kind (λ n e. (messageOf e ≡ lent_by n s) × (isPassed e ≡ eqb n linkMessageKind)) k i s (refl, refl) (refl, refl) (refl, refl) (refl, refl) (refl, refl) (refl, refl) (λ a b. rw (a, b) (refl, refl))
+  kinds = by_kind (λ n e. (message_of e ≡ lent_by n s) × (is_passed e ≡ eqb n link_message_kind)) k i s (refl, refl) (refl, refl) (refl, refl) (refl, refl) (refl, refl) (refl, refl) (λ a b. rw (a, b) (refl, refl))
 
   -- where the event is no message of an ASP, its own message is lent
-  pub lends-other : (g : Gateway) (x : List ℕ) (o : Action) → (k ≡ messageKind → ⊥) → x ≡ messageOf (happened k i s) → Lends g (happened k i s) x o
-  lends-other g x o = by_kind (λ n e. (n ≡ messageKind → ⊥) → x ≡ messageOf e → Lends g e x o) k i s (λ n e. absurd (n refl)) (λ n e. e) (λ n e. e) (λ n e. e) (λ n e. e) (λ n e. e) (λ a b n e. e)
+  pub lends_other : (g : Gateway) (x : List ℕ) (o : Action) → (k ≡ message_kind → ⊥) → x ≡ message_of (happened k i s) → Lends g (happened k i s) x o
+  lends_other g x o = by_kind (λ n e. (n ≡ message_kind → ⊥) → x ≡ message_of e → Lends g e x o) k i s (λ n e. absurd (n refl)) (λ n e. e) (λ n e. e) (λ n e. e) (λ n e. e) (λ n e. e) (λ a b n e. e)

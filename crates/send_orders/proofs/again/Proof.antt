@@ -7,7 +7,7 @@ use lib.ListN.{length, take, drop, get_or, length-drop}
 use lib.Seq.{take_all, length-take-le, get_or-take, get_or-drop}
 use borrow.Author.Rules.{rules}
 use Rattle.codec_put.specs.Bytes.{overlay}
-use Rattle.codec_put.proofs.Sets.{over-more, first_more, length_over, take-over, begins-at}
+use Rattle.codec_put.proofs.Sets.{over_more, first_more, length_over, take_over, begins_at}
 use Rattle.send_orders.proofs.again.Statement.{statement}
 use Rattle.send_orders.proofs.again.Tie as tie
 
@@ -53,7 +53,7 @@ loop2-holds c = let a = c.before.before.args in
     let p = c.before.before.requires in
     let n = so-many a.out.now (a.at - a.size) a.size (omega (arith, p.1, p.2)) in
     let e = rw (take_all c.before.loop.i v (omega (arith, n))) at inv.2 in
-    (omega arith, refl, ap length e ∙ length_over _ 0 v ∙ inv.1, rw e (take-over _ v (omega (arith, n, p.0, inv.1))))
+    (omega arith, refl, ap length e ∙ length_over _ 0 v ∙ inv.1, rw e (take_over _ v (omega (arith, n, p.0, inv.1))))
 
 slice-write-out : tie.Need-slice-write-out invariant-loop decreases-loop invariant-loop2 decreases-loop2
 slice-write-out c = rw (c.before.loop2.invariant.1, length_over) (omega arith)
@@ -65,7 +65,7 @@ loop2-again c = let a = c.before.before.before.before.args in
     let j = c.before.loop2.j in
     let p = c.before.before.before.before.requires in
     let n = so-many a.out.now (a.at - a.size) a.size (omega (arith, p.1, p.2)) in
-    (omega arith, rw (begins-at c.before.before.before.loop.block v j inv.3 (omega (arith, n)), inv.1) (over-more a.out.now v a.at j (omega (arith, n))), inv.2, inv.3)
+    (omega arith, rw (begins_at c.before.before.before.loop.block v j inv.3 (omega (arith, n)), inv.1) (over_more a.out.now v a.at j (omega (arith, n))), inv.2, inv.3)
 
 same_length : tie.Need-same-length invariant-loop decreases-loop invariant-loop2 decreases-loop2
 same_length c = ap length c.before.loop2.invariant.1 ∙ simp length_over

@@ -1,12 +1,12 @@
 -- `send_orders::in_part`: the tests of the two first actions' words. Assumes nothing.
 use mathlib.Core.Path.{refl}
-use Rattle.send_orders.specs.Inner.Parts.{isPartIn}
+use Rattle.send_orders.specs.Inner.Parts.{is_part_in}
 use borrow.Author.Rules.{rules}
 use Rattle.send_orders.proofs.in_part.Statement.{statement}
 use Rattle.send_orders.proofs.in_part.Tie as tie
 
 returns : tie.Need-returns
-unfolding isPartIn
+unfolding is_part_in
 returns c = refl
 
 pub in-part-spec : {M : Type 1} → statement M

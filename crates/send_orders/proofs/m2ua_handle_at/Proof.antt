@@ -7,16 +7,16 @@ use mathlib.Core.List.{List}
 use native.Mathlib.Omega.{arith}
 use lib.Dec.{leb}
 use lib.ListN.{length}
-use Rattle.state_tables.specs.State.{gatewayOf, unitsOf}
+use Rattle.state_tables.specs.State.{gateway_of, units_of}
 use Rattle.state_tables.specs.declared.Gateway.{Gateway}
 use Rattle.rules_event.specs.Event.{EventKind}
-use Rattle.rules_event.specs.Sent.{actionsOn}
+use Rattle.rules_event.specs.Sent.{actions_on}
 use Rattle.event_asked.specs.Happened.{happened}
 use Rattle.send_message.specs.Send.{part_at}
 use Rattle.send_orders.specs.Inner.Batch.{Ended}
 use Rattle.send_orders.specs.Inner.Ran.{Ran}
-use Rattle.send_orders.specs.Inner.Stays.{hold-same}
-use Rattle.send_orders.specs.Inner.Handled.{handles-short, handles-refused, handles-quiet, ran-handled, handles-all}
+use Rattle.send_orders.specs.Inner.Stays.{hold_same}
+use Rattle.send_orders.specs.Inner.Handled.{handles_short, handles_refused, handles_quiet, ran_handled, handles_all}
 use borrow.Author.Rules.{rules}
 use Rattle.send_orders.proofs.m2ua_handle_at.Statement.{statement}
 use Rattle.send_orders.proofs.m2ua_handle_at.Tie as tie
@@ -82,9 +82,9 @@ abbrev end-put : tie.After-slice-known5 → tie.After-put-from
 end-put c = c.before.before
 
 -- the state that is lent, the event, and what it leaves
-abbrev state-of : tie.Start → Gateway
-state-of s = let z = s.args in
-    gatewayOf z.asps z.ases z.links z.spare z.aspid.now z.up.now z.member.now z.active.now z.mode.now z.waiting.now z.iid.now z.owner.now z.state.now z.highspeed.now z.wholelists.now (unitsOf z.count.now z.tag.now z.len.now z.marked.now z.id.now z.correlation.now)
+abbrev state_of_lem : tie.Start → Gateway
+state_of_lem s = let z = s.args in
+    gateway_of z.asps z.ases z.links z.spare z.aspid.now z.up.now z.member.now z.active.now z.mode.now z.waiting.now z.iid.now z.owner.now z.state.now z.highspeed.now z.wholelists.now (units_of z.count.now z.tag.now z.len.now z.marked.now z.id.now z.correlation.now)
 
 abbrev event : tie.Start → EventKind
 event s = happened s.args.kind s.args.i s.args.msg.now
@@ -99,7 +99,7 @@ abbrev after : tie.After-run2 → Gateway
 after c = let z = (start c).args in
     let l = c.run2.new.1.1.1.1.1 in
     let u = l.1.1.1.1.1.1.1.1.1.1 in
-    gatewayOf z.asps z.ases z.links z.spare z.aspid.now l.0 z.member.now l.1.1.0 z.mode.now l.1.1.1.1.0 z.iid.now z.owner.now l.1.1.1.1.1.1.1.0 z.highspeed.now z.wholelists.now (unitsOf u.0 u.1.0 u.1.1.0 u.1.1.1.0 u.1.1.1.1.0 u.1.1.1.1.1.0)
+    gateway_of z.asps z.ases z.links z.spare z.aspid.now l.0 z.member.now l.1.1.0 z.mode.now l.1.1.1.1.0 z.iid.now z.owner.now l.1.1.1.1.1.1.1.0 z.highspeed.now z.wholelists.now (units_of u.0 u.1.0 u.1.1.0 u.1.1.1.0 u.1.1.1.1.0 u.1.1.1.1.1.0)
 
 words_long : (c : tie.After-run2) → length (start c).args.words.now ≡ 1544
 words_long c = search rules
@@ -109,38 +109,38 @@ room_at c = omega (arith, (to-if1 c).if1.false)
 
 -- it was run, is not refused and has actions: so the hold stayed
 hold-is : (c : tie.Else3) → held (to-run c) ≡ (start (to-run c)).args.hold.now
-hold-is c = hold-same (state-of (start (to-run c))) (event (start (to-run c))) (to-run c).run2.ensures (omega (arith, c.if3.false))
+hold-is c = hold_same (state_of_lem (start (to-run c))) (event (start (to-run c))) (to-run c).run2.ensures (omega (arith, c.if3.false))
 
-ran-at : (c : tie.Else3) → Ran (state-of (start (to-run c))) (held (to-run c)) (event (start (to-run c))) (to-run c).run2.result.count (words (to-run c)) (after (to-run c))
+ran-at : (c : tie.Else3) → Ran (state_of_lem (start (to-run c))) (held (to-run c)) (event (start (to-run c))) (to-run c).run2.result.count (words (to-run c)) (after (to-run c))
 ran-at c = let e = to-run c in
     let s = start e in
-    subst (λ (h : List ℕ). Ran (state-of s) h (event s) e.run2.result.count (words e) (after e)) (sym (hold-is c))
-    (ran-handled (state-of s) (event s) s.args.hold.now s.args.words.now s.args.lens.now s.args.out.now (words_long e) (room_at e) e.run2.ensures (to-if2 c).if2.false)
+    subst (λ (h : List ℕ). Ran (state_of_lem s) h (event s) e.run2.result.count (words e) (after e)) (sym (hold-is c))
+    (ran_handled (state_of_lem s) (event s) s.args.hold.now s.args.words.now s.args.lens.now s.args.out.now (words_long e) (room_at e) e.run2.ensures (to-if2 c).if2.false)
 
 returns : tie.Need-returns
 returns c = let s = short-start c in
-    handles-short (state-of s) (event s) s.args.hold.now s.args.words.now s.args.lens.now s.args.out.now (omega (arith, (short-if1 c).if1.true)) (short-run c).run.ensures c.code_of.ensures
+    handles_short (state_of_lem s) (event s) s.args.hold.now s.args.words.now s.args.lens.now s.args.out.now (omega (arith, (short-if1 c).if1.true)) (short-run c).run.ensures c.code_of_lem.ensures
 
 returns-2 : tie.Need-returns-2
 returns-2 c = let e = refused-run c in
     let s = start e in
-    handles-refused (state-of s) (event s) s.args.hold.now s.args.words.now s.args.lens.now s.args.out.now (words_long e) (room_at e) e.run2.ensures (refused-if2 c).if2.true c.code-of2.ensures
+    handles_refused (state_of_lem s) (event s) s.args.hold.now s.args.words.now s.args.lens.now s.args.out.now (words_long e) (room_at e) e.run2.ensures (refused-if2 c).if2.true c.code-of2.ensures
 
 returns-3 : tie.Need-returns-3
 returns-3 c = let e = quiet-run c in
     let s = start e in
-    handles-quiet (state-of s) (event s) s.args.hold.now s.args.words.now s.args.lens.now s.args.out.now (words_long e) (room_at e) e.run2.ensures (quiet-if2 c).if2.false c.if3.true
+    handles_quiet (state_of_lem s) (event s) s.args.hold.now s.args.words.now s.args.lens.now s.args.out.now (words_long e) (room_at e) e.run2.ensures (quiet-if2 c).if2.false c.if3.true
 
 put-from-requires : tie.Need-put-from-requires
-put-from-requires c κs = let w = put-else c in (omega arith, state-of (start (to-run w)), after (to-run w), ran-at w)
+put-from-requires c κs = let w = put-else c in (omega arith, state_of_lem (start (to-run w)), after (to-run w), ran-at w)
 
 lens-long : (c : tie.After-put-from) → length (put-start c).args.lens.now ≡ 386
 lens-long c = search rules
 
 -- so what is written of the hold behind the event is written of the one before it
-same-hold : (g : Gateway) (k : EventKind) (all : ℕ → Bool) {h h' lens out lens' out' : List ℕ} {n at : ℕ} → h ≡ h' → Ended (λ j. part_at g h k (0 + j)) all lens out n at lens' out'
+same_hold : (g : Gateway) (k : EventKind) (all : ℕ → Bool) {h h' lens out lens' out' : List ℕ} {n at : ℕ} → h ≡ h' → Ended (λ j. part_at g h k (0 + j)) all lens out n at lens' out'
     → Ended (λ j. part_at g h' k (0 + j)) all lens out n at lens' out'
-same-hold g k all {h} {h'} {lens} {out} {lens'} {out'} {n} {at} e x = subst (λ (y : List ℕ). Ended (λ j. part_at g y k (0 + j)) all lens out n at lens' out') e x
+same_hold g k all {h} {h'} {lens} {out} {lens'} {out'} {n} {at} e x = subst (λ (y : List ℕ). Ended (λ j. part_at g y k (0 + j)) all lens out n at lens' out') e x
 
 same-length-4 : tie.Need-same-length-4
 same-length-4 c = ap length (hold-is (end-else c))
@@ -150,8 +150,8 @@ returns-4 c = let w = end-else c in
     let e = to-run w in
     let s = start e in
     let p = (end-put c).put-from.ensures in
-    handles-all (state-of s) (event s) s.args.hold.now s.args.words.now s.args.lens.now s.args.out.now (words_long e) (room_at e) e.run2.ensures (lens-long (end-put c)) (to-if2 w).if2.left (omega (arith, p.0))
-    (same-hold (state-of s) (event s) (λ j. leb (length (actionsOn (state-of s) (event s))) (0 + j)) (hold-is w) (p.1 (state-of s) (after e) (ran-at w)))
+    handles_all (state_of_lem s) (event s) s.args.hold.now s.args.words.now s.args.lens.now s.args.out.now (words_long e) (room_at e) e.run2.ensures (lens-long (end-put c)) (to-if2 w).if2.left (omega (arith, p.0))
+    (same_hold (state_of_lem s) (event s) (λ j. leb (length (actions_on (state_of_lem s) (event s))) (0 + j)) (hold-is w) (p.1 (state_of_lem s) (after e) (ran-at w)))
 
 pub m2ua-handle-at-spec : {M : Type 1} → statement M
 m2ua-handle-at-spec =

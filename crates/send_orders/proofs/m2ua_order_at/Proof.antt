@@ -1,6 +1,6 @@
 -- `send_orders::m2ua_order_at`: the first of many. Assumes nothing.
 use mathlib.Core.Path.{◌≡◌, refl}
-use Rattle.send_orders.specs.Inner.One.{one-refused, one_side, one-sent}
+use Rattle.send_orders.specs.Inner.One.{one_refused, one_side, one_sent}
 use borrow.Author.Rules.{rules}
 use Rattle.send_orders.proofs.m2ua_order_at.Statement.{statement}
 use Rattle.send_orders.proofs.m2ua_order_at.Tie as tie
@@ -26,13 +26,13 @@ abbrev sent-if1 : tie.Else2 → tie.Else1
 sent-if1 c = c.before.before
 
 returns : tie.Need-returns
-returns c = one-refused _ _ _ _ _ refl (refused-orders c).m2ua-orders-at.ensures c.if1.true
+returns c = one_refused _ _ _ _ _ refl (refused-orders c).m2ua-orders-at.ensures c.if1.true
 
 returns-2 : tie.Need-returns-2
 returns-2 c = one_side _ _ _ _ _ refl (side-orders c).m2ua-orders-at.ensures (side-if1 c).if1.false c.if2.true
 
 returns-3 : tie.Need-returns-3
-returns-3 c = one-sent _ _ _ _ _ refl (sent-orders c).m2ua-orders-at.ensures (sent-if1 c).if1.false c.if2.false
+returns-3 c = one_sent _ _ _ _ _ refl (sent-orders c).m2ua-orders-at.ensures (sent-if1 c).if1.false c.if2.false
 
 pub m2ua-order-at-spec : {M : Type 1} → statement M
 m2ua-order-at-spec =

@@ -3,12 +3,12 @@ use Prim.Native.Nat.{ℕ}
 use mathlib.Core.Path.{◌≡◌, refl}
 use mathlib.Core.List.{List}
 use native.Mathlib.Omega.{arith}
-use Rattle.state_tables.specs.State.{gatewayOf, unitsOf}
+use Rattle.state_tables.specs.State.{gateway_of, units_of}
 use Rattle.state_tables.specs.declared.Gateway.{Gateway}
 use Rattle.rules_event.specs.Event.{EventKind}
 use Rattle.event_asked.specs.Happened.{happened}
-use Rattle.send_orders.specs.Inner.Ran.{Ran, no-101, ran}
-use Rattle.send_orders.specs.Inner.Many.{many-refused, many-beyond, many-done}
+use Rattle.send_orders.specs.Inner.Ran.{Ran, no_101, ran}
+use Rattle.send_orders.specs.Inner.Many.{many_refused, many_beyond, many_done}
 use borrow.Author.Rules.{rules}
 use Rattle.send_orders.proofs.m2ua_orders_at.Statement.{statement}
 use Rattle.send_orders.proofs.m2ua_orders_at.Tie as tie
@@ -50,9 +50,9 @@ abbrev end-put : tie.After-batch-of → tie.After-put-from
 end-put c = c.before.before.before.before.before
 
 -- the state that is lent, the event, and what it leaves of the columns' copies
-abbrev state-of : tie.Start → Gateway
-state-of s = let z = s.args in
-    gatewayOf z.asps z.ases z.links z.spare z.aspid.now z.up.now z.member.now z.active.now z.mode.now z.waiting.now z.iid.now z.owner.now z.state.now z.highspeed.now z.wholelists.now (unitsOf z.count.now z.tag.now z.len.now z.marked.now z.id.now z.correlation.now)
+abbrev state_of_lem : tie.Start → Gateway
+state_of_lem s = let z = s.args in
+    gateway_of z.asps z.ases z.links z.spare z.aspid.now z.up.now z.member.now z.active.now z.mode.now z.waiting.now z.iid.now z.owner.now z.state.now z.highspeed.now z.wholelists.now (units_of z.count.now z.tag.now z.len.now z.marked.now z.id.now z.correlation.now)
 
 abbrev event : tie.Start → EventKind
 event s = happened s.args.kind s.args.i s.args.msg.now
@@ -64,29 +64,29 @@ abbrev after : tie.After-run → Gateway
 after c = let z = (start c).args in
     let l = c.run.new.1.1.1.1.1 in
     let u = l.1.1.1.1.1.1.1.1.1.1 in
-    gatewayOf z.asps z.ases z.links z.spare z.aspid.now l.0 z.member.now l.1.1.0 z.mode.now l.1.1.1.1.0 z.iid.now z.owner.now l.1.1.1.1.1.1.1.0 z.highspeed.now z.wholelists.now (unitsOf u.0 u.1.0 u.1.1.0 u.1.1.1.0 u.1.1.1.1.0 u.1.1.1.1.1.0)
+    gateway_of z.asps z.ases z.links z.spare z.aspid.now l.0 z.member.now l.1.1.0 z.mode.now l.1.1.1.1.0 z.iid.now z.owner.now l.1.1.1.1.1.1.1.0 z.highspeed.now z.wholelists.now (units_of u.0 u.1.0 u.1.1.0 u.1.1.1.0 u.1.1.1.1.0 u.1.1.1.1.1.0)
 
 -- it was run and is not refused
-ran-at : (c : tie.Else2) → Ran (state-of (start (to-run c))) (start (to-run c)).args.hold.now (event (start (to-run c))) (to-run c).run.result.count (words (to-run c)) (after (to-run c))
-ran-at c = let e = to-run c in ran (state-of (start e)) (start e).args.hold.now (event (start e)) refl e.run.ensures (to-if1 c).if1.false
+ran-at : (c : tie.Else2) → Ran (state_of_lem (start (to-run c))) (start (to-run c)).args.hold.now (event (start (to-run c))) (to-run c).run.result.count (words (to-run c)) (after (to-run c))
+ran-at c = let e = to-run c in ran (state_of_lem (start e)) (start e).args.hold.now (event (start e)) refl e.run.ensures (to-if1 c).if1.false
 
 returns : tie.Need-returns
-returns c = let e = refused-run c in many-refused _ _ _ _ _ _ _ (no-101 (state-of (start e)) (start e).args.hold.now (event (start e)) refl e.run.ensures) c.if1.true
+returns c = let e = refused-run c in many_refused _ _ _ _ _ _ _ (no_101 (state_of_lem (start e)) (start e).args.hold.now (event (start e)) refl e.run.ensures) c.if1.true
 
 returns-2 : tie.Need-returns-2
 returns-2 c = let e = beyond-run c in
-    many-beyond _ _ _ _ _ _ (ran (state-of (start e)) (start e).args.hold.now (event (start e)) refl e.run.ensures (beyond-if1 c).if1.false) c.if2.true
+    many_beyond _ _ _ _ _ _ (ran (state_of_lem (start e)) (start e).args.hold.now (event (start e)) refl e.run.ensures (beyond-if1 c).if1.false) c.if2.true
 
 put-from-requires : tie.Need-put-from-requires
-put-from-requires c κs = let w = put-else c in (omega (arith, w.if2.left), state-of (start (to-run w)), after (to-run w), ran-at w)
+put-from-requires c κs = let w = put-else c in (omega (arith, w.if2.left), state_of_lem (start (to-run w)), after (to-run w), ran-at w)
 
 returns-3 : tie.Need-returns-3
 returns-3 c = let w = end-else c in
     let s = start (to-run w) in
     let p = (end-put c).put-from.ensures in
     rw c.batch-of.ensures
-    (many-done (state-of s) s.args.hold.now (event s) s.args.place s.args.lens.now s.args.out.now (ran-at w) w.if2.left p.0
-    (p.1 (state-of s) (after (to-run w)) (ran-at w)))
+    (many_done (state_of_lem s) s.args.hold.now (event s) s.args.place s.args.lens.now s.args.out.now (ran-at w) w.if2.left p.0
+    (p.1 (state_of_lem s) (after (to-run w)) (ran-at w)))
 
 pub m2ua-orders-at-spec : {M : Type 1} → statement M
 m2ua-orders-at-spec =

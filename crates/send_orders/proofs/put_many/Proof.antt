@@ -12,12 +12,12 @@ use borrow.Author.Tests.{le-leb, lt-leb}
 use Rattle.laws.specs.Below.{one}
 use Rattle.laws.specs.Columns.{number_at}
 use Rattle.rules_action.specs.declared.Action.{Action}
-use Rattle.rules_event.specs.Sent.{isData}
-use Rattle.send_unit.specs.Inner.Words.{dataIn, data-more, data-small}
+use Rattle.rules_event.specs.Sent.{is_data}
+use Rattle.send_unit.specs.Inner.Words.{data_in, data_more, data_small}
 use Rattle.send_unit.specs.Inner.Made.{held_of}
-use Rattle.send_orders.specs.Inner.Part.{Lent, lent_of, indexIn, madeIn, partIn, part-of, PutIf, put_as, put-length, put-none, put-done}
-use Rattle.send_orders.specs.Inner.Alike.{repeats-part}
-use Rattle.send_orders.specs.Inner.Batch.{Filled, StandsBefore, filled_none, filled-lens, filled-out, filled_more, filled-as, filled-before, ends-all, ends-slots, ends-room}
+use Rattle.send_orders.specs.Inner.Part.{Lent, lent_of, index_in, made_in, part_in, part_of_lem, PutIf, put_as, put_length, put_none, put_done}
+use Rattle.send_orders.specs.Inner.Alike.{repeats_part}
+use Rattle.send_orders.specs.Inner.Batch.{Filled, StandsBefore, filled_none, filled_lens, filled_out, filled_more, filled_as, filled_before, ends_all, ends_slots, ends_room}
 use borrow.Author.Rules.{rules}
 use Rattle.send_orders.proofs.put_many.Statement.{statement}
 use Rattle.send_orders.proofs.put_many.Tie as tie
@@ -25,9 +25,9 @@ use Rattle.send_orders.proofs.put_many.Tie as tie
 abbrev invariant-loop : tie.invariant-loop
 invariant-loop run words list msg hold iid owner tags lengths marks correlations lens₀ out₀ count place d₀ n₀ at₀ size₀ lens out d n at size =
     (run.place + n ≤ run.count)
-    × Filled (λ j. partIn (lent_of run words list msg hold iid owner tags lengths marks correlations) (run.place + j)) (λ m. leb run.count (run.place + m)) lens₀ out₀ n at lens out
-    × (0 < n → size ≡ length (partIn (lent_of run words list msg hold iid owner tags lengths marks correlations) (run.place + (n - 1))))
-    × (d ≡ dataIn words (run.place + n))
+    × Filled (λ j. part_in (lent_of run words list msg hold iid owner tags lengths marks correlations) (run.place + j)) (λ m. leb run.count (run.place + m)) lens₀ out₀ n at lens out
+    × (0 < n → size ≡ length (part_in (lent_of run words list msg hold iid owner tags lengths marks correlations) (run.place + (n - 1))))
+    × (d ≡ data_in words (run.place + n))
 
 abbrev decreases-loop : tie.decreases-loop
 decreases-loop run words list msg hold iid owner tags lengths marks correlations lens₀ out₀ count place d₀ n₀ at₀ size₀ lens out d n at size = run.count - (run.place + n)
@@ -46,7 +46,7 @@ abbrev here : tie.At-loop invariant-loop decreases-loop → ℕ
 here c = (start c).args.run.place + c.loop.n
 
 abbrev part : tie.At-loop invariant-loop decreases-loop → ℕ → List ℕ
-part c j = partIn (lent c) ((start c).args.run.place + j)
+part c j = part_in (lent c) ((start c).args.run.place + j)
 
 abbrev next : tie.At-loop invariant-loop decreases-loop → List ℕ
 next c = part c c.loop.n
@@ -60,19 +60,19 @@ room_fits c = omega arith
 
 -- where it repeats, there is a part before it, the same
 same-now : (c : tie.After-repeats invariant-loop decreases-loop) → c.repeats.result ≡ true → (0 < (to-loop c.before).loop.n) × (next (to-loop c.before) ≡ part (to-loop c.before) ((to-loop c.before).loop.n - 1))
-same-now c t = repeats-part (lent (to-loop c.before)) (to-loop c.before).loop.n c.before.before.before.if1.false (sym c.repeats.ensures ∙ t)
+same-now c t = repeats_part (lent (to-loop c.before)) (to-loop c.before).loop.n c.before.before.before.if1.false (sym c.repeats.ensures ∙ t)
 
 stands-now : (c : tie.After-repeats invariant-loop decreases-loop) → c.repeats.result ≡ true → StandsBefore (to-loop c.before).loop.out (to-loop c.before).loop.at (next (to-loop c.before))
-stands-now c t = filled-before (to-loop c.before).loop.inv.1 _ (same-now c t).0 (same-now c t).1
+stands-now c t = filled_before (to-loop c.before).loop.inv.1 _ (same-now c t).0 (same-now c t).1
 
 last-now : (c : tie.After-repeats invariant-loop decreases-loop) → c.repeats.result ≡ true → (to-loop c.before).loop.size ≡ length (next (to-loop c.before))
 last-now c t = (to-loop c.before).loop.inv.2 (same-now c t).0 ∙ ap length (sym (same-now c t).1)
 
-index-now : (c : tie.After-index-at invariant-loop decreases-loop) → c.index_at.result ≡ indexIn (lent (to-loop c.before.before.before)) (here (to-loop c.before.before.before))
+index-now : (c : tie.After-index-at invariant-loop decreases-loop) → c.index_at.result ≡ index_in (lent (to-loop c.before.before.before)) (here (to-loop c.before.before.before))
 index-now c = let n = to-loop c.before.before.before in c.index_at.ensures ∙ ap (number_at (lent n).list) n.loop.inv.3
 
-made-now : (c : tie.After-index-at invariant-loop decreases-loop) → madeIn (lent (to-loop c.before.before.before)) c.index_at.result c.before.before.before.action-at.result ≡ next (to-loop c.before.before.before)
-made-now c = let n = to-loop c.before.before.before in part-of (lent n) (here n) _ _ c.before.before.before.before.before.if1.false (index-now c) c.before.before.before.action-at.ensures
+made-now : (c : tie.After-index-at invariant-loop decreases-loop) → made_in (lent (to-loop c.before.before.before)) c.index_at.result c.before.before.before.action-at.result ≡ next (to-loop c.before.before.before)
+made-now c = let n = to-loop c.before.before.before in part_of_lem (lent n) (here n) _ _ c.before.before.before.before.before.if1.false (index-now c) c.before.before.before.action-at.ensures
 
 -- either way this is what is put, where it goes in
 put-now : (c : tie.Joined3 invariant-loop decreases-loop) → PutIf (to-loop c.before.before).loop.out (to-loop c.before.before).loop.at (next (to-loop c.before.before)) c.if3.size c.if3.out
@@ -86,28 +86,28 @@ data-before-requires : tie.Need-data-before-requires invariant-loop decreases-lo
 data-before-requires c κs = let p = c.before.before.before.before.before.requires in omega (arith, p.there, p.few)
 
 loop-holds : tie.Need-loop-init invariant-loop decreases-loop
-loop-holds c = let a = c.before.before.before.before.before.before.args in (omega (arith, c.before.before.before.before.before.before.requires.there), filled_none _ _ _ _, λ l. absurd (omega (arith, l)), c.data-before.ensures ∙ ap (dataIn a.words.now) (sym (add-zero a.run.place)))
+loop-holds c = let a = c.before.before.before.before.before.before.args in (omega (arith, c.before.before.before.before.before.before.requires.there), filled_none _ _ _ _, λ l. absurd (omega (arith, l)), c.data-before.ensures ∙ ap (data_in a.words.now) (sym (add-zero a.run.place)))
 
 add-if1 : tie.Need-overflow-add-if1 invariant-loop decreases-loop
 add-if1 c = omega (arith, c.loop.invariant.0, (start c).requires.few)
 
 same_length : tie.Need-same-length invariant-loop decreases-loop
-same_length c = filled-lens c.before.loop.invariant.1
+same_length c = filled_lens c.before.loop.invariant.1
 
 same-length-2 : tie.Need-same-length-2 invariant-loop decreases-loop
-same-length-2 c = filled-out c.before.loop.invariant.1
+same-length-2 c = filled_out c.before.loop.invariant.1
 
 returns : tie.Need-returns invariant-loop decreases-loop
-returns c = let h = c.before.loop.invariant.1 in (c.before.loop.invariant.0, record { filled = h; ends_there = ends-all h (le-leb _ _ c.if1.true) })
+returns c = let h = c.before.loop.invariant.1 in (c.before.loop.invariant.0, record { filled = h; ends_there = ends_all h (le-leb _ _ c.if1.true) })
 
 same-length-3 : tie.Need-same-length-3 invariant-loop decreases-loop
-same-length-3 c = filled-lens c.before.before.loop.invariant.1
+same-length-3 c = filled_lens c.before.before.loop.invariant.1
 
 same-length-4 : tie.Need-same-length-4 invariant-loop decreases-loop
-same-length-4 c = filled-out c.before.before.loop.invariant.1
+same-length-4 c = filled_out c.before.before.loop.invariant.1
 
 returns-2 : tie.Need-returns-2 invariant-loop decreases-loop
-returns-2 c = let h = c.before.before.loop.invariant.1 in (c.before.before.loop.invariant.0, record { filled = h; ends_there = ends-slots h (omega (arith, c.if2.true, filled-lens h)) })
+returns-2 c = let h = c.before.before.loop.invariant.1 in (c.before.before.loop.invariant.0, record { filled = h; ends_there = ends_slots h (omega (arith, c.if2.true, filled_lens h)) })
 
 add-action-at : tie.Need-overflow-add-action-at invariant-loop decreases-loop
 add-action-at c = omega (arith, c.before.if1.false, c.before.before.before.before.before.before.before.before.before.requires.few)
@@ -123,7 +123,7 @@ put-again-requires c κs = let d = c.before.before in
     let t = c.before.if3.true in
     let n = to-loop d.before in
     let h = n.loop.inv.1 in
-    (omega (arith, last-now d t, small-now n), omega (arith, last-now d t, (stands-now d t).far), omega (arith, h.goes_in, filled-out h))
+    (omega (arith, last-now d t, small-now n), omega (arith, last-now d t, (stands-now d t).far), omega (arith, h.goes_in, filled_out h))
 
 index-at-requires : tie.Need-index-at-requires invariant-loop decreases-loop
 index-at-requires c κs = search rules
@@ -136,26 +136,26 @@ put-new-requires c κs = let d = c.before in
     record {
       links = p.links;
       whole = p.whole;
-      place = rw (index-now d) (p.indices (dataIn (lent n).words (here n)));
+      place = rw (index-now d) (p.indices (data_in (lent n).words (here n)));
       long = λ e. rw (index-now d) (p.long (here n) d.before.before.before.before.before.if1.false (ap (λ (o : Action). held_of (lent n).run.passed o) (sym d.before.before.before.action-at.ensures) ∙ e));
       small = rw (made-now d) (small-now n);
-      room = omega (arith, h.goes_in, filled-out h);
+      room = omega (arith, h.goes_in, filled_out h);
     }
 
 sub-if4 : tie.Need-overflow-sub-if4 invariant-loop decreases-loop
-sub-if4 c = let h = c.before.before.before.before.before.loop.invariant.1 in omega (arith, h.goes_in, filled-out h, put-length (put-now c))
+sub-if4 c = let h = c.before.before.before.before.before.loop.invariant.1 in omega (arith, h.goes_in, filled_out h, put_length (put-now c))
 
 same-length-5 : tie.Need-same-length-5 invariant-loop decreases-loop
-same-length-5 c = filled-lens c.before.before.before.before.before.before.loop.invariant.1
+same-length-5 c = filled_lens c.before.before.before.before.before.before.loop.invariant.1
 
 same-length-6 : tie.Need-same-length-6 invariant-loop decreases-loop
-same-length-6 c = put-length (put-now c.before) ∙ filled-out c.before.before.before.before.before.before.loop.invariant.1
+same-length-6 c = put_length (put-now c.before) ∙ filled_out c.before.before.before.before.before.before.loop.invariant.1
 
 returns-3 : tie.Need-returns-3 invariant-loop decreases-loop
 returns-3 c = let n = c.before.before.before.before.before.before in
     let h = n.loop.invariant.1 in
     let w = put-now c.before in
-    (n.loop.invariant.0, record { filled = filled-as h _ (put-none w c.if4.true); ends_there = ends-room h (omega (arith, c.if4.true, w.size_is, put-length w, filled-out h)) })
+    (n.loop.invariant.0, record { filled = filled_as h _ (put_none w c.if4.true); ends_there = ends_room h (omega (arith, c.if4.true, w.size_is, put_length w, filled_out h)) })
 
 cast-lens : tie.Need-overflow-cast-lens invariant-loop decreases-loop
 cast-lens c = omega (arith, (put-now c.before.before).size_is, small-now c.before.before.before.before.before.before.before)
@@ -174,12 +174,12 @@ unit-requires c κs = search rules
 
 add-d : tie.Need-overflow-add-d invariant-loop decreases-loop
 add-d c = let n = c.before.before.before.before.before.before.before.before.before in
-    omega (arith, c.unit.ensures.1, n.loop.invariant.3, data-small (lent n).words (here n), c.before.before.before.before.before.before.before.before.if1.false, (start n).requires.few)
+    omega (arith, c.unit.ensures.1, n.loop.invariant.3, data_small (lent n).words (here n), c.before.before.before.before.before.before.before.before.if1.false, (start n).requires.few)
 
 add_at : tie.Need-overflow-add-at invariant-loop decreases-loop
 add_at c = let n = c.before.before.before.before.before.before.before.before.before in
     let h = n.loop.invariant.1 in
-    omega (arith, room_fits n, c.before.before.before.if4.false, h.goes_in, filled-out h, put-length (put-now c.before.before.before.before))
+    omega (arith, room_fits n, c.before.before.before.if4.false, h.goes_in, filled_out h, put_length (put-now c.before.before.before.before))
 
 add-n : tie.Need-overflow-add-n invariant-loop decreases-loop
 add-n c = omega (arith, c.before.before.before.before.before.before.before.before.if1.false, (start c.before.before.before.before.before.before.before.before.before).pre.few)
@@ -197,9 +197,9 @@ loop-again c = let n = c.before.before.before.before.before.before.before.before
     let m : here n + 1 ≡ (start n).args.run.place + (n.loop.n + 1) = omega arith in (
       omega (arith, l),
       rw s
-          (filled_more h _ _ (lt-leb _ _ l) (omega (arith, c.before.before.before.before.before.before.before.if2.false, filled-lens h)) (omega (arith, s, c.before.before.before.if4.false, h.goes_in, filled-out h, put-length w)) refl (put-done w c.before.before.before.if4.false)),
+          (filled_more h _ _ (lt-leb _ _ l) (omega (arith, c.before.before.before.before.before.before.before.if2.false, filled_lens h)) (omega (arith, s, c.before.before.before.if4.false, h.goes_in, filled_out h, put_length w)) refl (put_done w c.before.before.before.if4.false)),
       λ _. s ∙ ap (λ (j : ℕ). length (part n j)) z,
-      (λ y. n.loop.invariant.3 y + (c.unit.ensures.0 ∙ ap one (c.before.is-data.ensures ∙ ap isData c.before.before.before.before.before.before.action-at.ensures)) y) ∙ sym (data-more (lent n).words (here n)) ∙ ap (dataIn (lent n).words) m,
+      (λ y. n.loop.invariant.3 y + (c.unit.ensures.0 ∙ ap one (c.before.is_data_lem.ensures ∙ ap is_data c.before.before.before.before.before.before.action-at.ensures)) y) ∙ sym (data_more (lent n).words (here n)) ∙ ap (data_in (lent n).words) m,
     )
 
 pub put-many-spec : {M : Type 1} → statement M

@@ -1,13 +1,13 @@
 -- `send_orders::repeats`: none before the first, else the two actions are alike. Assumes nothing.
 use mathlib.Core.Path.{◌∙◌}
 use borrow.Author.Tests.{eq-eqb, ne_eqb}
-use Rattle.send_orders.specs.Inner.Alike.{areAlike, repeatsIn}
+use Rattle.send_orders.specs.Inner.Alike.{are_alike, repeats_in}
 use borrow.Author.Rules.{rules}
 use Rattle.send_orders.proofs.repeats.Statement.{statement}
 use Rattle.send_orders.proofs.repeats.Tie as tie
 
 returns : tie.Need-returns
-unfolding repeatsIn
+unfolding repeats_in
 returns c = rw (eq-eqb c.before.args.n 0 c.if1.true)
 
 add-action-at : tie.Need-overflow-add-action-at
@@ -29,8 +29,8 @@ alike-requires : tie.Need-alike-requires
 alike-requires c κs = search rules
 
 returns-2 : tie.Need-returns-2
-unfolding repeatsIn
-returns-2 c = rw (ne_eqb c.before.before.before.before.args.n 0 c.before.before.before.if1.false) (c.alike.ensures ∙ (λ i. areAlike c.before.before.before.before.args.passed (c.before.before.action-at.ensures i) (c.before.action-at2.ensures i)))
+unfolding repeats_in
+returns-2 c = rw (ne_eqb c.before.before.before.before.args.n 0 c.before.before.before.if1.false) (c.alike.ensures ∙ (λ i. are_alike c.before.before.before.before.args.passed (c.before.before.action-at.ensures i) (c.before.action-at2.ensures i)))
 
 pub repeats-spec : {M : Type 1} → statement M
 repeats-spec =

@@ -1,10 +1,10 @@
 -- What is lent to the writer behind an event that was run.
 -- Assumes nothing.
 use Rattle.std.specs.Prelude.{ℕ, ◌+◌, ◌≤◌, List, leb, length}
-use Rattle.state_tables.specs.State.{unitsOf}
+use Rattle.state_tables.specs.State.{units_of}
 use Rattle.state_tables.specs.declared.Gateway.{Gateway}
 use Rattle.state_tables.specs.declared.Units.{Units}
-use Rattle.rules_event.specs.Sent.{actionsOn}
+use Rattle.rules_event.specs.Sent.{actions_on}
 use Rattle.event_asked.specs.Happened.{happened}
 use Rattle.send_message.specs.Send.{part_at}
 use Rattle.send_orders.specs.declared.Given.{Given}
@@ -12,8 +12,8 @@ use Rattle.send_orders.specs.Inner.Batch.{Ended}
 use Rattle.send_orders.specs.Inner.Ran.{Ran}
 
 -- the state g with the columns of it that are lent
-abbrev pub lentState : Gateway → ℕ → List ℕ → List ℕ → List ℕ → Units → Gateway
-lentState g links member iid owner held =
+abbrev pub lent_state : Gateway → ℕ → List ℕ → List ℕ → List ℕ → Units → Gateway
+lent_state g links member iid owner held =
     record {
       asps = g.asps;
       ases = g.ases;
@@ -33,8 +33,8 @@ lentState g links member iid owner held =
       held = held;
     }
 
-abbrev lentUnits : Gateway → List ℕ → List ℕ → List ℕ → List ℕ → List ℕ → Units
-lentUnits g count tags lengths marks correlations = unitsOf count tags lengths marks g.held.id correlations
+abbrev lent_units : Gateway → List ℕ → List ℕ → List ℕ → List ℕ → List ℕ → Units
+lent_units g count tags lengths marks correlations = units_of count tags lengths marks g.held.id correlations
 
 -- the columns lent, of the state before the event; and the counts of units behind it
 pub record Lines : Type 0 where
@@ -64,10 +64,10 @@ lines_of member iid owner was after tags lengths marks correlations =
 
 -- a state before the event that has them, and one behind it
 abbrev pub before : Given → Lines → Gateway → Gateway
-before t v g = lentState g t.links v.member v.iid v.owner (lentUnits g v.was v.tags v.lengths v.marks v.correlations)
+before t v g = lent_state g t.links v.member v.iid v.owner (lent_units g v.was v.tags v.lengths v.marks v.correlations)
 
 abbrev pub behind : Lines → Gateway → Gateway
-behind v c = lentState c c.links c.member c.iid c.owner (unitsOf v.after c.held.tag c.held.length c.held.marked c.held.id c.held.correlation)
+behind v c = lent_state c c.links c.member c.iid c.owner (units_of v.after c.held.tag c.held.length c.held.marked c.held.id c.held.correlation)
 
 -- the event was run on such a state, with the message s and the hold h
 abbrev pub RanOn : Given → Lines → List ℕ → List ℕ → List ℕ → Gateway → Gateway → Type 0
@@ -76,7 +76,7 @@ RanOn t v ws s h g c = Ran (before t v g) h (happened t.kind t.index s) t.count 
 -- what is written of each such state
 abbrev pub WrittenOf : Given → Lines → List ℕ → List ℕ → Gateway → List ℕ → List ℕ → ℕ → ℕ → List ℕ → List ℕ → Type 0
 WrittenOf t v s h g lens out n at lens' out' =
-    Ended (λ j. part_at (before t v g) h (happened t.kind t.index s) (t.place + j)) (λ j. leb (length (actionsOn (before t v g) (happened t.kind t.index s))) (t.place + j)) lens out n at lens' out'
+    Ended (λ j. part_at (before t v g) h (happened t.kind t.index s) (t.place + j)) (λ j. leb (length (actions_on (before t v g) (happened t.kind t.index s))) (t.place + j)) lens out n at lens' out'
 
 -- what the writer asks for: there is such a state; and what it promises: of each
 abbrev pub CanWrite : Given → Lines → List ℕ → List ℕ → List ℕ → Type 0

@@ -1,6 +1,6 @@
 -- `send_unit::action_at`: the four words. Assumes nothing.
 use mathlib.Core.Path.{refl}
-use Rattle.send_unit.specs.Inner.Words.{actionIn}
+use Rattle.send_unit.specs.Inner.Words.{action_in}
 use borrow.Author.Rules.{rules}
 use Rattle.send_unit.proofs.action_at.Statement.{statement}
 use Rattle.send_unit.proofs.action_at.Tie as tie
@@ -42,7 +42,7 @@ element-copy-out-t22 : tie.Need-element-copy-out-t22
 element-copy-out-t22 c = search rules
 
 returns : tie.Need-returns
-unfolding actionIn
+unfolding action_in
 returns c = refl
 
 pub action-at-spec : {M : Type 1} → statement M

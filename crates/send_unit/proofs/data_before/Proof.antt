@@ -2,27 +2,27 @@
 use Prim.Native.Nat.{◌-◌, ◌≤◌}
 use mathlib.Core.Path.{◌≡◌, sym}
 use native.Mathlib.Omega.{arith}
-use Rattle.laws.specs.Inner.Below.{at-end}
-use Rattle.send_unit.specs.Inner.Words.{dataIn, data-none, data-more}
+use Rattle.laws.specs.Inner.Below.{at_end}
+use Rattle.send_unit.specs.Inner.Words.{data_in, data_none, data_more}
 use borrow.Author.Rules.{rules}
 use Rattle.send_unit.proofs.data_before.Statement.{statement}
 use Rattle.send_unit.proofs.data_before.Tie as tie
 
 abbrev invariant-loop : tie.invariant-loop
-invariant-loop words n d₀ m₀ d m = (d ≡ dataIn words m) × (d ≤ m) × (m ≤ n) × (n ≤ 386)
+invariant-loop words n d₀ m₀ d m = (d ≡ data_in words m) × (d ≤ m) × (m ≤ n) × (n ≤ 386)
 
 abbrev decreases-loop : tie.decreases-loop
 decreases-loop words n d₀ m₀ d m = n - m
 
 loop-holds : tie.Need-loop-init invariant-loop decreases-loop
-loop-holds c = (sym (data-none _), search rules, search rules, search rules)
+loop-holds c = (sym (data_none _), search rules, search rules, search rules)
 
 loop-again : tie.Need-loop-preserved invariant-loop decreases-loop
 loop-again c = let l = c.before.before.before.before.loop in
-    (rw (data-more, l.invariant.0, c.unit.ensures.0, c.before.is-data.ensures, c.before.before.action-at.ensures), omega (arith, c.unit.ensures.1), search rules, search rules)
+    (rw (data_more, l.invariant.0, c.unit.ensures.0, c.before.is_data_lem.ensures, c.before.before.action-at.ensures), omega (arith, c.unit.ensures.1), search rules, search rules)
 
 returns : tie.Need-returns invariant-loop decreases-loop
-returns c = at-end (dataIn _) c.before.loop.invariant.0 c.loop-test.false c.before.loop.invariant.2
+returns c = at_end (data_in _) c.before.loop.invariant.0 c.loop-test.false c.before.loop.invariant.2
 
 pub data-before-spec : {M : Type 1} → statement M
 data-before-spec =

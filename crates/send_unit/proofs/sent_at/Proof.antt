@@ -7,11 +7,11 @@ use Rattle.send_unit.proofs.sent_at.Statement.{statement}
 use Rattle.send_unit.proofs.sent_at.Tie as tie
 
 stop-if-requires : tie.Need-stop-if-requires
-stop-if-requires c κs = (search rules, λ t. c.before.before.before.requires.1 (ap (λ (b : Bool). b && not c.before.before.before.args.passed) (sym c.before.before.is-data.ensures) ∙ t))
+stop-if-requires c κs = (search rules, λ t. c.before.before.before.requires.1 (ap (λ (b : Bool). b && not c.before.before.before.args.passed) (sym c.before.before.is_data_lem.ensures) ∙ t))
 
 returns : tie.Need-returns
 returns c = let a = c.before.before.before.before.before.before.before.args in
-    sent_is a.tags.now a.lengths.now a.marks.now a.correlations.now a.passed a.i a.o _ _ _ (ap (λ (b : Bool). b && not a.passed) c.before.before.before.before.before.before.is-data.ensures) c.before.before.before.before.before.start-if.ensures.0 c.before.before.before.stop-if.ensures
+    sent_is a.tags.now a.lengths.now a.marks.now a.correlations.now a.passed a.i a.o _ _ _ (ap (λ (b : Bool). b && not a.passed) c.before.before.before.before.before.before.is_data_lem.ensures) c.before.before.before.before.before.start-if.ensures.0 c.before.before.before.stop-if.ensures
 
 pub sent-at-spec : {M : Type 1} → statement M
 sent-at-spec =

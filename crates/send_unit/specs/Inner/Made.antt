@@ -9,21 +9,21 @@ use Rattle.std.proofs.Math.ListN.{length, length-drop}
 use Rattle.std.proofs.Math.Seq.{length-take-le}
 use Rattle.laws.specs.Columns.{number_at}
 use Rattle.rules_action.specs.declared.Action.{Action}
-use Rattle.rules_event.specs.Sent.{isData}
+use Rattle.rules_event.specs.Sent.{is_data}
 use Rattle.send_unit.specs.declared.Sent.{Sent}
 use Rattle.send_unit.specs.Inner.Words.{said}
 
 -- it sends a unit held
 abbrev pub held_of : Bool → Action → Bool
-held_of passed o = isData o && not passed
+held_of passed o = is_data o && not passed
 
-pub held-said : (passed : Bool) (o : Action) → held_of passed (said o) ≡ held_of passed o
-unfolding isData
-held-said passed o = refl
+pub held_said : (passed : Bool) (o : Action) → held_of passed (said o) ≡ held_of passed o
+unfolding is_data
+held_said passed o = refl
 
 -- the action with the unit at index i, of the columns of units
-abbrev pub sentOf : List ℕ → List ℕ → List ℕ → List ℕ → Bool → ℕ → Action → Sent
-sentOf tags lengths marks correlations passed i o =
+abbrev pub sent_of : List ℕ → List ℕ → List ℕ → List ℕ → Bool → ℕ → Action → Sent
+sent_of tags lengths marks correlations passed i o =
     record {
       o = o;
       passed = passed;
@@ -36,7 +36,7 @@ sentOf tags lengths marks correlations passed i o =
 pub sent_is : (tags lengths marks correlations : List ℕ) (passed : Bool) (i : ℕ) (o : Action) (b : Bool) (from to : ℕ) → b ≡ held_of passed o → from ≡ cond b (i * 273) 0 → to ≡ cond b (from + number_at lengths i - 4) from
     → ◌≡◌ {A = Sent}
     (record { o = o; passed = passed; held = b; from = from; to = to; unit = record { tag = number_at tags i; marked = eqb (number_at marks i) 1; correlation = number_at correlations i } })
-    (sentOf tags lengths marks correlations passed i o)
+    (sent_of tags lengths marks correlations passed i o)
 sent_is tags lengths marks correlations passed i o b from to e f t =
     (λ y. record { o = o; passed = passed; held = b; from = from; to = t y; unit = record { tag = number_at tags i; marked = eqb (number_at marks i) 1; correlation = number_at correlations i } })
     ∙ (λ y. record { o = o; passed = passed; held = b; from = f y; to = cond b (f y + number_at lengths i - 4) (f y); unit = record { tag = number_at tags i; marked = eqb (number_at marks i) 1; correlation = number_at correlations i } })
@@ -60,7 +60,7 @@ pub record Lies (s h : List ℕ) (x : Sent) : Type 0 where
   pub short : length (shown s h x) ≤ 273
 
 module _ (s h tags lengths marks correlations : List ℕ) (passed : Bool) (i : ℕ) (o : Action) where
-  pub lies : length h ≡ 34944 → i < 128 → (held_of passed o ≡ true → Long (number_at lengths i)) → Lies s h (sentOf tags lengths marks correlations passed i o)
+  pub lies : length h ≡ 34944 → i < 128 → (held_of passed o ≡ true → Long (number_at lengths i)) → Lies s h (sent_of tags lengths marks correlations passed i o)
   unfolding shown
   lies w l long = let p = go (held_of passed o) refl in record { forth = p.0; inside = p.1; short = p.2 }
     where

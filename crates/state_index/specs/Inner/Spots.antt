@@ -11,10 +11,10 @@ use Rattle.std.proofs.Math.Dec.{eqb, ltb}
 use Rattle.std.proofs.lemmas.List.{length-replicate, get_or-replicate}
 use borrow.Author.Tests.{eq-eqb, ne_eqb, lt-ltb, le-ltb, ltb-true}
 use Rattle.laws.specs.Columns.{number_at}
-use Rattle.laws.specs.Inner.Rank.{first-not}
+use Rattle.laws.specs.Inner.Rank.{first_not}
 use Rattle.state_tables.specs.Sound.{ascends}
 use Rattle.state_lookup.specs.Links.{index_of, known}
-use Rattle.state_lookup.specs.Inner.Links.{index-own}
+use Rattle.state_lookup.specs.Inner.Links.{index_own}
 use Rattle.state_index.specs.declared.Found.{Found}
 
 -- the spot of an identifier
@@ -30,7 +30,7 @@ pub record Spots (t iid : List ℕ) (n : ℕ) : Type 0 where
 -- what is found of x: whether it is known, and then where
 pub record Finds (iid : List ℕ) (links x : ℕ) (f : Found) : Type 0 where
   pub known_is : f.known ≡ known iid links x
-  pub at-is : known iid links x ≡ true → f.at ≡ index_of iid links x
+  pub at_is : known iid links x ≡ true → f.at ≡ index_of iid links x
   pub small : f.at < 128
 
 pub slot_small : (x : ℕ) → slot_of x < 1024
@@ -39,8 +39,8 @@ slot_small x = omega arith
 
 -- ---- the table
 
-pub spots-none : (iid : List ℕ) → Spots (replicate 1024 0) iid 0
-spots-none iid = record { long = length-replicate {A = ℕ} 1024 0; stands = λ l b n. let w : ⊥ = omega arith in absurd w; within = λ h b n. omega (arith, get_or-replicate {A = ℕ} 1024 h 0 0 b) }
+pub spots_none : (iid : List ℕ) → Spots (replicate 1024 0) iid 0
+spots_none iid = record { long = length-replicate {A = ℕ} 1024 0; stands = λ l b n. let w : ⊥ = omega arith in absurd w; within = λ h b n. omega (arith, get_or-replicate {A = ℕ} 1024 h 0 0 b) }
 
 -- one link more: h is its spot, v what stands there then
 module _ {t iid : List ℕ} {n : ℕ} (s : Spots t iid n) (h v : ℕ) (e : h ≡ slot_of (number_at iid n)) (b : h < 1024) (f : v ≡ cond (eqb (number_at t h) 0) (n + 1) 255) where
@@ -51,15 +51,15 @@ module _ {t iid : List ℕ} {n : ℕ} (s : Spots t iid n) (h v : ℕ) (e : h ≡
   other k c = get_or-set_other t h k v 0 c
 
   -- where nothing stood, the new link does; else several do
-  v-is : (v ≡ 255 → ⊥) → (number_at t h ≡ 0) × (v ≡ n + 1)
-  v-is c = go (ℕ_discrete (number_at t h) 0)
+  v_is : (v ≡ 255 → ⊥) → (number_at t h ≡ 0) × (v ≡ n + 1)
+  v_is c = go (ℕ_discrete (number_at t h) 0)
     where
       go : Dec (number_at t h ≡ 0) → (number_at t h ≡ 0) × (v ≡ n + 1)
       go (yes z) = (z, f ∙ rw (eq-eqb (number_at t h) 0 z))
       go (no z) = absurd (c (f ∙ rw (ne_eqb (number_at t h) 0 z)))
 
-  pub spots-more : Spots (set t h v) iid (n + 1)
-  spots-more = record { long = length-set t h v ∙ s.long; stands = λ l c q. at l c q (ℕ_discrete l n) (ℕ_discrete (slot_of (number_at iid l)) h); within = λ k j q. in_table k j q (ℕ_discrete k h) }
+  pub spots_more : Spots (set t h v) iid (n + 1)
+  spots_more = record { long = length-set t h v ∙ s.long; stands = λ l c q. at l c q (ℕ_discrete l n) (ℕ_discrete (slot_of (number_at iid l)) h); within = λ k j q. in_table k j q (ℕ_discrete k h) }
     where
       at : (l : ℕ) → l < n + 1 → (number_at (set t h v) (slot_of (number_at iid l)) ≡ 255 → ⊥) → Dec (l ≡ n) → Dec (slot_of (number_at iid l) ≡ h) → number_at (set t h v) (slot_of (number_at iid l)) ≡ l + 1
       at l c q d (yes z) = go d
@@ -68,7 +68,7 @@ module _ {t iid : List ℕ} {n : ℕ} (s : Spots t iid n) (h v : ℕ) (e : h ≡
           now = ap (number_at (set t h v)) z ∙ here
 
           free : (number_at t h ≡ 0) × (v ≡ n + 1)
-          free = v-is (λ y. q (now ∙ y))
+          free = v_is (λ y. q (now ∙ y))
 
           -- where a link stood, several do
           taken : l < n → ⊥
@@ -81,12 +81,12 @@ module _ {t iid : List ℕ} {n : ℕ} (s : Spots t iid n) (h v : ℕ) (e : h ≡
       at l c q (no d) (no z) = other _ z ∙ s.stands l (omega arith) (λ y. q (other _ z ∙ y))
 
       in_table : (k : ℕ) → k < 1024 → (number_at (set t h v) k ≡ 255 → ⊥) → Dec (k ≡ h) → number_at (set t h v) k ≤ n + 1
-      in_table k j q (yes z) = let e : number_at (set t h v) k ≡ v = ap (number_at (set t h v)) z ∙ here in omega (arith, e, (v-is (λ y. q (e ∙ y))).1)
+      in_table k j q (yes z) = let e : number_at (set t h v) k ≡ v = ap (number_at (set t h v)) z ∙ here in omega (arith, e, (v_is (λ y. q (e ∙ y))).1)
       in_table k j q (no z) = omega (arith, other k z, s.within k j (λ y. q (other k z ∙ y)))
 
 -- all links stand there
-pub spots-end : {t iid : List ℕ} {k n : ℕ} → Spots t iid k → n ≤ k → k ≤ n → Spots t iid n
-spots-end {k = k} {n = n} s p q = let e : k ≡ n = omega arith in rw e at s
+pub spots_end : {t iid : List ℕ} {k n : ℕ} → Spots t iid k → n ≤ k → k ≤ n → Spots t iid n
+spots_end {k = k} {n = n} s p q = let e : k ≡ n = omega arith in rw e at s
 
 -- ---- what it finds
 
@@ -95,8 +95,8 @@ module _ {t iid : List ℕ} {links : ℕ} (s : Spots t iid links) (up : ascends 
   only : (i : ℕ) → i < links → number_at iid i ≡ x → m ≡ i + 1
   only i b z = let w : m ≡ number_at t (slot_of (number_at iid i)) = e ∙ ap (λ (y : ℕ). number_at t (slot_of y)) (sym z) in w ∙ s.stands i b (λ y. one (w ∙ y))
 
-  pub spot-within : (l : ℕ) → l ≡ cond (eqb m 0) 0 (m - 1) → links ≤ 128 → l < 128
-  spot-within l w few = go (ℕ_discrete m 0)
+  pub spot_within : (l : ℕ) → l ≡ cond (eqb m 0) 0 (m - 1) → links ≤ 128 → l < 128
+  spot_within l w few = go (ℕ_discrete m 0)
     where
       go : Dec (m ≡ 0) → l < 128
       go (yes z) = let v : l ≡ 0 = w ∙ rw (eq-eqb m 0 z) in omega arith
@@ -104,11 +104,11 @@ module _ {t iid : List ℕ} {links : ℕ} (s : Spots t iid links) (up : ascends 
 
   absent : ((i : ℕ) → i < links → number_at iid i ≡ x → ⊥) → index_of iid links x ≡ links
   unfolding index_of
-  absent g = first-not (λ l. eqb (number_at iid l) x) links (λ i q. ne_eqb (number_at iid i) x (g i q))
+  absent g = first_not (λ l. eqb (number_at iid l) x) links (λ i q. ne_eqb (number_at iid i) x (g i q))
 
-  pub spot-finds : (l : ℕ) → l ≡ cond (eqb m 0) 0 (m - 1) → links ≤ 128 → (f : Found) → f.known ≡ (not (eqb m 0) && eqb (number_at iid l) x) → f.at ≡ l → Finds iid links x f
+  pub spot_finds : (l : ℕ) → l ≡ cond (eqb m 0) 0 (m - 1) → links ≤ 128 → (f : Found) → f.known ≡ (not (eqb m 0) && eqb (number_at iid l) x) → f.at ≡ l → Finds iid links x f
   unfolding known
-  spot-finds l w few f k p = go (ℕ_discrete m 0) (ℕ_discrete (number_at iid l) x)
+  spot_finds l w few f k p = go (ℕ_discrete m 0) (ℕ_discrete (number_at iid l) x)
     where
       here : (m ≡ 0 → ⊥) → l < links
       here z = let v : l ≡ m - 1 = w ∙ rw (ne_eqb m 0 z) in omega (arith, e, s.within (slot_of x) (slot_small x) (λ y. one (e ∙ y)))
@@ -116,14 +116,14 @@ module _ {t iid : List ℕ} {links : ℕ} (s : Spots t iid links) (up : ascends 
       none : f.known ≡ false → f.at < 128 → ((i : ℕ) → i < links → number_at iid i ≡ x → ⊥) → Finds iid links x f
       none n b g =
           let u : ltb (index_of iid links x) links ≡ false = rw (absent g) (le-ltb links links (omega arith)) in
-          record { known_is = n ∙ sym u; at-is = λ y. absurd (false≢true (sym u ∙ y)); small = b }
+          record { known_is = n ∙ sym u; at_is = λ y. absurd (false≢true (sym u ∙ y)); small = b }
 
       go : Dec (m ≡ 0) → Dec (number_at iid l ≡ x) → Finds iid links x f
       go (yes z) d = let v : l ≡ 0 = w ∙ rw (eq-eqb m 0 z) in none (k ∙ rw (eq-eqb m 0 z)) (omega (arith, p)) (λ i b y. omega (arith, only i b y))
       go (no z) (yes y) =
           let b : l < links = here z in
-          let i : index_of iid links x ≡ l = rw y at (index-own iid links up l b) in
-          record { known_is = k ∙ rw (ne_eqb m 0 z, eq-eqb (number_at iid l) x y, i, lt-ltb l links b); at-is = λ u. p ∙ sym i; small = omega (arith, p) }
+          let i : index_of iid links x ≡ l = rw y at (index_own iid links up l b) in
+          record { known_is = k ∙ rw (ne_eqb m 0 z, eq-eqb (number_at iid l) x y, i, lt-ltb l links b); at_is = λ u. p ∙ sym i; small = omega (arith, p) }
       go (no z) (no y) =
           let v : l ≡ m - 1 = w ∙ rw (ne_eqb m 0 z) in
           none (k ∙ rw (ne_eqb m 0 z, ne_eqb (number_at iid l) x y)) (omega (arith, p, here z))
@@ -132,12 +132,12 @@ module _ {t iid : List ℕ} {links : ℕ} (s : Spots t iid links) (up : ascends 
 -- ---- what a search finds
 
 module _ (iid : List ℕ) (links x : ℕ) {l : ℕ} (e : l ≡ index_of iid links x) where
-  pub searched-known : l < links → links ≤ 128 → Finds iid links x (record { known = true; at = l })
+  pub searched_known : l < links → links ≤ 128 → Finds iid links x (record { known = true; at = l })
   unfolding known
-  searched-known b few = record { known_is = rw (← e) (sym (lt-ltb l links b)); at-is = λ u. e; small = omega arith }
+  searched_known b few = record { known_is = rw (← e) (sym (lt-ltb l links b)); at_is = λ u. e; small = omega arith }
 
-  pub searched-none : links ≤ l → Finds iid links x (record { known = false; at = 0 })
+  pub searched_none : links ≤ l → Finds iid links x (record { known = false; at = 0 })
   unfolding known
-  searched-none b =
+  searched_none b =
       let u : ltb (index_of iid links x) links ≡ false = rw (← e) (le-ltb l links b) in
-      record { known_is = sym u; at-is = λ y. absurd (false≢true (sym u ∙ y)); small = omega arith }
+      record { known_is = sym u; at_is = λ y. absurd (false≢true (sym u ∙ y)); small = omega arith }

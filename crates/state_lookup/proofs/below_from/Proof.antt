@@ -4,15 +4,15 @@ use mathlib.Core.Path.{◌≡◌, sym}
 use native.Mathlib.Omega.{arith}
 use borrow.Author.Rules.{rules}
 use lib.Dec.{ltb}
-use Rattle.laws.specs.Below.{countBelow}
-use Rattle.laws.specs.Inner.Below.{at-end, count_none, count-more}
+use Rattle.laws.specs.Below.{count_below}
+use Rattle.laws.specs.Inner.Below.{at_end, count_none, count_more}
 use Rattle.laws.specs.Columns.{number_at}
 use Rattle.state_lookup.proofs.below_from.Statement.{statement}
 use Rattle.state_lookup.proofs.below_from.Tie as tie
 
 abbrev invariant-loop : tie.invariant-loop
 invariant-loop iid first n x c₀ j₀ c j =
-    (c ≡ countBelow (λ i. ltb (number_at iid (first + i)) x) j) × (c ≤ j) × (j ≤ n) × (first + n ≤ 128)
+    (c ≡ count_below (λ i. ltb (number_at iid (first + i)) x) j) × (c ≤ j) × (j ≤ n) × (first + n ≤ 128)
 
 abbrev decreases-loop : tie.decreases-loop
 decreases-loop iid first n x c₀ j₀ c j = n - j
@@ -21,10 +21,10 @@ loop-holds : tie.Need-loop-init invariant-loop decreases-loop
 loop-holds c = (sym (count_none _), search rules, search rules, search rules)
 
 loop-again : tie.Need-loop-preserved invariant-loop decreases-loop
-loop-again c = (rw (count-more, c.before.before.before.loop.invariant.0, c.unit-32.ensures.0), omega (arith, c.unit-32.ensures.1), search rules, search rules)
+loop-again c = (rw (count_more, c.before.before.before.loop.invariant.0, c.unit-32.ensures.0), omega (arith, c.unit-32.ensures.1), search rules, search rules)
 
 returns : tie.Need-returns invariant-loop decreases-loop
-returns c = at-end (countBelow _) c.before.loop.invariant.0 c.loop-test.false c.before.loop.invariant.2
+returns c = at_end (count_below _) c.before.loop.invariant.0 c.loop-test.false c.before.loop.invariant.2
 
 pub below-from-spec : {M : Type 1} → statement M
 below-from-spec =

@@ -2,14 +2,14 @@
 use Prim.Native.Nat.{◌≤◌, ◌<◌, ◌-◌, ◌+◌, ◌*◌}
 use mathlib.Core.Path.{◌≡◌, sym}
 use borrow.Author.Rules.{rules}
-use Rattle.laws.specs.Below.{anyBelow}
-use Rattle.laws.specs.Inner.Below.{at-end, any_none, any-more}
+use Rattle.laws.specs.Below.{any_below}
+use Rattle.laws.specs.Inner.Below.{at_end, any_none, any_more}
 use Rattle.laws.specs.Columns.{is_set}
 use Rattle.state_lookup.proofs.some_active.Statement.{statement}
 use Rattle.state_lookup.proofs.some_active.Tie as tie
 
 abbrev invariant-loop : tie.invariant-loop
-invariant-loop active a found₀ q₀ found q = (found ≡ anyBelow (λ i. is_set active (a * 16 + i)) q) × (q ≤ 16) × (a < 16)
+invariant-loop active a found₀ q₀ found q = (found ≡ any_below (λ i. is_set active (a * 16 + i)) q) × (q ≤ 16) × (a < 16)
 
 abbrev decreases-loop : tie.decreases-loop
 decreases-loop active a found₀ q₀ found q = 16 - q
@@ -18,10 +18,10 @@ loop-holds : tie.Need-loop-init invariant-loop decreases-loop
 loop-holds c = (sym (any_none _), search rules, search rules)
 
 loop-again : tie.Need-loop-preserved invariant-loop decreases-loop
-loop-again c = (rw any-more (rw c.before.before.loop.invariant.0), search rules, search rules)
+loop-again c = (rw any_more (rw c.before.before.loop.invariant.0), search rules, search rules)
 
 returns : tie.Need-returns invariant-loop decreases-loop
-returns c = at-end (anyBelow _) c.before.loop.invariant.0 c.loop-test.false c.before.loop.invariant.1
+returns c = at_end (any_below _) c.before.loop.invariant.0 c.loop-test.false c.before.loop.invariant.1
 
 pub some-active-spec : {M : Type 1} → statement M
 some-active-spec =

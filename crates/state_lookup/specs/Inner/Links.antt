@@ -8,18 +8,18 @@ use Rattle.std.proofs.Math.Bool.{Bool}
 use Rattle.std.proofs.Math.Decide.{dec_lt, ℕ_discrete}
 use Rattle.std.proofs.Math.Dec.{eqb, ltb}
 use borrow.Author.Tests.{eq-eqb, ne_eqb, lt-ltb, le-ltb, ltb-true, ltb-false, eqb-true}
-use Rattle.laws.specs.Below.{firstBelow, countBelow}
-use Rattle.laws.specs.Inner.Below.{first-at, count_small}
+use Rattle.laws.specs.Below.{first_below, count_below}
+use Rattle.laws.specs.Inner.Below.{first_at, count_small}
 use Rattle.laws.specs.Columns.{number_at}
-use Rattle.laws.specs.Inner.Rank.{count-prefix, count-all, count-split, count-rest, first-not, first-hit}
-use Rattle.laws.specs.Inner.Every.{count-not}
+use Rattle.laws.specs.Inner.Rank.{count_prefix, count_all, count_split, count_rest, first_not, first_hit}
+use Rattle.laws.specs.Inner.Every.{count_not}
 use Rattle.state_tables.specs.Sound.{ascends}
-use Rattle.state_tables.specs.Inner.Laws.{ascends-any}
+use Rattle.state_tables.specs.Inner.Laws.{ascends_any}
 use Rattle.state_lookup.specs.Links.{index_of}
 
 -- how many identifiers are below x: where x stands among them, or would
 unfoldable pub rank : List ℕ → ℕ → ℕ → ℕ
-rank iid links x = countBelow (λ l. ltb (number_at iid l) x) links
+rank iid links x = count_below (λ l. ltb (number_at iid l) x) links
 
 -- ---- laws, by the ascending order
 
@@ -28,44 +28,44 @@ module _ (iid : List ℕ) (links : ℕ) (h : ascends iid links ≡ true) (x : �
   unfolding rank
   rank_most = count_small (λ l. ltb (number_at iid l) x) links
 
-  rank-at : (l : ℕ) → l < links → ltb (number_at iid l) x ≡ ltb l (rank iid links x)
+  rank_at : (l : ℕ) → l < links → ltb (number_at iid l) x ≡ ltb l (rank iid links x)
   unfolding rank
-  rank-at = count-prefix (λ l. ltb (number_at iid l) x) links (λ i j p q e. lt-ltb (number_at iid i) x (omega (arith, ascends-any iid links h i j p q, ltb-true (number_at iid j) x e)))
+  rank_at = count_prefix (λ l. ltb (number_at iid l) x) links (λ i j p q e. lt-ltb (number_at iid i) x (omega (arith, ascends_any iid links h i j p q, ltb-true (number_at iid j) x e)))
 
   -- those before the rank are below x, the others not
   pub rank_below : (l : ℕ) → l < links → l < rank iid links x → number_at iid l < x
-  rank_below l b c = ltb-true (number_at iid l) x (rank-at l b ∙ lt-ltb l (rank iid links x) c)
+  rank_below l b c = ltb-true (number_at iid l) x (rank_at l b ∙ lt-ltb l (rank iid links x) c)
 
-  pub rank-from : (l : ℕ) → l < links → rank iid links x ≤ l → x ≤ number_at iid l
-  rank-from l b c = ltb-false (number_at iid l) x (rank-at l b ∙ le-ltb l (rank iid links x) c)
+  pub rank_from : (l : ℕ) → l < links → rank iid links x ≤ l → x ≤ number_at iid l
+  rank_from l b c = ltb-false (number_at iid l) x (rank_at l b ∙ le-ltb l (rank iid links x) c)
 
   -- x stands at its rank, or nowhere
-  pub index-here : rank iid links x < links → number_at iid (rank iid links x) ≡ x → index_of iid links x ≡ rank iid links x
+  pub index_here : rank iid links x < links → number_at iid (rank iid links x) ≡ x → index_of iid links x ≡ rank iid links x
   unfolding index_of
-  index-here b e =
-      first-at (λ l. eqb (number_at iid l) x) (rank iid links x) links
-      (first-not (λ l. eqb (number_at iid l) x) (rank iid links x) (λ i q. ne_eqb (number_at iid i) x (λ z. omega (arith, rank_below i (omega arith) q))))
+  index_here b e =
+      first_at (λ l. eqb (number_at iid l) x) (rank iid links x) links
+      (first_not (λ l. eqb (number_at iid l) x) (rank iid links x) (λ i q. ne_eqb (number_at iid i) x (λ z. omega (arith, rank_below i (omega arith) q))))
       (eq-eqb (number_at iid (rank iid links x)) x e) b
 
-  pub index-not : (rank iid links x < links → number_at iid (rank iid links x) ≡ x → ⊥) → index_of iid links x ≡ links
+  pub index_not : (rank iid links x < links → number_at iid (rank iid links x) ≡ x → ⊥) → index_of iid links x ≡ links
   unfolding index_of
-  index-not g = first-not (λ l. eqb (number_at iid l) x) links (λ i q. ne_eqb (number_at iid i) x (go i q (dec_lt i (rank iid links x)) (ℕ_discrete i (rank iid links x))))
+  index_not g = first_not (λ l. eqb (number_at iid l) x) links (λ i q. ne_eqb (number_at iid i) x (go i q (dec_lt i (rank iid links x)) (ℕ_discrete i (rank iid links x))))
     where
       go : (i : ℕ) → i < links → Dec (i < rank iid links x) → Dec (i ≡ rank iid links x) → number_at iid i ≡ x → ⊥
       go i q (yes l) d z = omega (arith, rank_below i q l)
       go i q (no l) (yes d) z = g (omega arith) (ap (number_at iid) (sym d) ∙ z)
-      go i q (no l) (no d) z = omega (arith, rank-from (rank iid links x) (omega arith) (omega arith), ascends-any iid links h (rank iid links x) i (omega arith) q)
+      go i q (no l) (no d) z = omega (arith, rank_from (rank iid links x) (omega arith) (omega arith), ascends_any iid links h (rank iid links x) i (omega arith) q)
 
   -- the same of a number that is the rank
-  pub index-found : (l : ℕ) → l ≡ rank iid links x → l < links → number_at iid l ≡ x → l ≡ index_of iid links x
-  index-found l e b z = e ∙ sym (index-here (rw e at b) (rw e at z))
+  pub index_found : (l : ℕ) → l ≡ rank iid links x → l < links → number_at iid l ≡ x → l ≡ index_of iid links x
+  index_found l e b z = e ∙ sym (index_here (rw e at b) (rw e at z))
 
-  pub index-none : (l : ℕ) → l ≡ rank iid links x → (l < links → number_at iid l ≡ x → ⊥) → links ≡ index_of iid links x
-  index-none l e g = sym (index-not (λ b z. g (rw (sym e) at b) (rw (sym e) at z)))
+  pub index_none : (l : ℕ) → l ≡ rank iid links x → (l < links → number_at iid l ≡ x → ⊥) → links ≡ index_of iid links x
+  index_none l e g = sym (index_not (λ b z. g (rw (sym e) at b) (rw (sym e) at z)))
 
 -- the lesser of two is at most the second
-pub least-most : (x y n : ℕ) → n ≡ cond (ltb x y) x y → n ≤ y
-least-most x y n e = go (dec_lt x y)
+pub least_most : (x y n : ℕ) → n ≡ cond (ltb x y) x y → n ≤ y
+least_most x y n e = go (dec_lt x y)
   where
     go : Dec (x < y) → n ≤ y
     go (yes l) = let w : n ≡ x = e ∙ rw (lt-ltb x y l) in omega arith
@@ -73,79 +73,79 @@ least-most x y n e = go (dec_lt x y)
 
 -- ---- the search: of every eighth identifier k are below x, so the rank lies in the last eighth of these
 
-module _ (iid : List ℕ) (links : ℕ) (h : ascends iid links ≡ true) (x k : ℕ) (e : k ≡ countBelow (λ i. ltb (number_at iid (8 * i)) x) ((links + 7) / 8)) where
-  pub eighths-most : k ≤ (links + 7) / 8
-  eighths-most = rw e (count_small (λ i. ltb (number_at iid (8 * i)) x) ((links + 7) / 8))
+module _ (iid : List ℕ) (links : ℕ) (h : ascends iid links ≡ true) (x k : ℕ) (e : k ≡ count_below (λ i. ltb (number_at iid (8 * i)) x) ((links + 7) / 8)) where
+  pub eighths_most : k ≤ (links + 7) / 8
+  eighths_most = rw e (count_small (λ i. ltb (number_at iid (8 * i)) x) ((links + 7) / 8))
 
-  eighth-at : (i : ℕ) → 8 * i < links → ltb (number_at iid (8 * i)) x ≡ ltb i k
-  eighth-at i b =
+  eighth_at : (i : ℕ) → 8 * i < links → ltb (number_at iid (8 * i)) x ≡ ltb i k
+  eighth_at i b =
       rw e
-      (count-prefix (λ i. ltb (number_at iid (8 * i)) x) ((links + 7) / 8)
-      (λ i j p q z. lt-ltb (number_at iid (8 * i)) x (omega (arith, ascends-any iid links h (8 * i) (8 * j) (omega arith) (omega arith), ltb-true (number_at iid (8 * j)) x z)))
+      (count_prefix (λ i. ltb (number_at iid (8 * i)) x) ((links + 7) / 8)
+      (λ i j p q z. lt-ltb (number_at iid (8 * i)) x (omega (arith, ascends_any iid links h (8 * i) (8 * j) (omega arith) (omega arith), ltb-true (number_at iid (8 * j)) x z)))
       i (omega arith))
 
   -- none is: none at all
-  pub eighths-none : k ≡ 0 → 0 ≡ rank iid links x
+  pub eighths_none : k ≡ 0 → 0 ≡ rank iid links x
   unfolding rank
-  eighths-none z = sym (count-not (λ l. ltb (number_at iid l) x) links (λ l b. le-ltb (number_at iid l) x (go l b (ℕ_discrete l 0))))
+  eighths_none z = sym (count_not (λ l. ltb (number_at iid l) x) links (λ l b. le-ltb (number_at iid l) x (go l b (ℕ_discrete l 0))))
     where
       first : 0 < links → x ≤ number_at iid 0
-      first b = ltb-false (number_at iid 0) x (eighth-at 0 (omega arith) ∙ le-ltb 0 k (omega arith))
+      first b = ltb-false (number_at iid 0) x (eighth_at 0 (omega arith) ∙ le-ltb 0 k (omega arith))
 
       go : (l : ℕ) → l < links → Dec (l ≡ 0) → x ≤ number_at iid l
       go l b (yes w) = rw w (first (omega arith))
-      go l b (no w) = omega (arith, first (omega arith), ascends-any iid links h 0 l (omega arith) b)
+      go l b (no w) = omega (arith, first (omega arith), ascends_any iid links h 0 l (omega arith) b)
 
   -- else those before the last such eighth, and as many as are below x in it
-  pub eighths-some : (first n r : ℕ) → (k ≡ 0 → ⊥) → first ≡ 8 * k - 8 → n ≡ cond (ltb 8 (links - first)) 8 (links - first) → r ≡ countBelow (λ j. ltb (number_at iid (first + j)) x) n → first + r ≡ rank iid links x
+  pub eighths_some : (first n r : ℕ) → (k ≡ 0 → ⊥) → first ≡ 8 * k - 8 → n ≡ cond (ltb 8 (links - first)) 8 (links - first) → r ≡ count_below (λ j. ltb (number_at iid (first + j)) x) n → first + r ≡ rank iid links x
   unfolding rank
-  eighths-some first n r z f m c = rw c (go (dec_lt 8 (links - first)))
+  eighths_some first n r z f m c = rw c (go (dec_lt 8 (links - first)))
     where
       is_below : ℕ → Bool
       is_below l = ltb (number_at iid l) x
 
       inside : first < links
-      inside = omega (arith, eighths-most)
+      inside = omega (arith, eighths_most)
 
       start : number_at iid first < x
       start =
           let w : 8 * (k - 1) ≡ first = omega arith in
           let b : 8 * (k - 1) < links = omega (arith, inside) in
-          rw w at (ltb-true (number_at iid (8 * (k - 1))) x (eighth-at (k - 1) b ∙ lt-ltb (k - 1) k (omega arith)))
+          rw w at (ltb-true (number_at iid (8 * (k - 1))) x (eighth_at (k - 1) b ∙ lt-ltb (k - 1) k (omega arith)))
 
-      before : countBelow is_below first ≡ first
-      before = count-all is_below first (λ i q. lt-ltb (number_at iid i) x (omega (arith, start, ascends-any iid links h i first q inside)))
+      before : count_below is_below first ≡ first
+      before = count_all is_below first (λ i q. lt-ltb (number_at iid i) x (omega (arith, start, ascends_any iid links h i first q inside)))
 
-      within : (past : ℕ) → first + n ≡ past → first + countBelow (λ j. is_below (first + j)) n ≡ countBelow is_below past
-      within past w = rw (sym w) (sym (rw before at (count-split is_below first n)))
+      within : (past : ℕ) → first + n ≡ past → first + count_below (λ j. is_below (first + j)) n ≡ count_below is_below past
+      within past w = rw (sym w) (sym (rw before at (count_split is_below first n)))
 
       after : 8 < links - first → (l : ℕ) → first + 8 ≤ l → l < links → Dec (l ≡ first + 8) → is_below l ≡ false
       after b l p q (yes w) =
           let v : 8 * k ≡ l = omega arith in
-          rw v at (eighth-at k (omega arith) ∙ le-ltb k k (omega arith))
+          rw v at (eighth_at k (omega arith) ∙ le-ltb k k (omega arith))
       after b l p q (no w) =
           let v : 8 * k ≡ first + 8 = omega arith in
-          let y : x ≤ number_at iid (first + 8) = rw v at (ltb-false (number_at iid (8 * k)) x (eighth-at k (omega arith) ∙ le-ltb k k (omega arith))) in
-          le-ltb (number_at iid l) x (omega (arith, y, ascends-any iid links h (first + 8) l (omega arith) q))
+          let y : x ≤ number_at iid (first + 8) = rw v at (ltb-false (number_at iid (8 * k)) x (eighth_at k (omega arith) ∙ le-ltb k k (omega arith))) in
+          le-ltb (number_at iid l) x (omega (arith, y, ascends_any iid links h (first + 8) l (omega arith) q))
 
-      go : Dec (8 < links - first) → first + countBelow (λ j. is_below (first + j)) n ≡ countBelow is_below links
+      go : Dec (8 < links - first) → first + count_below (λ j. is_below (first + j)) n ≡ count_below is_below links
       go (yes b) =
           let w : n ≡ 8 = m ∙ rw (lt-ltb 8 (links - first) b) in
-          within (first + 8) (rw w) ∙ sym (count-rest is_below (first + 8) links (omega arith) (λ l p q. after b l p q (ℕ_discrete l (first + 8))))
+          within (first + 8) (rw w) ∙ sym (count_rest is_below (first + 8) links (omega arith) (λ l p q. after b l p q (ℕ_discrete l (first + 8))))
       go (no b) =
           let w : n ≡ links - first = m ∙ rw (le-ltb 8 (links - first) (omega arith)) in
           within links (omega (arith, inside))
 
 -- the identifier of a link is known, at that link
-pub index-own : (iid : List ℕ) (links : ℕ) → ascends iid links ≡ true → (l : ℕ) → l < links → index_of iid links (number_at iid l) ≡ l
+pub index_own : (iid : List ℕ) (links : ℕ) → ascends iid links ≡ true → (l : ℕ) → l < links → index_of iid links (number_at iid l) ≡ l
 unfolding index_of
-index-own iid links h l b =
-    first-at (λ k. eqb (number_at iid k) (number_at iid l)) l links
-    (first-not (λ k. eqb (number_at iid k) (number_at iid l)) l (λ i q. ne_eqb (number_at iid i) (number_at iid l) (λ z. omega (arith, ascends-any iid links h i l q b))))
+index_own iid links h l b =
+    first_at (λ k. eqb (number_at iid k) (number_at iid l)) l links
+    (first_not (λ k. eqb (number_at iid k) (number_at iid l)) l (λ i q. ne_eqb (number_at iid i) (number_at iid l) (λ z. omega (arith, ascends_any iid links h i l q b))))
     (eq-eqb (number_at iid l) (number_at iid l) refl) b
 
 -- what stands at an identifier's index is that identifier
 pub index_is : (iid : List ℕ) (links x : ℕ) → index_of iid links x < links → number_at iid (index_of iid links x) ≡ x
 unfolding index_of
 index_is iid links x h =
-    eqb-true (number_at iid (firstBelow (λ l. eqb (number_at iid l) x) links)) x (first-hit (λ l. eqb (number_at iid l) x) links h)
+    eqb-true (number_at iid (first_below (λ l. eqb (number_at iid l) x) links)) x (first_hit (λ l. eqb (number_at iid l) x) links h)

@@ -5,7 +5,7 @@ use native.Mathlib.Omega.{arith}
 use lib.Dec.{eqb}
 use borrow.Author.Rules.{rules}
 use borrow.Author.Tests.{lt-ltb, le-ltb}
-use Rattle.state_ranges.specs.Inner.Laws.{owner-small}
+use Rattle.state_ranges.specs.Inner.Laws.{owner_small}
 use Rattle.state_names.specs.Inner.Run.{GoodAt}
 use Rattle.state_names.proofs.is_good_at.Statement.{statement}
 use Rattle.state_names.proofs.is_good_at.Tie as tie
@@ -21,7 +21,7 @@ element-copy-out-wide : tie.Need-element-copy-out-wide
 element-copy-out-wide c = omega (arith, c.before.before.requires.few, c.before.if1.false)
 
 has-requires : tie.Need-has-requires
-has-requires c κs = rw c.wide.ensures (owner-small _ _ _ c.before.before.before.before.requires _ c.before.before.before.if1.false)
+has-requires c κs = rw c.wide.ensures (owner_small _ _ _ c.before.before.before.before.requires _ c.before.before.before.if1.false)
 
 returns-2 : tie.Need-returns-2
 unfolding GoodAt

@@ -5,22 +5,22 @@ use mathlib.Core.Path.{◌≡◌, refl, ◌∙◌}
 use mathlib.Core.Bool.{false}
 use native.Mathlib.Omega.{arith}
 use borrow.Author.Rules.{rules}
-use Rattle.state_sets.specs.Inner.Bits.{flagsOf, flags_long}
+use Rattle.state_sets.specs.Inner.Bits.{flags_of, flags_long}
 use Rattle.state_ranges.specs.Named.{start_at, entries}
 use Rattle.state_ranges.specs.Inner.Laws.{Table}
-use Rattle.state_names.specs.Inner.Run.{Sofar, sofar-none, sofar-plain, sofar-more, sofar-end}
+use Rattle.state_names.specs.Inner.Run.{Sofar, sofar_none, sofar_plain, sofar_more, sofar_end}
 use Rattle.state_names.proofs.of_few.Statement.{statement}
 use Rattle.state_names.proofs.of_few.Tie as tie
 
 abbrev invariant-loop : tie.invariant-loop
-invariant-loop value iid owner links mine n r₀ near₀ i₀ r near i = Sofar iid owner links (flagsOf mine) value r₀.refused (flagsOf r₀.set) i r.refused (flagsOf r.set) × (i ≤ n) × (n ≡ entries false value) × Table iid owner links
+invariant-loop value iid owner links mine n r₀ near₀ i₀ r near i = Sofar iid owner links (flags_of mine) value r₀.refused (flags_of r₀.set) i r.refused (flags_of r.set) × (i ≤ n) × (n ≡ entries false value) × Table iid owner links
 
 abbrev decreases-loop : tie.decreases-loop
 decreases-loop value iid owner links mine n r₀ near₀ i₀ r near i = n - i
 
 loop-holds : tie.Need-loop-init invariant-loop decreases-loop
 unfolding entries
-loop-holds c = let p = c.before.requires in (sofar-none p.1 (flags_long _), search rules, refl, p.0)
+loop-holds c = let p = c.before.requires in (sofar_none p.1 (flags_long _), search rules, refl, p.0)
 
 get32-requires : tie.Need-get32-requires invariant-loop decreases-loop
 unfolding entries
@@ -30,7 +30,7 @@ rank-near-requires : tie.Need-rank-near-requires invariant-loop decreases-loop
 rank-near-requires c κs = let t = c.before.before.loop.invariant.3 in (t.few, t.order)
 
 with-id-requires : tie.Need-with-id-requires invariant-loop decreases-loop
-with-id-requires c κs = let v = c.before.before.before.loop.invariant in (v.3, c.rank-near.ensures.0, sofar-plain v.0)
+with-id-requires c κs = let v = c.before.before.before.loop.invariant in (v.3, c.rank-near.ensures.0, sofar_plain v.0)
 
 add-t19 : tie.Need-overflow-add-t19 invariant-loop decreases-loop
 add-t19 c = omega (arith, c.before.before.before.before.loop.invariant.3.few, c.before.rank-near.ensures.1)
@@ -47,10 +47,10 @@ loop-again c =
     let v = c.before.before.before.before.before.before.loop.invariant in
     let g = c.before.in_order.ensures in
     let a = c.answer.ensures in
-    (rw (a.0, a.1) (g.so _ _ _ (sofar-more v.0 c.before.before.before.before.get32.ensures c.before.before.with-id.ensures)), omega (arith, g.within, v.2), v.2, v.3)
+    (rw (a.0, a.1) (g.so _ _ _ (sofar_more v.0 c.before.before.before.before.get32.ensures c.before.before.with-id.ensures)), omega (arith, g.within, v.2), v.2, v.3)
 
 returns : tie.Need-returns invariant-loop decreases-loop
-returns c = let v = c.before.loop.invariant in sofar-end v.0 (omega (arith, v.1, v.2))
+returns c = let v = c.before.loop.invariant in sofar_end v.0 (omega (arith, v.1, v.2))
 
 pub of-few-spec : {M : Type 1} → statement M
 of-few-spec =

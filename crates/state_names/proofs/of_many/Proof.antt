@@ -6,15 +6,15 @@ use mathlib.Core.Bool.{false}
 use native.Mathlib.Omega.{arith}
 use borrow.Author.Rules.{rules}
 use Rattle.state_index.specs.Inner.Spots.{Spots}
-use Rattle.state_sets.specs.Inner.Bits.{flagsOf, flags_long}
+use Rattle.state_sets.specs.Inner.Bits.{flags_of, flags_long}
 use Rattle.state_ranges.specs.Named.{start_at, entries}
 use Rattle.state_ranges.specs.Inner.Laws.{Table}
-use Rattle.state_names.specs.Inner.Run.{Sofar, sofar-none, sofar-plain, sofar-more, sofar-end}
+use Rattle.state_names.specs.Inner.Run.{Sofar, sofar_none, sofar_plain, sofar_more, sofar_end}
 use Rattle.state_names.proofs.of_many.Statement.{statement}
 use Rattle.state_names.proofs.of_many.Tie as tie
 
 abbrev invariant-loop : tie.invariant-loop
-invariant-loop value iid owner links mine n table r₀ i₀ r i = Sofar iid owner links (flagsOf mine) value r₀.refused (flagsOf r₀.set) i r.refused (flagsOf r.set) × (i ≤ n) × (n ≡ entries false value) × Table iid owner links × Spots table iid links
+invariant-loop value iid owner links mine n table r₀ i₀ r i = Sofar iid owner links (flags_of mine) value r₀.refused (flags_of r₀.set) i r.refused (flags_of r.set) × (i ≤ n) × (n ≡ entries false value) × Table iid owner links × Spots table iid links
 
 abbrev decreases-loop : tie.decreases-loop
 decreases-loop value iid owner links mine n table r₀ i₀ r i = n - i
@@ -24,7 +24,7 @@ table-of-requires c κs = c.before.requires.0.few
 
 loop-holds : tie.Need-loop-init invariant-loop decreases-loop
 unfolding entries
-loop-holds c = let p = c.before.before.requires in (sofar-none p.1 (flags_long _), search rules, refl, p.0, c.table_of.ensures)
+loop-holds c = let p = c.before.before.requires in (sofar_none p.1 (flags_long _), search rules, refl, p.0, c.table_of.ensures)
 
 get32-requires : tie.Need-get32-requires invariant-loop decreases-loop
 unfolding entries
@@ -34,16 +34,16 @@ find-requires : tie.Need-find-requires invariant-loop decreases-loop
 find-requires c κs = let v = c.before.before.before.loop.invariant in (v.3.few, v.3.order, v.4)
 
 with-found-requires : tie.Need-with-found-requires invariant-loop decreases-loop
-with-found-requires c κs = let v = c.before.before.before.before.loop.invariant in (v.3, c.find.ensures, sofar-plain v.0)
+with-found-requires c κs = let v = c.before.before.before.before.loop.invariant in (v.3, c.find.ensures, sofar_plain v.0)
 
 loop-again : tie.Need-loop-preserved invariant-loop decreases-loop
 unfolding start_at
 loop-again c =
     let v = c.before.before.before.before.before.loop.invariant in
-    (sofar-more v.0 c.before.before.before.get32.ensures c.with-found.ensures, search rules, v.2, v.3, v.4)
+    (sofar_more v.0 c.before.before.before.get32.ensures c.with-found.ensures, search rules, v.2, v.3, v.4)
 
 returns : tie.Need-returns invariant-loop decreases-loop
-returns c = let v = c.before.loop.invariant in sofar-end v.0 (omega (arith, v.1, v.2))
+returns c = let v = c.before.loop.invariant in sofar_end v.0 (omega (arith, v.1, v.2))
 
 pub of-many-spec : {M : Type 1} → statement M
 of-many-spec =

@@ -5,25 +5,25 @@ use mathlib.Core.Path.{◌≡◌, refl}
 use mathlib.Core.Bool.{true}
 use native.Mathlib.Omega.{arith}
 use borrow.Author.Rules.{rules}
-use Rattle.state_sets.specs.Inner.Bits.{flagsOf, flags_long}
-use Rattle.state_ranges.specs.Named.{isOwnedBy, first_of, start_at, stop_at, entries, refusedEntry}
+use Rattle.state_sets.specs.Inner.Bits.{flags_of, flags_long}
+use Rattle.state_ranges.specs.Named.{is_owned_by, first_of, start_at, stop_at, entries, refused_entry}
 use Rattle.state_ranges.specs.Inner.Laws.{Table}
-use Rattle.state_ranges.specs.Inner.Refused.{refusedBy}
+use Rattle.state_ranges.specs.Inner.Refused.{refused_by}
 use Rattle.state_ranges.specs.Inner.Owners.{Looked}
 use Rattle.state_ranges.specs.Inner.Names.{earlier}
-use Rattle.state_names.specs.Inner.Entries.{refused_none, refused-more, refused_end, Flags, flags-none, flags-more, flags-end}
+use Rattle.state_names.specs.Inner.Entries.{refused_none, refused_more, refused_end, Flags, flags_none, flags_more, flags_end}
 use Rattle.state_names.proofs.of_ranges.Statement.{statement}
 use Rattle.state_names.proofs.of_ranges.Tie as tie
 
 abbrev invariant-loop : tie.invariant-loop
-invariant-loop far₀ value iid owner links mine n r₀ i₀ far r i = (r.refused ≡ earlier r₀.refused (first_of (refusedEntry (refusedBy iid owner links (flagsOf mine)) true value) i)) × (flagsOf r.set ≡ Flags (isOwnedBy iid owner links) true value (flagsOf r₀.set) i) × Looked owner far (flagsOf r.set) × (i ≤ n) × (n ≡ entries true value) × Table iid owner links
+invariant-loop far₀ value iid owner links mine n r₀ i₀ far r i = (r.refused ≡ earlier r₀.refused (first_of (refused_entry (refused_by iid owner links (flags_of mine)) true value) i)) × (flags_of r.set ≡ Flags (is_owned_by iid owner links) true value (flags_of r₀.set) i) × Looked owner far (flags_of r.set) × (i ≤ n) × (n ≡ entries true value) × Table iid owner links
 
 abbrev decreases-loop : tie.decreases-loop
 decreases-loop far₀ value iid owner links mine n r₀ i₀ far r i = n - i
 
 loop-holds : tie.Need-loop-init invariant-loop decreases-loop
 unfolding entries
-loop-holds c = (refused_none _ _ _ _ c.before.requires.2, flags-none _ _ _ _ (flags_long _), c.before.requires.1, search rules, refl, c.before.requires.0)
+loop-holds c = (refused_none _ _ _ _ c.before.requires.2, flags_none _ _ _ _ (flags_long _), c.before.requires.1, search rules, refl, c.before.requires.0)
 
 get32-requires : tie.Need-get32-requires invariant-loop decreases-loop
 unfolding entries
@@ -43,12 +43,12 @@ loop-again c =
     let i = c.before.before.before.before.before.loop.invariant in
     let p = c.before.before.before.get32.ensures in
     let q = c.before.before.get322.ensures in
-    (refused-more true c.before.before.before.before.before.before.before.args.value.now c.before.before.before.before.before.loop.i _ _ p q (refusedBy c.before.before.before.before.before.before.before.args.iid.now c.before.before.before.before.before.before.before.args.owner.now c.before.before.before.before.before.before.before.args.links (flagsOf c.before.before.before.before.before.before.before.args.mine)) _ _ _ i.0 k.0.refused, flags-more true c.before.before.before.before.before.before.before.args.value.now c.before.before.before.before.before.loop.i _ _ p q _ _ _ _ i.1 k.0.set, k.1, search rules, i.4, i.5)
+    (refused_more true c.before.before.before.before.before.before.before.args.value.now c.before.before.before.before.before.loop.i _ _ p q (refused_by c.before.before.before.before.before.before.before.args.iid.now c.before.before.before.before.before.before.before.args.owner.now c.before.before.before.before.before.before.before.args.links (flags_of c.before.before.before.before.before.before.before.args.mine)) _ _ _ i.0 k.0.refused, flags_more true c.before.before.before.before.before.before.before.args.value.now c.before.before.before.before.before.loop.i _ _ p q _ _ _ _ i.1 k.0.set, k.1, search rules, i.4, i.5)
 
 returns : tie.Need-returns invariant-loop decreases-loop
 returns c =
     let i = c.before.loop.invariant in
-    (record { refused = refused_end true c.before.before.before.args.value.now c.before.loop.i (omega (arith, i.4)) _ _ _ i.0; set = flags-end true c.before.before.before.args.value.now c.before.loop.i (omega (arith, i.4)) _ _ _ i.1 }, i.2)
+    (record { refused = refused_end true c.before.before.before.args.value.now c.before.loop.i (omega (arith, i.4)) _ _ _ i.0; set = flags_end true c.before.before.before.args.value.now c.before.loop.i (omega (arith, i.4)) _ _ _ i.1 }, i.2)
 
 pub of-ranges-spec : {M : Type 1} → statement M
 of-ranges-spec =

@@ -3,14 +3,14 @@ use borrow.Author.Tests.{not-true, not-false}
 use mathlib.Core.Path.{◌≡◌, sym, ◌∙◌}
 use mathlib.Core.Bool.{true, false}
 use borrow.Author.Rules.{rules}
-use Rattle.state_plan.specs.Plan.{layoutOk}
+use Rattle.state_plan.specs.Plan.{layout_ok}
 use Rattle.state_plan.specs.Inner.Layout.{code_of, rows_at, inside_of}
 use Rattle.state_plan.proofs.code_of.Statement.{statement}
 use Rattle.state_plan.proofs.code_of.Tie as tie
 
 returns : tie.Need-returns
 unfolding code_of
-returns c = let e : layoutOk _ ≡ false = sym c.before.laid_out.ensures ∙ not-true _ c.if1.true in rw e
+returns c = let e : layout_ok _ ≡ false = sym c.before.laid_out.ensures ∙ not-true _ c.if1.true in rw e
 
 places-of-requires : tie.Need-places-of-requires
 places-of-requires c κs = sym c.before.laid_out.ensures ∙ not-false _ c.if1.false
@@ -21,14 +21,14 @@ rows-ok-requires c κs = inside_of _ _ (sym c.before.before.laid_out.ensures ∙
 returns-2 : tie.Need-returns-2
 unfolding code_of
 returns-2 c =
-    let e : layoutOk _ ≡ true = sym c.before.before.before.before.laid_out.ensures ∙ not-false _ c.before.before.before.if1.false in
+    let e : layout_ok _ ≡ true = sym c.before.before.before.before.laid_out.ensures ∙ not-false _ c.before.before.before.if1.false in
     let f : rows_at _ _ ≡ false = sym c.before.rows_ok.ensures ∙ not-true _ c.if2.true in
     rw (e, sym c.before.before.places_of.ensures, f)
 
 returns-3 : tie.Need-returns-3
 unfolding code_of
 returns-3 c =
-    let e : layoutOk _ ≡ true = sym c.before.before.before.before.laid_out.ensures ∙ not-false _ c.before.before.before.if1.false in
+    let e : layout_ok _ ≡ true = sym c.before.before.before.before.laid_out.ensures ∙ not-false _ c.before.before.before.if1.false in
     let f : rows_at _ _ ≡ true = sym c.before.rows_ok.ensures ∙ not-false _ c.if2.false in
     rw (e, sym c.before.before.places_of.ensures, f)
 

@@ -5,7 +5,7 @@ use native.Mathlib.Omega.{arith}
 use borrow.Author.Rules.{rules}
 use lib.ListN.{length}
 use Rattle.laws.specs.Columns.{number_at}
-use Rattle.laws.specs.Inner.Columns.{HalfCol, half-none, half-more, half_at}
+use Rattle.laws.specs.Inner.Columns.{HalfCol, half_none, half_more, half_at}
 use Rattle.state_plan.specs.Inner.Tables.{byte_of, AllIn}
 use Rattle.state_plan.proofs.fill_bytes.Statement.{statement}
 use Rattle.state_plan.proofs.fill_bytes.Tie as tie
@@ -17,7 +17,7 @@ abbrev decreases-loop : tie.decreases-loop
 decreases-loop s at row n out₀ i₀ out i = n - i
 
 loop-holds : tie.Need-loop-init invariant-loop decreases-loop
-loop-holds c = (half-none _ _ _ refl, search rules, search rules, c.requires.1)
+loop-holds c = (half_none _ _ _ refl, search rules, search rules, c.requires.1)
 
 mul-out : tie.Need-overflow-mul-out invariant-loop decreases-loop
 mul-out c = omega (arith, c.before.loop.invariant.3 c.before.loop.i c.loop-test.true)
@@ -32,7 +32,7 @@ slice-write-out : tie.Need-slice-write-out invariant-loop decreases-loop
 slice-write-out c = omega (arith, c.before.before.loop.invariant.0.long)
 
 loop-again : tie.Need-loop-preserved invariant-loop decreases-loop
-loop-again c = let i = c.before.before.loop.invariant in (half-more _ i.0 (omega arith) refl, search rules, search rules, i.3)
+loop-again c = let i = c.before.before.loop.invariant in (half_more _ i.0 (omega arith) refl, search rules, search rules, i.3)
 
 returns : tie.Need-returns invariant-loop decreases-loop
 returns c = half_at (omega arith) c.before.loop.invariant.0

@@ -7,20 +7,20 @@ use borrow.Author.Rules.{rules}
 use lib.Dec.{leb, ltb}
 use lib.ListN.{length}
 use Rattle.laws.specs.Below.{all_below}
-use Rattle.laws.specs.Inner.Below.{all_none, all_more, at-end}
-use Rattle.state_plan.specs.Plan.{high, low, linkKinds}
-use Rattle.state_plan.specs.Inner.Tables.{word_of, floorOf, floor-none, floor-more, kinds-both, and_same}
+use Rattle.laws.specs.Inner.Below.{all_none, all_more, at_end}
+use Rattle.state_plan.specs.Plan.{high, low, link_kinds}
+use Rattle.state_plan.specs.Inner.Tables.{word_of, floor_of, floor_none, floor_more, kinds_both, and_same}
 use Rattle.state_plan.proofs.links_ok.Statement.{statement}
 use Rattle.state_plan.proofs.links_ok.Tie as tie
 
 abbrev invariant-loop : tie.invariant-loop
-invariant-loop s at links ases ok₀ least₀ bits₀ l₀ ok least bits l = (ok ≡ all_below (λ i. leb (floorOf (word_of s at 8) i) (word_of s at 8 i) && ltb (low (word_of s (at + 4) 8 i)) ases) l) × (least ≡ floorOf (word_of s at 8) l) × (ltb (high bits) linkKinds ≡ all_below (λ i. ltb (high (word_of s (at + 4) 8 i)) linkKinds) l) × (l ≤ links) × (links ≤ 128) × (at + 8 * links ≤ length s)
+invariant-loop s at links ases ok₀ least₀ bits₀ l₀ ok least bits l = (ok ≡ all_below (λ i. leb (floor_of (word_of s at 8) i) (word_of s at 8 i) && ltb (low (word_of s (at + 4) 8 i)) ases) l) × (least ≡ floor_of (word_of s at 8) l) × (ltb (high bits) link_kinds ≡ all_below (λ i. ltb (high (word_of s (at + 4) 8 i)) link_kinds) l) × (l ≤ links) × (links ≤ 128) × (at + 8 * links ≤ length s)
 
 abbrev decreases-loop : tie.decreases-loop
 decreases-loop s at links ases ok₀ least₀ bits₀ l₀ ok least bits l = links - l
 
 loop-holds : tie.Need-loop-init invariant-loop decreases-loop
-loop-holds c = (sym (all_none _), sym (floor-none _), sym (all_none _), search rules, search rules, search rules)
+loop-holds c = (sym (all_none _), sym (floor_none _), sym (all_none _), search rules, search rules, search rules)
 
 mul-get32 : tie.Need-overflow-mul-get32 invariant-loop decreases-loop
 mul-get32 c = omega (arith, c.before.loop.invariant.4, c.loop-test.true)
@@ -50,10 +50,10 @@ loop-again : tie.Need-loop-preserved invariant-loop decreases-loop
 loop-again c =
     let at = c.before.before.before.before.loop in
     let i = at.invariant in
-    (rw all_more (rw (i.0, i.1, c.get322.ensures, c.before.long.ensures.0, c.before.before.get32.ensures)), rw (floor-more, c.before.long.ensures.0, c.before.before.get32.ensures), rw all_more (kinds-both at.bits c.get322.result ∙ rw (i.2, c.get322.ensures)), search rules, i.4, i.5)
+    (rw all_more (rw (i.0, i.1, c.get322.ensures, c.before.long.ensures.0, c.before.before.get32.ensures)), rw (floor_more, c.before.long.ensures.0, c.before.before.get32.ensures), rw all_more (kinds_both at.bits c.get322.result ∙ rw (i.2, c.get322.ensures)), search rules, i.4, i.5)
 
 returns : tie.Need-returns invariant-loop decreases-loop
-returns c = let i = c.before.loop.invariant in and_same (at-end (all_below _) i.0 c.loop-test.false i.3) (at-end (all_below _) i.2 c.loop-test.false i.3)
+returns c = let i = c.before.loop.invariant in and_same (at_end (all_below _) i.0 c.loop-test.false i.3) (at_end (all_below _) i.2 c.loop-test.false i.3)
 
 pub links-ok-spec : {M : Type 1} → statement M
 links-ok-spec =

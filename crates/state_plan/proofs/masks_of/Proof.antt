@@ -5,7 +5,7 @@ use native.Mathlib.Omega.{arith}
 use borrow.Author.Rules.{rules}
 use lib.ListN.{length, replicate}
 use Rattle.laws.specs.Columns.{number_at}
-use Rattle.laws.specs.Inner.Columns.{HalfCol, half-none, half-more, half_at}
+use Rattle.laws.specs.Inner.Columns.{HalfCol, half_none, half_more, half_at}
 use Rattle.state_plan.specs.Plan.{high}
 use Rattle.state_plan.specs.Inner.Tables.{word_of, RowsIn, filled}
 use Rattle.state_plan.proofs.masks_of.Statement.{statement}
@@ -18,7 +18,7 @@ abbrev decreases-loop : tie.decreases-loop
 decreases-loop s at n r₀ p₀ r p = n - p
 
 loop-holds : tie.Need-loop-init invariant-loop decreases-loop
-loop-holds c = (half-none _ _ _ refl, search rules, search rules, c.before.requires.1)
+loop-holds c = (half_none _ _ _ refl, search rules, search rules, c.before.requires.1)
 
 mul-get32 : tie.Need-overflow-mul-get32 invariant-loop decreases-loop
 mul-get32 c = omega (arith, c.before.loop.invariant.3 c.before.loop.p c.loop-test.true)
@@ -30,7 +30,7 @@ get32-requires : tie.Need-get32-requires invariant-loop decreases-loop
 get32-requires c κs = c.before.loop.invariant.3 c.before.loop.p c.loop-test.true
 
 loop-again : tie.Need-loop-preserved invariant-loop decreases-loop
-loop-again c = let i = c.before.before.loop.invariant in (half-more _ i.0 (omega arith) (ap high c.get32.ensures), search rules, search rules, i.3)
+loop-again c = let i = c.before.before.loop.invariant in (half_more _ i.0 (omega arith) (ap high c.get32.ensures), search rules, search rules, i.3)
 
 returns : tie.Need-returns invariant-loop decreases-loop
 returns c = filled 16 _ _ _ (half_at (omega arith) c.before.loop.invariant.0)

@@ -7,15 +7,15 @@ use native.Mathlib.Omega.{arith}
 use borrow.Author.Rules.{rules}
 use lib.Dec.{eqb, ltb}
 use lib.ListN.{length}
-use Rattle.state_plan.specs.Plan.{bitsFrom, high, low, listRules}
+use Rattle.state_plan.specs.Plan.{bits_from, high, low, list_rules}
 use Rattle.laws.specs.Below.{all_below}
-use Rattle.laws.specs.Inner.Below.{all_none, all_more, at-end}
+use Rattle.laws.specs.Inner.Below.{all_none, all_more, at_end}
 use Rattle.state_plan.specs.Inner.Tables.{word_of, RowsIn}
 use Rattle.state_plan.proofs.masks_ok.Statement.{statement}
 use Rattle.state_plan.proofs.masks_ok.Tie as tie
 
 abbrev invariant-loop : tie.invariant-loop
-invariant-loop s at asps ases ok₀ p₀ ok p = (ok ≡ all_below (λ i. eqb (bitsFrom (high (word_of s at 8 i)) ases) 0 && ltb (low (word_of s at 8 i)) listRules) p) × (p ≤ asps) × RowsIn (length s) at 8 asps × (ases ≤ 16)
+invariant-loop s at asps ases ok₀ p₀ ok p = (ok ≡ all_below (λ i. eqb (bits_from (high (word_of s at 8 i)) ases) 0 && ltb (low (word_of s at 8 i)) list_rules) p) × (p ≤ asps) × RowsIn (length s) at 8 asps × (ases ≤ 16)
 
 abbrev decreases-loop : tie.decreases-loop
 decreases-loop s at asps ases ok₀ p₀ ok p = asps - p
@@ -36,7 +36,7 @@ loop-again : tie.Need-loop-preserved invariant-loop decreases-loop
 loop-again c = (rw all_more (rw (c.before.before.loop.invariant.0, c.get32.ensures)), search rules, c.before.before.loop.invariant.2, c.before.before.loop.invariant.3)
 
 returns : tie.Need-returns invariant-loop decreases-loop
-returns c = at-end (all_below _) c.before.loop.invariant.0 c.loop-test.false c.before.loop.invariant.1
+returns c = at_end (all_below _) c.before.loop.invariant.0 c.loop-test.false c.before.loop.invariant.1
 
 pub masks-ok-spec : {M : Type 1} → statement M
 masks-ok-spec =

@@ -4,9 +4,9 @@ use mathlib.Core.Path.{◌∙◌}
 use native.Mathlib.Omega.{arith}
 use borrow.Author.Rules.{rules}
 use Rattle.state_plan.specs.Plan.{bit, members}
-use Rattle.laws.specs.Columns.{flagAt, number_at}
-use Rattle.laws.specs.Inner.Columns.{HalfCol, half-more, half-end, half_at}
-use Rattle.state_plan.proofs.Tables.{column-none, bit_at, row-start, row_next, row_in, row-end}
+use Rattle.laws.specs.Columns.{flag_at, number_at}
+use Rattle.laws.specs.Inner.Columns.{HalfCol, half_more, half_end, half_at}
+use Rattle.state_plan.proofs.Tables.{column_none, bit_at_lem, row_start, row_next, row_in_lem, row_end}
 use Rattle.state_plan.proofs.members_of.Statement.{statement}
 use Rattle.state_plan.proofs.members_of.Tie as tie
 
@@ -23,20 +23,20 @@ abbrev decreases-loop : tie.decreases-loop
 decreases-loop mask r₀ a₀ r a = 16 - a
 
 loop-holds : tie.Need-loop-init invariant-loop2 decreases-loop2 invariant-loop decreases-loop
-loop-holds c = (column-none 256 _, search rules)
+loop-holds c = (column_none 256 _, search rules)
 
 loop2-holds : tie.Need-loop2-init invariant-loop2 decreases-loop2 invariant-loop decreases-loop
-loop2-holds c = (half_at (row-start _) c.before.loop.invariant.0, search rules, search rules)
+loop2-holds c = (half_at (row_start _) c.before.loop.invariant.0, search rules, search rules)
 
 loop2-again : tie.Need-loop2-preserved invariant-loop2 decreases-loop2 invariant-loop decreases-loop
-loop2-again c = let at = c.before.before.before in let b = c.before.before.loop2-test.true in (half_at (row_next _ _) (half-more _ at.loop2.invariant.0 (row_in _ _ at.loop2.invariant.2 b) (c.bit-of.ensures ∙ bit_at at.before.before.before.args.mask.now at.before.before.loop.a at.loop2.q b)), search rules, search rules)
+loop2-again c = let at = c.before.before.before in let b = c.before.before.loop2-test.true in (half_at (row_next _ _) (half_more _ at.loop2.invariant.0 (row_in_lem _ _ at.loop2.invariant.2 b) (c.bit-of.ensures ∙ bit_at_lem at.before.before.before.args.mask.now at.before.before.loop.a at.loop2.q b)), search rules, search rules)
 
 loop-again : tie.Need-loop-preserved invariant-loop2 decreases-loop2 invariant-loop decreases-loop
-loop-again c = (half_at (row-end _ _ c.loop2-test.false c.before.loop2.invariant.1) c.before.loop2.invariant.0, search rules)
+loop-again c = (half_at (row_end _ _ c.loop2-test.false c.before.loop2.invariant.1) c.before.loop2.invariant.0, search rules)
 
 returns : tie.Need-returns invariant-loop2 decreases-loop2 invariant-loop decreases-loop
 unfolding members
-returns c = half-end c.before.loop.invariant.0 (omega arith)
+returns c = half_end c.before.loop.invariant.0 (omega arith)
 
 pub members-of-spec : {M : Type 1} → statement M
 members-of-spec =

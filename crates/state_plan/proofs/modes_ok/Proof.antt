@@ -7,7 +7,7 @@ use borrow.Author.Rules.{rules}
 use lib.Dec.{leb}
 use lib.ListN.{length}
 use Rattle.laws.specs.Below.{all_below}
-use Rattle.laws.specs.Inner.Below.{all_none, all_more, at-end}
+use Rattle.laws.specs.Inner.Below.{all_none, all_more, at_end}
 use Rattle.state_plan.specs.Inner.Tables.{word_of, RowsIn}
 use Rattle.state_plan.proofs.modes_ok.Statement.{statement}
 use Rattle.state_plan.proofs.modes_ok.Tie as tie
@@ -34,7 +34,7 @@ loop-again : tie.Need-loop-preserved invariant-loop decreases-loop
 loop-again c = (rw all_more (rw (c.before.before.loop.invariant.0, c.get32.ensures)), search rules, c.before.before.loop.invariant.2)
 
 returns : tie.Need-returns invariant-loop decreases-loop
-returns c = at-end (all_below _) c.before.loop.invariant.0 c.loop-test.false c.before.loop.invariant.1
+returns c = at_end (all_below _) c.before.loop.invariant.0 c.loop-test.false c.before.loop.invariant.1
 
 pub modes-ok-spec : {M : Type 1} → statement M
 modes-ok-spec =

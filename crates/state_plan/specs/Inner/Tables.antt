@@ -8,14 +8,14 @@ use Rattle.std.proofs.lemmas.Nat.{or_lt, and_le_l, and_le_r}
 use Rattle.std.proofs.lemmas.List.{length-replicate, get_or-replicate}
 use Rattle.laws.specs.Below.{all_below}
 use Rattle.laws.specs.Inner.Below.{all_none, all_more}
-use Rattle.laws.specs.Inner.Every.{all-ext, all_two, same_truth, and_both, and_left, and_right}
+use Rattle.laws.specs.Inner.Every.{all_ext, all_two, same_truth, and_both, and_left, and_right}
 use Rattle.laws.specs.Columns.{number_at}
-use Rattle.laws.specs.Inner.Columns.{is-tabulate, HalfCol}
+use Rattle.laws.specs.Inner.Columns.{is_tabulate, HalfCol}
 use Rattle.codec_wire.specs.Number.{be}
-use Rattle.state_tables.specs.Sound.{ascends, allUnder}
+use Rattle.state_tables.specs.Sound.{ascends, all_under}
 use Rattle.state_tables.specs.Inner.Column.{under_at}
-use Rattle.state_plan.specs.Plan.{high, low, column, bitsFrom, modesOk, masksOk, linkKinds, listRules}
-use Rattle.state_plan.specs.Inner.Laws.{column-at, mode_small}
+use Rattle.state_plan.specs.Plan.{high, low, column, bits_from, modes_ok, masks_ok, link_kinds, list_rules}
+use Rattle.state_plan.specs.Inner.Laws.{column_at, mode_small}
 
 -- the word of row i, if that of the first row stands at a position
 abbrev pub word_of : List ℕ → ℕ → ℕ → ℕ → ℕ
@@ -42,16 +42,16 @@ abbrev pub Bytes : List ℕ → Type 0
 Bytes s = (i : ℕ) → get_or s i 0 < 256
 
 -- the least that number l may be in an ascending list: one more than the number before it
-unfoldable pub floorOf : (ℕ → ℕ) → ℕ → ℕ
-floorOf f zero = 0
-floorOf f (suc l) = f l + 1
+unfoldable pub floor_of : (ℕ → ℕ) → ℕ → ℕ
+floor_of f zero = 0
+floor_of f (suc l) = f l + 1
 
 -- ---- laws
 
 -- what was filled from the front, over zeros
 pub filled : (places n : ℕ) (f : ℕ → ℕ) (l : List ℕ) → HalfCol f (number_at (replicate places 0)) (length (replicate {A = ℕ} places 0)) n l → l ≡ column places n f
 unfolding column
-filled places n f l h = is-tabulate 0 l places (λ i. cond (ltb i n) (f i) 0) (h.long ∙ length-replicate places 0) (λ i b. pick i b (dec_lt i n))
+filled places n f l h = is_tabulate 0 l places (λ i. cond (ltb i n) (f i) 0) (h.long ∙ length-replicate places 0) (λ i b. pick i b (dec_lt i n))
   where
     pick : (i : ℕ) → i < places → Dec (i < n) → get_or l i 0 ≡ cond (ltb i n) (f i) 0
     pick i b (yes z) = h.new i z ∙ rw (lt-ltb i n z)
@@ -59,60 +59,60 @@ filled places n f l h = is-tabulate 0 l places (λ i. cond (ltb i n) (f i) 0) (h
         h.old i (omega arith) (rw (length-replicate {A = ℕ} places 0) b) ∙ get_or-replicate places i 0 0 b ∙ rw (le-ltb i n (omega arith))
 
 -- what was filled, said by the same numbers
-pub half-as : {f g h : ℕ → ℕ} {n k : ℕ} {l : List ℕ} → Same f h k → HalfCol f g n k l → HalfCol h g n k l
-half-as e r = record { long = r.long; new = λ i b. r.new i b ∙ e i b; old = r.old }
+pub half_as : {f g h : ℕ → ℕ} {n k : ℕ} {l : List ℕ} → Same f h k → HalfCol f g n k l → HalfCol h g n k l
+half_as e r = record { long = r.long; new = λ i b. r.new i b ∙ e i b; old = r.old }
 
 -- the tests of words are those of the tables
-pub modes-read : (n : ℕ) (f : ℕ → ℕ) → n ≤ 16 → all_below (λ i. leb 1 (f i) && leb (f i) 3) n ≡ modesOk (column 16 n f) n
-unfolding modesOk
-modes-read n f b = all-ext _ _ n (λ i l. rw (column-at 16 n f i l b))
+pub modes_read : (n : ℕ) (f : ℕ → ℕ) → n ≤ 16 → all_below (λ i. leb 1 (f i) && leb (f i) 3) n ≡ modes_ok (column 16 n f) n
+unfolding modes_ok
+modes_read n f b = all_ext _ _ n (λ i l. rw (column_at 16 n f i l b))
 
-under-read : (places n m : ℕ) (f : ℕ → ℕ) → n ≤ places → all_below (λ i. ltb (f i) m) n ≡ allUnder (column places n f) m n
-unfolding allUnder
-under-read places n m f b = all-ext (λ i. ltb (f i) m) (λ i. ltb (number_at (column places n f) i) m) n (λ i h. rw (column-at places n f i h b))
+under_read : (places n m : ℕ) (f : ℕ → ℕ) → n ≤ places → all_below (λ i. ltb (f i) m) n ≡ all_under (column places n f) m n
+unfolding all_under
+under_read places n m f b = all_ext (λ i. ltb (f i) m) (λ i. ltb (number_at (column places n f) i) m) n (λ i h. rw (column_at places n f i h b))
 
-pub masks-read : (n m : ℕ) (f : ℕ → ℕ) → n ≤ 16
-    → all_below (λ p. eqb (bitsFrom (high (f p)) m) 0 && ltb (low (f p)) listRules) n
-    ≡ (masksOk (column 16 n (λ p. high (f p))) n m && allUnder (column 16 n (λ p. low (f p))) listRules n)
-unfolding masksOk
-masks-read n m f b =
-    all_two (λ p. eqb (bitsFrom (high (f p)) m) 0) (λ p. ltb (low (f p)) listRules) n
-    ∙ rw (all-ext (λ p. eqb (bitsFrom (high (f p)) m) 0) (λ p. eqb (bitsFrom (number_at (column 16 n (λ p. high (f p))) p) m) 0) n (λ p l. rw (column-at 16 n (λ p. high (f p)) p l b)), under-read 16 n listRules (λ p. low (f p)) b)
+pub masks_read : (n m : ℕ) (f : ℕ → ℕ) → n ≤ 16
+    → all_below (λ p. eqb (bits_from (high (f p)) m) 0 && ltb (low (f p)) list_rules) n
+    ≡ (masks_ok (column 16 n (λ p. high (f p))) n m && all_under (column 16 n (λ p. low (f p))) list_rules n)
+unfolding masks_ok
+masks_read n m f b =
+    all_two (λ p. eqb (bits_from (high (f p)) m) 0) (λ p. ltb (low (f p)) list_rules) n
+    ∙ rw (all_ext (λ p. eqb (bits_from (high (f p)) m) 0) (λ p. eqb (bits_from (number_at (column 16 n (λ p. high (f p))) p) m) 0) n (λ p l. rw (column_at 16 n (λ p. high (f p)) p l b)), under_read 16 n list_rules (λ p. low (f p)) b)
 
-pub floor-none : (f : ℕ → ℕ) → floorOf f 0 ≡ 0
-unfolding floorOf
-floor-none f = refl
+pub floor_none : (f : ℕ → ℕ) → floor_of f 0 ≡ 0
+unfolding floor_of
+floor_none f = refl
 
-pub floor-more : (f : ℕ → ℕ) (l : ℕ) → floorOf f (l + 1) ≡ f l + 1
-unfolding floorOf
-floor-more f l = rw add-one
+pub floor_more : (f : ℕ → ℕ) (l : ℕ) → floor_of f (l + 1) ≡ f l + 1
+unfolding floor_of
+floor_more f l = rw add-one
 
 -- not below its floor is above the number before it
-floor-next : (f : ℕ → ℕ) (k : ℕ) → leb (floorOf f (k + 1)) (f (k + 1)) ≡ ltb (f k) (f (k + 1))
-floor-next f k =
-    rw (floor-more f k)
+floor_next : (f : ℕ → ℕ) (k : ℕ) → leb (floor_of f (k + 1)) (f (k + 1)) ≡ ltb (f k) (f (k + 1))
+floor_next f k =
+    rw (floor_more f k)
     (same_truth (leb (f k + 1) (f (k + 1))) (ltb (f k) (f (k + 1))) (λ h. lt-ltb (f k) (f (k + 1)) (omega (arith, leb-true (f k + 1) (f (k + 1)) h))) (λ h. le-leb (f k + 1) (f (k + 1)) (omega (arith, ltb-true (f k) (f (k + 1)) h))))
 
-floors : (f : ℕ → ℕ) (k : ℕ) → all_below (λ l. leb (floorOf f l) (f l)) (k + 1) ≡ all_below (λ l. ltb (f l) (f (l + 1))) k
-floors f zero = all_more (λ l. leb (floorOf f l) (f l)) 0 ∙ rw (all_none (λ l. leb (floorOf f l) (f l)), all_none (λ l. ltb (f l) (f (l + 1))), floor-none f) (le-leb 0 (f 0) (omega arith))
+floors : (f : ℕ → ℕ) (k : ℕ) → all_below (λ l. leb (floor_of f l) (f l)) (k + 1) ≡ all_below (λ l. ltb (f l) (f (l + 1))) k
+floors f zero = all_more (λ l. leb (floor_of f l) (f l)) 0 ∙ rw (all_none (λ l. leb (floor_of f l) (f l)), all_none (λ l. ltb (f l) (f (l + 1))), floor_none f) (le-leb 0 (f 0) (omega arith))
 floors f (suc k) =
     rw (sym (add-one k))
-    (all_more (λ l. leb (floorOf f l) (f l)) (k + 1) ∙ rw (floors f k, floor-next f k) (sym (all_more (λ l. ltb (f l) (f (l + 1))) k)))
+    (all_more (λ l. leb (floor_of f l) (f l)) (k + 1) ∙ rw (floors f k, floor_next f k) (sym (all_more (λ l. ltb (f l) (f (l + 1))) k)))
 
-ids-read : (n : ℕ) (f : ℕ → ℕ) → n ≤ 128 → all_below (λ l. leb (floorOf f l) (f l)) n ≡ ascends (column 128 n f) n
+ids_read : (n : ℕ) (f : ℕ → ℕ) → n ≤ 128 → all_below (λ l. leb (floor_of f l) (f l)) n ≡ ascends (column 128 n f) n
 unfolding ascends
-ids-read zero f b = all_none _ ∙ sym (all_none _)
-ids-read (suc k) f b =
+ids_read zero f b = all_none _ ∙ sym (all_none _)
+ids_read (suc k) f b =
     let e : suc k - 1 ≡ k = omega arith in
     rw (e, sym (add-one k))
-    (floors f k ∙ all-ext (λ l. ltb (f l) (f (l + 1))) (λ l. ltb (number_at (column 128 (k + 1) f) l) (number_at (column 128 (k + 1) f) (l + 1))) k (λ l h. rw (column-at 128 (k + 1) f l (omega arith) (omega arith), column-at 128 (k + 1) f (l + 1) (omega arith) (omega arith))))
+    (floors f k ∙ all_ext (λ l. ltb (f l) (f (l + 1))) (λ l. ltb (number_at (column 128 (k + 1) f) l) (number_at (column 128 (k + 1) f) (l + 1))) k (λ l h. rw (column_at 128 (k + 1) f l (omega arith) (omega arith), column_at 128 (k + 1) f (l + 1) (omega arith) (omega arith))))
 
-pub links-read : (n m : ℕ) (f g : ℕ → ℕ) → n ≤ 128
-    → (all_below (λ l. leb (floorOf f l) (f l) && ltb (low (g l)) m) n && all_below (λ l. ltb (high (g l)) linkKinds) n)
-    ≡ (ascends (column 128 n f) n && (allUnder (column 128 n (λ l. low (g l))) m n && allUnder (column 128 n (λ l. high (g l))) linkKinds n))
-links-read n m f g b =
-    rw (all_two (λ l. leb (floorOf f l) (f l)) (λ l. ltb (low (g l)) m) n, ids-read n f b, under-read 128 n m (λ l. low (g l)) b, under-read 128 n linkKinds (λ l. high (g l)) b)
-    (assoc (ascends (column 128 n f) n) (allUnder (column 128 n (λ l. low (g l))) m n) (allUnder (column 128 n (λ l. high (g l))) linkKinds n))
+pub links_read : (n m : ℕ) (f g : ℕ → ℕ) → n ≤ 128
+    → (all_below (λ l. leb (floor_of f l) (f l) && ltb (low (g l)) m) n && all_below (λ l. ltb (high (g l)) link_kinds) n)
+    ≡ (ascends (column 128 n f) n && (all_under (column 128 n (λ l. low (g l))) m n && all_under (column 128 n (λ l. high (g l))) link_kinds n))
+links_read n m f g b =
+    rw (all_two (λ l. leb (floor_of f l) (f l)) (λ l. ltb (low (g l)) m) n, ids_read n f b, under_read 128 n m (λ l. low (g l)) b, under_read 128 n link_kinds (λ l. high (g l)) b)
+    (assoc (ascends (column 128 n f) n) (all_under (column 128 n (λ l. low (g l))) m n) (all_under (column 128 n (λ l. high (g l))) link_kinds n))
   where
     assoc : (u v w : Bool) → ((u && v) && w) ≡ (u && (v && w))
     assoc true v w = refl
@@ -122,8 +122,8 @@ pub and_same : {t u v w : Bool} → t ≡ u → v ≡ w → (t && v) ≡ (u && w
 and_same p q = rw (p, q)
 
 -- two kinds are below 2 where their bits together are
-pub kinds-both : (x y : ℕ) → ltb (high (bit_or x y)) linkKinds ≡ (ltb (high x) linkKinds && ltb (high y) linkKinds)
-kinds-both x y =
+pub kinds_both : (x y : ℕ) → ltb (high (bit_or x y)) link_kinds ≡ (ltb (high x) link_kinds && ltb (high y) link_kinds)
+kinds_both x y =
     let u = ltb (high x) 2 in
     let v = ltb (high y) 2 in
     same_truth (ltb (high (bit_or x y)) 2) (u && v)
@@ -136,9 +136,9 @@ kinds-both x y =
     lt-ltb (high (bit_or x y)) 2 (omega (arith, or_lt 17 x y (omega arith) (omega arith))))
 
 -- of no rows every place is zero
-pub column-zero : (places : ℕ) (f : ℕ → ℕ) → column places 0 f ≡ replicate places 0
+pub column_zero : (places : ℕ) (f : ℕ → ℕ) → column places 0 f ≡ replicate places 0
 unfolding column
-column-zero places f = sym (is-tabulate 0 (replicate places 0) places (λ i. cond (ltb i 0) (f i) 0) (length-replicate places 0) (λ i b. get_or-replicate places i 0 0 b ∙ rw (le-ltb i 0 (omega arith))))
+column_zero places f = sym (is_tabulate 0 (replicate places 0) places (λ i. cond (ltb i 0) (f i) 0) (length-replicate places 0) (λ i b. get_or-replicate places i 0 0 b ∙ rw (le-ltb i 0 (omega arith))))
 
 -- a number below 256 is its last byte: of a word, and of its halves
 pub word_byte : (s : List ℕ) (p : ℕ) → be 4 s p < 256 → get_or s (p + 3) 0 ≡ be 4 s p
@@ -159,8 +159,8 @@ pub same_bytes : (s : List ℕ) (n at k row from : ℕ) (h : ℕ → ℕ) → fr
 same_bytes s n at k row from h e z b i l = ap (λ j. get_or s j 0) (omega (arith, e)) ∙ z (at + row * i) (b i l)
 
 -- the modes of good rows are bytes, and so are rules, owners and kinds
-pub mode-bytes : (n : ℕ) (f : ℕ → ℕ) → n ≤ 16 → modesOk (column 16 n f) n ≡ true → AllIn f n 256
-mode-bytes n f b h i l = omega (arith, column-at 16 n f i l b, mode_small (column 16 n f) n h i l)
+pub mode_bytes : (n : ℕ) (f : ℕ → ℕ) → n ≤ 16 → modes_ok (column 16 n f) n ≡ true → AllIn f n 256
+mode_bytes n f b h i l = omega (arith, column_at 16 n f i l b, mode_small (column 16 n f) n h i l)
 
-pub under-bytes : (places n m : ℕ) (f : ℕ → ℕ) → n ≤ places → m ≤ 16 → allUnder (column places n f) m n ≡ true → AllIn f n 256
-under-bytes places n m f b k h i l = omega (arith, column-at places n f i l b, under_at (column places n f) m n h i l)
+pub under_bytes : (places n m : ℕ) (f : ℕ → ℕ) → n ≤ places → m ≤ 16 → all_under (column places n f) m n ≡ true → AllIn f n 256
+under_bytes places n m f b k h i l = omega (arith, column_at places n f i l b, under_at (column places n f) m n h i l)

@@ -4,15 +4,15 @@ use mathlib.Core.Path.{◌≡◌, sym, ◌∙◌}
 use native.Mathlib.Omega.{arith}
 use borrow.Author.Rules.{rules}
 use Rattle.state_lookup.specs.Inner.Links.{rank, rank_most}
-use Rattle.state_sets.specs.Inner.Bits.{flagsOf}
+use Rattle.state_sets.specs.Inner.Bits.{flags_of}
 use Rattle.state_ranges.specs.Inner.Laws.{Table}
-use Rattle.state_ranges.specs.Inner.Refused.{refusedBy, Good, good_none, good_more, refuses-at, none-refused, within, stands}
-use Rattle.state_ranges.specs.Inner.Ranks.{rank-next}
+use Rattle.state_ranges.specs.Inner.Refused.{refused_by, Good, good_none, good_more, refuses_at, none_refused, within, stands}
+use Rattle.state_ranges.specs.Inner.Ranks.{rank_next}
 use Rattle.state_ranges.proofs.first_refused.Statement.{statement}
 use Rattle.state_ranges.proofs.first_refused.Tie as tie
 
 abbrev invariant-loop : tie.invariant-loop
-invariant-loop iid owner links mine first start stop l₀ x₀ l x = (l ≡ rank iid links x) × (start ≤ x) × (x ≤ stop) × Good (refusedBy iid owner links (flagsOf mine)) start x × Table iid owner links × (l ≤ links)
+invariant-loop iid owner links mine first start stop l₀ x₀ l x = (l ≡ rank iid links x) × (start ≤ x) × (x ≤ stop) × Good (refused_by iid owner links (flags_of mine)) start x × Table iid owner links × (l ≤ links)
 
 abbrev decreases-loop : tie.decreases-loop
 decreases-loop iid owner links mine first start stop l₀ x₀ l x = links - l
@@ -24,19 +24,19 @@ is-refused-requires : tie.Need-is-refused-requires invariant-loop decreases-loop
 is-refused-requires c κs = let i = c.loop.invariant in (i.4, i.0)
 
 returns : tie.Need-returns invariant-loop decreases-loop
-returns c = let i = c.before.before.loop.invariant in refuses-at _ _ _ i.1 i.3 _ i.2 (sym c.before.is-refused.ensures ∙ c.if1.true)
+returns c = let i = c.before.before.loop.invariant in refuses_at _ _ _ i.1 i.3 _ i.2 (sym c.before.is-refused.ensures ∙ c.if1.true)
 
 returns-2 : tie.Need-returns-2 invariant-loop decreases-loop
 returns-2 c =
     let i = c.before.before.before.loop.invariant in
-    none-refused _ _ _ _ c.if2.true (good_more _ _ _ i.1 i.3 (sym c.before.before.is-refused.ensures ∙ c.before.if1.false))
+    none_refused _ _ _ _ c.if2.true (good_more _ _ _ i.1 i.3 (sym c.before.before.is-refused.ensures ∙ c.before.if1.false))
 
 loop-again : tie.Need-loop-preserved invariant-loop decreases-loop
 loop-again c =
     let i = c.before.before.before.loop.invariant in
     let f = sym c.before.before.is-refused.ensures ∙ c.before.if1.false in
     let b = within _ _ _ i.4 _ _ _ i.0 f in
-    (rank-next _ _ i.4.order _ _ b (stands _ _ _ i.4 _ _ _ i.0 f), search rules, omega (arith, i.2, c.if2.false), good_more _ _ _ i.1 i.3 f, i.4, omega (arith, b))
+    (rank_next _ _ i.4.order _ _ b (stands _ _ _ i.4 _ _ _ i.0 f), search rules, omega (arith, i.2, c.if2.false), good_more _ _ _ i.1 i.3 f, i.4, omega (arith, b))
 
 loop-less : tie.Need-loop-smaller invariant-loop decreases-loop
 loop-less c =

@@ -3,7 +3,7 @@
 use Rattle.std.specs.Prelude.{◌≡◌, refl, Bool, true, false, cond, List, ℕ}
 use Rattle.std.proofs.Common.{ap, ◌∙◌, sym}
 use Rattle.std.proofs.lemmas.Bool.{false≢true}
-use Rattle.state_sets.specs.Inner.Bits.{flagsOf}
+use Rattle.state_sets.specs.Inner.Bits.{flags_of}
 use Rattle.state_ranges.specs.declared.Refused.{Refused}
 use Rattle.state_ranges.specs.declared.Named.{Named}
 use Rattle.state_ranges.specs.Named.{nothing, refusing}
@@ -12,26 +12,26 @@ use Rattle.state_ranges.specs.Named.{nothing, refusing}
 unfoldable pub earlier : Refused → Refused → Refused
 earlier old next = cond old.found old next
 
-pub earlier-found : (old next : Refused) → old.found ≡ true → earlier old next ≡ old
+pub earlier_found : (old next : Refused) → old.found ≡ true → earlier old next ≡ old
 unfolding earlier
-earlier-found old next e = rw e
+earlier_found old next e = rw e
 
-pub earlier-none : (old next : Refused) → old.found ≡ false → earlier old next ≡ next
+pub earlier_none : (old next : Refused) → old.found ≡ false → earlier old next ≡ next
 unfolding earlier
-earlier-none old next e = rw e
+earlier_none old next e = rw e
 
 -- of one more that is refused: the first is one
-pub earlier-refusing : (old : Refused) (x : ℕ) → refusing (cond old.found old.id x) ≡ earlier old (refusing x)
+pub earlier_refusing : (old : Refused) (x : ℕ) → refusing (cond old.found old.id x) ≡ earlier old (refusing x)
 unfolding earlier
-earlier-refusing old x = go old.found refl
+earlier_refusing old x = go old.found refl
   where
     go : (u : Bool) → old.found ≡ u → refusing (cond u old.id x) ≡ cond u old (refusing x)
     go true e = λ i. record { found = sym e i; id = old.id }
     go false e = refl
 
-pub earlier-again : (x y z : Refused) → earlier (earlier x y) z ≡ earlier x (earlier y z)
+pub earlier_again : (x y z : Refused) → earlier (earlier x y) z ≡ earlier x (earlier y z)
 unfolding earlier
-earlier-again x y z = go x.found refl
+earlier_again x y z = go x.found refl
   where
     go : (u : Bool) → x.found ≡ u → earlier (earlier x y) z ≡ earlier x (earlier y z)
     go true e = rw e
@@ -41,17 +41,17 @@ earlier-again x y z = go x.found refl
 abbrev pub Plain : Refused → Type 0
 Plain x = x.found ≡ false → x ≡ nothing
 
-pub plain-earlier : (x y : Refused) → Plain y → Plain (earlier x y)
+pub plain_earlier : (x y : Refused) → Plain y → Plain (earlier x y)
 unfolding earlier
-plain-earlier x y h = go x.found refl
+plain_earlier x y h = go x.found refl
   where
     go : (u : Bool) → x.found ≡ u → Plain (cond u x y)
     go true e f = absurd (false≢true (sym f ∙ e))
     go false e f = h f
 
-pub earlier-nothing : (x : Refused) → Plain x → earlier x nothing ≡ x
+pub earlier_nothing : (x : Refused) → Plain x → earlier x nothing ≡ x
 unfolding earlier
-earlier-nothing x h = go x.found refl
+earlier_nothing x h = go x.found refl
   where
     go : (u : Bool) → x.found ≡ u → cond u x nothing ≡ x
     go true e = refl
@@ -60,8 +60,8 @@ earlier-nothing x h = go x.found refl
 -- the first refused identifier, and the owners' flags
 pub record Names (r : Named) (first : Refused) (owners : List Bool) : Type 0 where
   pub refused : r.refused ≡ first
-  pub set : flagsOf r.set ≡ owners
+  pub set : flags_of r.set ≡ owners
 
 -- what is handed back holds both
-pub names-both : {r : Named} {first f : Refused} {owners : List Bool} {s : ℕ} → r.refused ≡ f → f ≡ first → r.set ≡ s → flagsOf s ≡ owners → Names r first owners
-names-both e f g h = record { refused = e ∙ f; set = ap flagsOf g ∙ h }
+pub names_both : {r : Named} {first f : Refused} {owners : List Bool} {s : ℕ} → r.refused ≡ f → f ≡ first → r.set ≡ s → flags_of s ≡ owners → Names r first owners
+names_both e f g h = record { refused = e ∙ f; set = ap flags_of g ∙ h }

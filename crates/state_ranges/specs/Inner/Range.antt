@@ -5,64 +5,64 @@ use Rattle.std.proofs.Math.Path.{ap}
 use Rattle.std.proofs.Common.{◌∙◌, sym, arith, eq-eqb, le-leb}
 use Rattle.std.proofs.Math.Bool.{true, false, false≢true}
 use mathlib.Core.List.{List}
-use Rattle.laws.specs.Below.{anyBelow, all_below}
-use Rattle.laws.specs.Inner.Below.{any_none, any-in, all-at}
-use Rattle.laws.specs.Columns.{flagAt, number_at, tabulate}
-use Rattle.laws.specs.Inner.Columns.{is-tabulate, tabulate-ext, get_d_tabulate}
+use Rattle.laws.specs.Below.{any_below, all_below}
+use Rattle.laws.specs.Inner.Below.{any_none, any_in, all_at}
+use Rattle.laws.specs.Columns.{flag_at, number_at, tabulate}
+use Rattle.laws.specs.Inner.Columns.{is_tabulate, tabulate_ext, get_d_tabulate}
 use Rattle.laws.specs.Inner.Every.{and_both}
 use Rattle.state_lookup.specs.Links.{index_of, known}
 use Rattle.state_lookup.specs.Inner.Links.{rank, rank_most}
-use Rattle.state_ranges.specs.Named.{ownerById, isOwnedBy, span, nothing, firstIn, someIn}
-use Rattle.state_ranges.specs.Inner.Laws.{Table, owner-small}
-use Rattle.state_ranges.specs.Inner.Refused.{refusedBy, good-known, all-good}
-use Rattle.state_ranges.specs.Inner.Owners.{ownsFrom, or_right}
-use Rattle.state_ranges.specs.Inner.Places.{whole-known, index-between, owned-between}
+use Rattle.state_ranges.specs.Named.{owner_by_id, is_owned_by, span, nothing, first_in, some_in}
+use Rattle.state_ranges.specs.Inner.Laws.{Table, owner_small}
+use Rattle.state_ranges.specs.Inner.Refused.{refused_by, good_known, all_good}
+use Rattle.state_ranges.specs.Inner.Owners.{owns_from, or_right}
+use Rattle.state_ranges.specs.Inner.Places.{whole_known, index_between, owned_between}
 
-or-none : (u : Bool) → u ≡ (u || false)
-or-none true = refl
-or-none false = refl
+or_none : (u : Bool) → u ≡ (u || false)
+or_none true = refl
+or_none false = refl
 
 -- one that ends before it starts has no owners
-pub no-owners : (good : ℕ → ℕ → Bool) (start stop : ℕ) (old : List Bool) → length old ≡ 16 → stop < start → old ≡ tabulate 16 (λ a. flagAt old a || someIn (good a) start stop)
-unfolding someIn
-no-owners good start stop old n h =
+pub no_owners : (good : ℕ → ℕ → Bool) (start stop : ℕ) (old : List Bool) → length old ≡ 16 → stop < start → old ≡ tabulate 16 (λ a. flag_at old a || some_in (good a) start stop)
+unfolding some_in
+no_owners good start stop old n h =
     let z : stop + 1 - start ≡ 0 = omega arith in
-    is-tabulate false old 16 (λ a. flagAt old a || anyBelow (λ i. good a (start + i)) (stop + 1 - start)) n (λ a b. rw (z, any_none (λ i. good a (start + i))) (or-none (flagAt old a)))
+    is_tabulate false old 16 (λ a. flag_at old a || any_below (λ i. good a (start + i)) (stop + 1 - start)) n (λ a b. rw (z, any_none (λ i. good a (start + i))) (or_none (flag_at old a)))
 
 module _ (iid owner : List ℕ) (links : ℕ) (t : Table iid owner links) (start stop first past : ℕ) (f : first ≡ rank iid links start) (p : past ≡ rank iid links (stop + 1)) (old r : List Bool)
-    (e : r ≡ tabulate 16 (λ a. flagAt old a || anyBelow (ownsFrom owner first a) past)) where
+    (e : r ≡ tabulate 16 (λ a. flag_at old a || any_below (owns_from owner first a) past)) where
   -- the owners between are those of the known identifiers
-  pub owners-range : r ≡ tabulate 16 (λ a. flagAt old a || someIn (isOwnedBy iid owner links a) start stop)
-  owners-range =
+  pub owners_range : r ≡ tabulate 16 (λ a. flag_at old a || some_in (is_owned_by iid owner links a) start stop)
+  owners_range =
       e
-      ∙ tabulate-ext false 16 (λ a. flagAt old a || anyBelow (ownsFrom owner first a) past) (λ a. flagAt old a || someIn (isOwnedBy iid owner links a) start stop)
-      (λ a b. rw (f, p) (ap (λ (u : Bool). flagAt old a || u) (sym (owned-between iid links t.order start stop owner a))))
+      ∙ tabulate_ext false 16 (λ a. flag_at old a || any_below (owns_from owner first a) past) (λ a. flag_at old a || some_in (is_owned_by iid owner links a) start stop)
+      (λ a b. rw (f, p) (ap (λ (u : Bool). flag_at old a || u) (sym (owned_between iid links t.order start stop owner a))))
 
   -- the owner of a known one is among them
-  among : (x : ℕ) → start ≤ x → x ≤ stop → known iid links x ≡ true → flagAt r (number_at owner (index_of iid links x)) ≡ true
-  unfolding ownsFrom
+  among : (x : ℕ) → start ≤ x → x ≤ stop → known iid links x ≡ true → flag_at r (number_at owner (index_of iid links x)) ≡ true
+  unfolding owns_from
   among x q s k =
       let l = index_of iid links x in
-      let i = index-between iid links t.order start stop x q s k in
-      let o : number_at owner l < 16 = owner-small iid owner links t l (omega (arith, i.1, rank_most iid links t.order (stop + 1))) in
-      ap (λ (z : List Bool). flagAt z (number_at owner l)) e
-      ∙ get_d_tabulate 16 (λ a. flagAt old a || anyBelow (ownsFrom owner first a) past) (number_at owner l) false o
-      ∙ or_right (flagAt old (number_at owner l)) (anyBelow (ownsFrom owner first (number_at owner l)) past)
-      (any-in (ownsFrom owner first (number_at owner l)) past l (omega (arith, i.1))
+      let i = index_between iid links t.order start stop x q s k in
+      let o : number_at owner l < 16 = owner_small iid owner links t l (omega (arith, i.1, rank_most iid links t.order (stop + 1))) in
+      ap (λ (z : List Bool). flag_at z (number_at owner l)) e
+      ∙ get_d_tabulate 16 (λ a. flag_at old a || any_below (owns_from owner first a) past) (number_at owner l) false o
+      ∙ or_right (flag_at old (number_at owner l)) (any_below (owns_from owner first (number_at owner l)) past)
+      (any_in (owns_from owner first (number_at owner l)) past l (omega (arith, i.1))
       (and_both (leb first l) (eqb (number_at owner l) (number_at owner l)) (le-leb first l (omega (arith, i.0))) (eq-eqb (number_at owner l) (number_at owner l) refl)))
 
   -- as many places as identifiers, and all owners in mine: none is refused
-  pub range-good : (mine : List Bool) → start ≤ stop → past - first ≡ stop - start + 1 → all_below (λ a. not (flagAt r a) || flagAt mine a) 16 ≡ true → nothing ≡ firstIn (refusedBy iid owner links mine) start stop
-  unfolding ownerById
-  range-good mine b n w = all-good (refusedBy iid owner links mine) start stop one
+  pub range_good : (mine : List Bool) → start ≤ stop → past - first ≡ stop - start + 1 → all_below (λ a. not (flag_at r a) || flag_at mine a) 16 ≡ true → nothing ≡ first_in (refused_by iid owner links mine) start stop
+  unfolding owner_by_id
+  range_good mine b n w = all_good (refused_by iid owner links mine) start stop one
     where
       implied : (u v : Bool) → (not u || v) ≡ true → u ≡ true → v ≡ true
       implied true v h q = h
       implied false v h q = absurd (let z : ⊥ = false≢true q in z)
 
-      one : (x : ℕ) → start ≤ x → x ≤ stop → refusedBy iid owner links mine x ≡ false
+      one : (x : ℕ) → start ≤ x → x ≤ stop → refused_by iid owner links mine x ≡ false
       one x q s =
-          let k = whole-known iid links t.order start stop (omega (arith, f, p)) x q s in
-          let i = index-between iid links t.order start stop x q s k in
-          let o : number_at owner (index_of iid links x) < 16 = owner-small iid owner links t (index_of iid links x) (omega (arith, i.1, rank_most iid links t.order (stop + 1))) in
-          good-known iid owner links mine x k (implied _ _ (all-at (λ a. not (flagAt r a) || flagAt mine a) 16 w (number_at owner (index_of iid links x)) o) (among x q s k))
+          let k = whole_known iid links t.order start stop (omega (arith, f, p)) x q s in
+          let i = index_between iid links t.order start stop x q s k in
+          let o : number_at owner (index_of iid links x) < 16 = owner_small iid owner links t (index_of iid links x) (omega (arith, i.1, rank_most iid links t.order (stop + 1))) in
+          good_known iid owner links mine x k (implied _ _ (all_at (λ a. not (flag_at r a) || flag_at mine a) 16 w (number_at owner (index_of iid links x)) o) (among x q s k))

@@ -8,30 +8,30 @@ use Rattle.std.proofs.lemmas.List.{get_or-replicate}
 use Rattle.std.specs.Int.Bits.{bit_and, bit_or, and_step, or_step, or_zero_r, shifted_even}
 use Rattle.std.proofs.lemmas.Nat.{and_shr, or_shr, shl-shr, mod-pow-add}
 use Rattle.std.proofs.Math.Pow.{pow-lt, mod-mod-pow, field}
-use Rattle.laws.specs.Below.{anyBelow, all_below}
-use Rattle.laws.specs.Inner.Every.{all-ext, and_left, and_right, and_both, same_truth}
-use Rattle.laws.specs.Columns.{flagAt, tabulate}
-use Rattle.laws.specs.Inner.Columns.{Half, half-none, half-more, half-keep, is-tabulate, get_d_tabulate, length-tabulate}
+use Rattle.laws.specs.Below.{any_below, all_below}
+use Rattle.laws.specs.Inner.Every.{all_ext, and_left, and_right, and_both, same_truth}
+use Rattle.laws.specs.Columns.{flag_at, tabulate}
+use Rattle.laws.specs.Inner.Columns.{Half, half_none, half_more, half_keep, is_tabulate, get_d_tabulate, length_tabulate}
 
 -- AS a is in the set
 unfoldable pub bit_at : ℕ → ℕ → Bool
 bit_at n a = eqb (n / 2 ^ a % 2) 1
 
 -- the set as flags
-unfoldable pub flagsOf : ℕ → List Bool
-flagsOf n = tabulate 16 (bit_at n)
+unfoldable pub flags_of : ℕ → List Bool
+flags_of n = tabulate 16 (bit_at n)
 
 -- none is in the set 0
-pub flags-zero : flagsOf 0 ≡ replicate 16 false
-unfolding flagsOf bit_at tabulate
-flags-zero = refl
+pub flags_zero : flags_of 0 ≡ replicate 16 false
+unfolding flags_of bit_at tabulate
+flags_zero = refl
 
-pub flags_long : (n : ℕ) → length (flagsOf n) ≡ 16
-unfolding flagsOf
-flags_long n = length-tabulate 16 (bit_at n)
+pub flags_long : (n : ℕ) → length (flags_of n) ≡ 16
+unfolding flags_of
+flags_long n = length_tabulate 16 (bit_at n)
 
-pub flag_is : (n a : ℕ) → a < 16 → flagAt (flagsOf n) a ≡ bit_at n a
-unfolding flagsOf
+pub flag_is : (n a : ℕ) → a < 16 → flag_at (flags_of n) a ≡ bit_at n a
+unfolding flags_of
 flag_is n a b = get_d_tabulate 16 (bit_at n) a false b
 
 -- ---- the digits of two sets
@@ -47,29 +47,29 @@ two_digits P a b c d zero (suc (suc y)) h k = let w : ⊥ = omega arith in absur
 two_digits P a b c d (suc zero) (suc (suc y)) h k = let w : ⊥ = omega arith in absurd w
 
 -- those of a union
-or-digit : (n m a : ℕ) → bit_or n m / 2 ^ a % 2 ≡ max (n / 2 ^ a % 2) (m / 2 ^ a % 2)
-or-digit n m a =
+or_digit : (n m a : ℕ) → bit_or n m / 2 ^ a % 2 ≡ max (n / 2 ^ a % 2) (m / 2 ^ a % 2)
+or_digit n m a =
     let x = n / 2 ^ a in
     let y = m / 2 ^ a in
     let b : max (x % 2) (y % 2) ≤ 1 = max-le (omega arith) (omega arith) in
     let e : bit_or x y % 2 ≡ max (x % 2) (y % 2) = omega (arith, or_step x y, b) in
     rw (or_shr n m a) e
 
-bit-or : (n m a : ℕ) → bit_at (bit_or n m) a ≡ (bit_at n a || bit_at m a)
+bit_or_lem : (n m a : ℕ) → bit_at (bit_or n m) a ≡ (bit_at n a || bit_at m a)
 unfolding bit_at
-bit-or n m a =
-    ap (λ (x : ℕ). eqb x 1) (or-digit n m a)
+bit_or_lem n m a =
+    ap (λ (x : ℕ). eqb x 1) (or_digit n m a)
     ∙ two_digits (λ x y. eqb (max x y) 1 ≡ (eqb x 1 || eqb y 1)) refl refl refl refl (n / 2 ^ a % 2) (m / 2 ^ a % 2) (omega arith) (omega arith)
 
 -- ---- one AS more
 
-bit-own : (a : ℕ) → bit_at (1 * 2 ^ a) a ≡ true
+bit_own : (a : ℕ) → bit_at (1 * 2 ^ a) a ≡ true
 unfolding bit_at
-bit-own a = rw (shl-shr 1 a)
+bit_own a = rw (shl-shr 1 a)
 
-bit-other : (a b : ℕ) → (b ≡ a → ⊥) → bit_at (1 * 2 ^ a) b ≡ false
+bit_other : (a b : ℕ) → (b ≡ a → ⊥) → bit_at (1 * 2 ^ a) b ≡ false
 unfolding bit_at
-bit-other a b n = go (dec_lt b a)
+bit_other a b n = go (dec_lt b a)
   where
     lower : (j : ℕ) → a ≡ suc j + b → eqb (1 * 2 ^ a / 2 ^ b % 2) 1 ≡ false
     lower j e = rw (e, pow-add 2 (suc j) b, sym (mul_assoc 1 (2 ^ suc j) (2 ^ b)), shl-shr (1 * 2 ^ suc j) b, shifted_even 1 j)
@@ -82,49 +82,49 @@ bit-other a b n = go (dec_lt b a)
         let y : 1 * 2 ^ a / 2 ^ b % 2 ≡ 0 = omega arith in
         rw y
 
-or-none : (u : Bool) → (u || false) ≡ u
-or-none true = refl
-or-none false = refl
+or_none : (u : Bool) → (u || false) ≡ u
+or_none true = refl
+or_none false = refl
 
-or-true : (u : Bool) → (u || true) ≡ true
-or-true true = refl
-or-true false = refl
+or_true : (u : Bool) → (u || true) ≡ true
+or_true true = refl
+or_true false = refl
 
-pub flags-with : (n a : ℕ) → a < 16 → flagsOf (bit_or n (1 * 2 ^ a)) ≡ set (flagsOf n) a true
-unfolding flagsOf
-flags-with n a h = sym (is-tabulate false (set (flagsOf n) a true) 16 (bit_at (bit_or n (1 * 2 ^ a))) (length-set (flagsOf n) a true ∙ flags_long n) (λ b q. at b q (ℕ_discrete b a)))
+pub flags_with : (n a : ℕ) → a < 16 → flags_of (bit_or n (1 * 2 ^ a)) ≡ set (flags_of n) a true
+unfolding flags_of
+flags_with n a h = sym (is_tabulate false (set (flags_of n) a true) 16 (bit_at (bit_or n (1 * 2 ^ a))) (length-set (flags_of n) a true ∙ flags_long n) (λ b q. at b q (ℕ_discrete b a)))
   where
-    at : (b : ℕ) → b < 16 → Dec (b ≡ a) → get_or (set (flagsOf n) a true) b false ≡ bit_at (bit_or n (1 * 2 ^ a)) b
-    at b q (yes e) = rw e (get_or-set_same (flagsOf n) a true false (let l = flags_long n in omega arith) ∙ sym (bit-or n (1 * 2 ^ a) a ∙ rw (bit-own a) (or-true (bit_at n a))))
-    at b q (no e) = get_or-set_other (flagsOf n) a b true false e ∙ flag_is n b q ∙ sym (bit-or n (1 * 2 ^ a) b ∙ rw (bit-other a b e) (or-none (bit_at n b)))
+    at : (b : ℕ) → b < 16 → Dec (b ≡ a) → get_or (set (flags_of n) a true) b false ≡ bit_at (bit_or n (1 * 2 ^ a)) b
+    at b q (yes e) = rw e (get_or-set_same (flags_of n) a true false (let l = flags_long n in omega arith) ∙ sym (bit_or_lem n (1 * 2 ^ a) a ∙ rw (bit_own a) (or_true (bit_at n a))))
+    at b q (no e) = get_or-set_other (flags_of n) a b true false e ∙ flag_is n b q ∙ sym (bit_or_lem n (1 * 2 ^ a) b ∙ rw (bit_other a b e) (or_none (bit_at n b)))
 
 -- one AS more where t holds: b is 1 or 0
-pub flags-if : (n a b : ℕ) (t : Bool) → a < 16 → b ≡ cond t 1 0 → flagsOf (bit_or n (b * 2 ^ a % 2 ^ 32)) ≡ cond t (set (flagsOf n) a true) (flagsOf n)
-flags-if n a b true h e = rw e (ap (λ x. flagsOf (bit_or n x)) (shl_exact 1 a 32 (omega arith) (omega arith)) ∙ flags-with n a h)
-flags-if n a b false h e = rw e (ap (λ x. flagsOf (bit_or n x)) (zero-shifted a) ∙ ap flagsOf (or_zero_r n))
+pub flags_if : (n a b : ℕ) (t : Bool) → a < 16 → b ≡ cond t 1 0 → flags_of (bit_or n (b * 2 ^ a % 2 ^ 32)) ≡ cond t (set (flags_of n) a true) (flags_of n)
+flags_if n a b true h e = rw e (ap (λ x. flags_of (bit_or n x)) (shl_exact 1 a 32 (omega arith) (omega arith)) ∙ flags_with n a h)
+flags_if n a b false h e = rw e (ap (λ x. flags_of (bit_or n x)) (zero_shifted a) ∙ ap flags_of (or_zero_r n))
   where
-    zero-shifted : (a : ℕ) → 0 * 2 ^ a % 2 ^ 32 ≡ 0
-    zero-shifted a = omega arith
+    zero_shifted : (a : ℕ) → 0 * 2 ^ a % 2 ^ 32 ≡ 0
+    zero_shifted a = omega arith
 
 -- ---- a set that grows AS by AS
 
-pub flag-zero : (a : ℕ) → a < 16 → flagAt (flagsOf 0) a ≡ false
-flag-zero a b = ap (λ (l : List Bool). flagAt l a) flags-zero ∙ get_or-replicate 16 a false false b
+pub flag_zero : (a : ℕ) → a < 16 → flag_at (flags_of 0) a ≡ false
+flag_zero a b = ap (λ (l : List Bool). flag_at l a) flags_zero ∙ get_or-replicate 16 a false false b
 
 -- none of the ASes was looked at
-pub half-zero : (f : ℕ → Bool) → Half f (flagAt (flagsOf 0)) 16 0 (flagsOf 0)
-half-zero f = half-none f 16 (flagsOf 0) (flags_long 0)
+pub half_zero : (f : ℕ → Bool) → Half f (flag_at (flags_of 0)) 16 0 (flags_of 0)
+half_zero f = half_none f 16 (flags_of 0) (flags_long 0)
 
 -- AS k is looked at
-pub half-if : (f : ℕ → Bool) (k : ℕ) {l next : List Bool} (t : Bool) → Half f (flagAt (flagsOf 0)) 16 k l → k < 16 → t ≡ f k → next ≡ cond t (set l k true) l → Half f (flagAt (flagsOf 0)) 16 (k + 1) next
-half-if f k true h b e q = rw q (half-more true h b e)
-half-if f k false h b e q = rw q (half-keep h b (flag-zero k b ∙ e))
+pub half_if : (f : ℕ → Bool) (k : ℕ) {l next : List Bool} (t : Bool) → Half f (flag_at (flags_of 0)) 16 k l → k < 16 → t ≡ f k → next ≡ cond t (set l k true) l → Half f (flag_at (flags_of 0)) 16 (k + 1) next
+half_if f k true h b e q = rw q (half_more true h b e)
+half_if f k false h b e q = rw q (half_keep h b (flag_zero k b ∙ e))
 
 -- ---- whether every AS of a set is in another
 
 -- two numbers are equal where their first digits are, and the rests
-split-same : (n m k : ℕ) → eqb (n % 2 ^ (1 + k)) (m % 2 ^ (1 + k)) ≡ (eqb (n % 2 ^ k) (m % 2 ^ k) && eqb (n / 2 ^ k % 2) (m / 2 ^ k % 2))
-split-same n m k =
+split_same : (n m k : ℕ) → eqb (n % 2 ^ (1 + k)) (m % 2 ^ (1 + k)) ≡ (eqb (n % 2 ^ k) (m % 2 ^ k) && eqb (n / 2 ^ k % 2) (m / 2 ^ k % 2))
+split_same n m k =
     let r = n % 2 ^ k in
     let q = m % 2 ^ k in
     let x = n / 2 ^ k % 2 in
@@ -139,40 +139,40 @@ split-same n m k =
     ∙ ap₂ (λ (u v : ℕ). u * 2 ^ k + v) (eqb-true x y (and_right (eqb r q) (eqb x y) e)) (eqb-true r q (and_left (eqb r q) (eqb x y) e))
     ∙ sym (mod-pow-add m 1 k)))
 
-same-below : (n m k : ℕ) → eqb (n % 2 ^ k) (m % 2 ^ k) ≡ all_below (λ a. eqb (n / 2 ^ a % 2) (m / 2 ^ a % 2)) k
+same_below : (n m k : ℕ) → eqb (n % 2 ^ k) (m % 2 ^ k) ≡ all_below (λ a. eqb (n / 2 ^ a % 2) (m / 2 ^ a % 2)) k
 unfolding all_below
-same-below n m zero = let e : n % 1 ≡ m % 1 = omega arith in eq-eqb (n % 1) (m % 1) e
-same-below n m (suc k) =
+same_below n m zero = let e : n % 1 ≡ m % 1 = omega arith in eq-eqb (n % 1) (m % 1) e
+same_below n m (suc k) =
     let e : suc k ≡ 1 + k = omega arith in
     ap (λ (j : ℕ). eqb (n % 2 ^ j) (m % 2 ^ j)) e
-    ∙ split-same n m k
-    ∙ ap (λ (u : Bool). u && eqb (n / 2 ^ k % 2) (m / 2 ^ k % 2)) (same-below n m k)
+    ∙ split_same n m k
+    ∙ ap (λ (u : Bool). u && eqb (n / 2 ^ k % 2) (m / 2 ^ k % 2)) (same_below n m k)
 
 -- the union has no AS beside those of m just where every AS of n is one of them
-within-digit : (n m a : ℕ) → eqb (bit_or n m / 2 ^ a % 2) (m / 2 ^ a % 2) ≡ (not (bit_at n a) || bit_at m a)
+within_digit : (n m a : ℕ) → eqb (bit_or n m / 2 ^ a % 2) (m / 2 ^ a % 2) ≡ (not (bit_at n a) || bit_at m a)
 unfolding bit_at
-within-digit n m a =
-    ap (λ (x : ℕ). eqb x (m / 2 ^ a % 2)) (or-digit n m a)
+within_digit n m a =
+    ap (λ (x : ℕ). eqb x (m / 2 ^ a % 2)) (or_digit n m a)
     ∙ two_digits (λ x y. eqb (max x y) y ≡ (not (eqb x 1) || eqb y 1)) refl refl refl refl (n / 2 ^ a % 2) (m / 2 ^ a % 2) (omega arith) (omega arith)
 
-pub within-bits : (n m : ℕ) → eqb (bit_or n m % 65536) (m % 65536) ≡ all_below (λ a. not (flagAt (flagsOf n) a) || flagAt (flagsOf m) a) 16
-within-bits n m = same-below (bit_or n m) m 16 ∙ all-ext _ _ 16 (λ a b. within-digit n m a ∙ sym (rw (flag_is n a b, flag_is m a b)))
+pub within_bits : (n m : ℕ) → eqb (bit_or n m % 65536) (m % 65536) ≡ all_below (λ a. not (flag_at (flags_of n) a) || flag_at (flags_of m) a) 16
+within_bits n m = same_below (bit_or n m) m 16 ∙ all_ext _ _ 16 (λ a b. within_digit n m a ∙ sym (rw (flag_is n a b, flag_is m a b)))
 
 -- ---- whether some AS is in a set
 
-some-not : (f g : ℕ → Bool) (k : ℕ) → ((a : ℕ) → a < k → f a ≡ not (g a)) → anyBelow f k ≡ not (all_below g k)
-unfolding anyBelow all_below
-some-not f g zero h = refl
-some-not f g (suc k) h = rw (some-not f g k (λ a b. h a (omega arith)), h k (omega arith)) (both (all_below g k) (g k))
+some_not : (f g : ℕ → Bool) (k : ℕ) → ((a : ℕ) → a < k → f a ≡ not (g a)) → any_below f k ≡ not (all_below g k)
+unfolding any_below all_below
+some_not f g zero h = refl
+some_not f g (suc k) h = rw (some_not f g k (λ a b. h a (omega arith)), h k (omega arith)) (both (all_below g k) (g k))
   where
     both : (u v : Bool) → (not u || not v) ≡ not (u && v)
     both true v = refl
     both false v = refl
 
-pub some_bits : (n : ℕ) → anyBelow (flagAt (flagsOf n)) 16 ≡ not (eqb (n % 65536) 0)
+pub some_bits : (n : ℕ) → any_below (flag_at (flags_of n)) 16 ≡ not (eqb (n % 65536) 0)
 some_bits n =
-    some-not (flagAt (flagsOf n)) (λ a. not (flagAt (flagsOf n) a) || flagAt (flagsOf 0) a) 16 (λ a b. rw (flag-zero a b) (twice (flagAt (flagsOf n) a)))
-    ∙ ap not (sym (within-bits n 0))
+    some_not (flag_at (flags_of n)) (λ a. not (flag_at (flags_of n) a) || flag_at (flags_of 0) a) 16 (λ a b. rw (flag_zero a b) (twice (flag_at (flags_of n) a)))
+    ∙ ap not (sym (within_bits n 0))
     ∙ ap (λ (x : ℕ). not (eqb (x % 65536) 0)) (or_zero_r n)
   where
     twice : (u : Bool) → u ≡ not (not u || false)
@@ -181,27 +181,27 @@ some_bits n =
 
 -- ---- the ASes of both sets
 
-and-digit : (n m a : ℕ) → bit_and n m / 2 ^ a % 2 ≡ min (n / 2 ^ a % 2) (m / 2 ^ a % 2)
-and-digit n m a =
+and_digit : (n m a : ℕ) → bit_and n m / 2 ^ a % 2 ≡ min (n / 2 ^ a % 2) (m / 2 ^ a % 2)
+and_digit n m a =
     let x = n / 2 ^ a in
     let y = m / 2 ^ a in
     let b : min (x % 2) (y % 2) ≤ 1 = two_digits (λ u v. min u v ≤ 1) (omega arith) (omega arith) (omega arith) (omega arith) (x % 2) (y % 2) (omega arith) (omega arith) in
     let e : bit_and x y % 2 ≡ min (x % 2) (y % 2) = omega (arith, and_step x y, b) in
     rw (and_shr n m a) e
 
-bit-and : (n m a : ℕ) → bit_at (bit_and n m) a ≡ (bit_at n a && bit_at m a)
+bit_and_lem : (n m a : ℕ) → bit_at (bit_and n m) a ≡ (bit_at n a && bit_at m a)
 unfolding bit_at
-bit-and n m a =
-    ap (λ (x : ℕ). eqb x 1) (and-digit n m a)
+bit_and_lem n m a =
+    ap (λ (x : ℕ). eqb x 1) (and_digit n m a)
     ∙ two_digits (λ x y. eqb (min x y) 1 ≡ (eqb x 1 && eqb y 1)) refl refl refl refl (n / 2 ^ a % 2) (m / 2 ^ a % 2) (omega arith) (omega arith)
 
-pub flags-both : (n m : ℕ) → flagsOf (bit_and n m) ≡ tabulate 16 (λ a. flagAt (flagsOf n) a && flagAt (flagsOf m) a)
-flags-both n m = is-tabulate false (flagsOf (bit_and n m)) 16 (λ a. flagAt (flagsOf n) a && flagAt (flagsOf m) a) (flags_long (bit_and n m)) (λ a b. flag_is (bit_and n m) a b ∙ bit-and n m a ∙ sym (rw (flag_is n a b, flag_is m a b)))
+pub flags_both : (n m : ℕ) → flags_of (bit_and n m) ≡ tabulate 16 (λ a. flag_at (flags_of n) a && flag_at (flags_of m) a)
+flags_both n m = is_tabulate false (flags_of (bit_and n m)) 16 (λ a. flag_at (flags_of n) a && flag_at (flags_of m) a) (flags_long (bit_and n m)) (λ a b. flag_is (bit_and n m) a b ∙ bit_and_lem n m a ∙ sym (rw (flag_is n a b, flag_is m a b)))
 
 -- ---- none is in a set
 
-pub none-bits : (n : ℕ) → eqb (n % 65536) 0 ≡ not (anyBelow (flagAt (flagsOf n)) 16)
-none-bits n = again (eqb (n % 65536) 0) ∙ ap not (sym (some_bits n))
+pub none_bits : (n : ℕ) → eqb (n % 65536) 0 ≡ not (any_below (flag_at (flags_of n)) 16)
+none_bits n = again (eqb (n % 65536) 0) ∙ ap not (sym (some_bits n))
   where
     again : (u : Bool) → u ≡ not (not u)
     again true = refl

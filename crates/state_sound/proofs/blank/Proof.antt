@@ -1,11 +1,11 @@
 -- `state_sound::blank`: both widths. Assumes nothing.
 use borrow.Author.Rules.{rules}
-use Rattle.state_sound.specs.Inner.Sound.{blankPlaces}
+use Rattle.state_sound.specs.Inner.Sound.{blank_places}
 use Rattle.state_sound.proofs.blank.Statement.{statement}
 use Rattle.state_sound.proofs.blank.Tie as tie
 
 returns : tie.Need-returns
-unfolding blankPlaces
+unfolding blank_places
 returns c = rw (c.wide-blank.ensures, c.before.narrow-blank.ensures)
 
 pub blank-spec : {M : Type 1} → statement M

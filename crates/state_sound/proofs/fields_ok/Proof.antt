@@ -3,8 +3,8 @@ use Prim.Native.Nat.{◌≤◌, ◌-◌, ◌+◌}
 use mathlib.Core.Path.{◌≡◌, sym}
 use borrow.Author.Rules.{rules}
 use Rattle.laws.specs.Below.{all_below}
-use Rattle.laws.specs.Inner.Below.{at-end, all_none, all_more}
-use Rattle.state_sound.specs.Inner.Sound.{fields_at, fieldsFit}
+use Rattle.laws.specs.Inner.Below.{at_end, all_none, all_more}
+use Rattle.state_sound.specs.Inner.Sound.{fields_at, fields_fit}
 use Rattle.state_sound.proofs.fields_ok.Statement.{statement}
 use Rattle.state_sound.proofs.fields_ok.Tie as tie
 
@@ -21,8 +21,8 @@ loop-again : tie.Need-loop-preserved invariant-loop decreases-loop
 loop-again c = (rw all_more (rw (c.before.before.before.before.before.before.loop.invariant.0, c.data-ok.ensures)), search rules, search rules)
 
 returns : tie.Need-returns invariant-loop decreases-loop
-unfolding fieldsFit
-returns c = at-end (all_below _) c.before.loop.invariant.0 c.loop-test.false c.before.loop.invariant.1
+unfolding fields_fit
+returns c = at_end (all_below _) c.before.loop.invariant.0 c.loop-test.false c.before.loop.invariant.1
 
 pub fields-ok-spec : {M : Type 1} → statement M
 fields-ok-spec =

@@ -7,8 +7,8 @@ use lib.Dec.{eqb}
 use Prim.Native.Nat.{◌+◌, ◌*◌}
 use Rattle.laws.specs.Below.{all_below}
 use Rattle.laws.specs.Columns.{number_at}
-use Rattle.laws.specs.Inner.Below.{all_none, all_more, at-end}
-use Rattle.state_sound.specs.Inner.Sound.{seenFit}
+use Rattle.laws.specs.Inner.Below.{all_none, all_more, at_end}
+use Rattle.state_sound.specs.Inner.Sound.{seen_fit}
 use Rattle.state_sound.proofs.ids_ok.Statement.{statement}
 use Rattle.state_sound.proofs.ids_ok.Tie as tie
 
@@ -25,8 +25,8 @@ loop-again : tie.Need-loop-preserved invariant-loop decreases-loop
 loop-again c = (rw all_more (rw c.before.before.loop.invariant.0), search rules, search rules, search rules)
 
 returns : tie.Need-returns invariant-loop decreases-loop
-unfolding seenFit
-returns c = at-end (all_below _) c.before.loop.invariant.0 c.loop-test.false c.before.loop.invariant.1
+unfolding seen_fit
+returns c = at_end (all_below _) c.before.loop.invariant.0 c.loop-test.false c.before.loop.invariant.1
 
 pub ids-ok-spec : {M : Type 1} → statement M
 ids-ok-spec =

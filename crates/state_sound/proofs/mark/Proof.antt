@@ -5,7 +5,7 @@ use native.Mathlib.Omega.{arith}
 use lib.ListN.{length}
 use borrow.Author.Rules.{rules}
 use Rattle.state_sound.specs.Inner.Sound.{Marked}
-use Rattle.state_sound.proofs.Units.{marked-none, marked_more}
+use Rattle.state_sound.proofs.Units.{marked_none, marked_more}
 use Rattle.state_sound.proofs.mark.Statement.{statement}
 use Rattle.state_sound.proofs.mark.Tie as tie
 
@@ -16,7 +16,7 @@ abbrev decreases-loop : tie.decreases-loop
 decreases-loop seen₀ id x a from k₀ seen k = 8 - k
 
 loop-holds : tie.Need-loop-init invariant-loop decreases-loop
-loop-holds c = (marked-none _ _ _ _ c.requires.1, search rules, refl, c.requires.0, c.requires.1)
+loop-holds c = (marked_none _ _ _ _ c.requires.1, search rules, refl, c.requires.0, c.requires.1)
 
 loop-again : tie.Need-loop-preserved invariant-loop decreases-loop
 loop-again c =

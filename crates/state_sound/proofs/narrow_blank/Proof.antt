@@ -3,13 +3,13 @@ use Prim.Native.Nat.{◌≤◌, ◌-◌, ◌+◌}
 use mathlib.Core.Path.{◌≡◌, sym}
 use borrow.Author.Rules.{rules}
 use Rattle.laws.specs.Below.{all_below}
-use Rattle.laws.specs.Inner.Below.{at-end, all_none, all_more}
-use Rattle.state_sound.specs.Inner.Sound.{narrowAt, narrowBlank}
+use Rattle.laws.specs.Inner.Below.{at_end, all_none, all_more}
+use Rattle.state_sound.specs.Inner.Sound.{narrow_at, narrow_blank}
 use Rattle.state_sound.proofs.narrow_blank.Statement.{statement}
 use Rattle.state_sound.proofs.narrow_blank.Tie as tie
 
 abbrev invariant-loop : tie.invariant-loop
-invariant-loop c d e from n ok₀ k₀ ok k = (ok ≡ all_below (narrowAt c d e from) k) × (k ≤ n) × (from + n ≤ 128)
+invariant-loop c d e from n ok₀ k₀ ok k = (ok ≡ all_below (narrow_at c d e from) k) × (k ≤ n) × (from + n ≤ 128)
 
 abbrev decreases-loop : tie.decreases-loop
 decreases-loop c d e from n ok₀ k₀ ok k = n - k
@@ -21,8 +21,8 @@ loop-again : tie.Need-loop-preserved invariant-loop decreases-loop
 loop-again c = (rw all_more (rw c.before.before.before.before.loop.invariant.0), search rules, search rules)
 
 returns : tie.Need-returns invariant-loop decreases-loop
-unfolding narrowBlank
-returns c = at-end (all_below _) c.before.loop.invariant.0 c.loop-test.false c.before.loop.invariant.1
+unfolding narrow_blank
+returns c = at_end (all_below _) c.before.loop.invariant.0 c.loop-test.false c.before.loop.invariant.1
 
 pub narrow-blank-spec : {M : Type 1} → statement M
 narrow-blank-spec =

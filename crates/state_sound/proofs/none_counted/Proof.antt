@@ -4,9 +4,9 @@ use mathlib.Core.Path.{◌≡◌, sym}
 use borrow.Author.Rules.{rules}
 use lib.Dec.{eqb}
 use Rattle.laws.specs.Below.{all_below}
-use Rattle.laws.specs.Inner.Below.{at-end, all_none, all_more}
+use Rattle.laws.specs.Inner.Below.{at_end, all_none, all_more}
 use Rattle.laws.specs.Columns.{number_at}
-use Rattle.state_sound.specs.Inner.Sound.{noneCounted}
+use Rattle.state_sound.specs.Inner.Sound.{none_counted}
 use Rattle.state_sound.proofs.none_counted.Statement.{statement}
 use Rattle.state_sound.proofs.none_counted.Tie as tie
 
@@ -23,8 +23,8 @@ loop-again : tie.Need-loop-preserved invariant-loop decreases-loop
 loop-again c = (rw all_more (rw c.before.before.loop.invariant.0), search rules)
 
 returns : tie.Need-returns invariant-loop decreases-loop
-unfolding noneCounted
-returns c = at-end (all_below _) c.before.loop.invariant.0 c.loop-test.false c.before.loop.invariant.1
+unfolding none_counted
+returns c = at_end (all_below _) c.before.loop.invariant.0 c.loop-test.false c.before.loop.invariant.1
 
 pub none-counted-spec : {M : Type 1} → statement M
 none-counted-spec =

@@ -5,10 +5,10 @@ use mathlib.Core.Bool.{true}
 use borrow.Author.Rules.{rules}
 use borrow.Author.Tests.{not-true, not-false}
 use Rattle.laws.specs.Below.{all_below}
-use Rattle.laws.specs.Inner.Below.{all_none, all-next, all-not, at-end}
+use Rattle.laws.specs.Inner.Below.{all_none, all_next, all_not, at_end}
 use Rattle.laws.specs.Columns.{number_at}
-use Rattle.state_sound.specs.Inner.Sound.{Seen, row_at, rowsFit}
-use Rattle.state_sound.proofs.Units.{row_seen}
+use Rattle.state_sound.specs.Inner.Sound.{Seen, row_at, rows_fit}
+use Rattle.state_sound.proofs.Units.{row_seen_lem}
 use Rattle.state_sound.proofs.rows_ok.Statement.{statement}
 use Rattle.state_sound.proofs.rows_ok.Tie as tie
 
@@ -25,23 +25,23 @@ row-ok-requires : tie.Need-row-ok-requires invariant-loop decreases-loop
 row-ok-requires c κs = (search rules, rw c.before.wide.ensures (c.before.before.before.before.loop.invariant.3 _ c.before.before.before.loop-test.true))
 
 returns : tie.Need-returns invariant-loop decreases-loop
-unfolding rowsFit
+unfolding rows_fit
 returns c =
     let i = c.before.before.before.before.before.before.loop.invariant in
     let t = c.before.before.before.before.before.loop-test.true in
     let w = c.before.before.before.wide.ensures in
-    sym (all-not _ 16 _ t (rw (← w) (sym (row_seen _ _ _ _ _ _ _ _ i.2 _ _ t (rw w (i.3 _ t))) ∙ sym c.before.row_ok.ensures ∙ not-true _ c.if1.true)))
+    sym (all_not _ 16 _ t (rw (← w) (sym (row_seen_lem _ _ _ _ _ _ _ _ i.2 _ _ t (rw w (i.3 _ t))) ∙ sym c.before.row_ok.ensures ∙ not-true _ c.if1.true)))
 
 loop-again : tie.Need-loop-preserved invariant-loop decreases-loop
 loop-again c =
     let i = c.before.before.before.before.before.before.loop.invariant in
     let t = c.before.before.before.before.before.loop-test.true in
     let w = c.before.before.before.wide.ensures in
-    (all-next _ _ i.0 (rw (← w) (sym (row_seen _ _ _ _ _ _ _ _ i.2 _ _ t (rw w (i.3 _ t))) ∙ sym c.before.row_ok.ensures ∙ not-false _ c.if1.false)), search rules, i.2, i.3)
+    (all_next _ _ i.0 (rw (← w) (sym (row_seen_lem _ _ _ _ _ _ _ _ i.2 _ _ t (rw w (i.3 _ t))) ∙ sym c.before.row_ok.ensures ∙ not-false _ c.if1.false)), search rules, i.2, i.3)
 
 returns-2 : tie.Need-returns-2 invariant-loop decreases-loop
-unfolding rowsFit
-returns-2 c = at-end (all_below _) (sym c.before.loop.invariant.0) c.loop-test.false c.before.loop.invariant.1
+unfolding rows_fit
+returns-2 c = at_end (all_below _) (sym c.before.loop.invariant.0) c.loop-test.false c.before.loop.invariant.1
 
 pub rows-ok-spec : {M : Type 1} → statement M
 rows-ok-spec =

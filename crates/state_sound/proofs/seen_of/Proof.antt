@@ -4,7 +4,7 @@ use mathlib.Core.Path.{◌≡◌}
 use mathlib.Core.Bool.{true}
 use native.Mathlib.Omega.{arith}
 use borrow.Author.Rules.{rules}
-use Rattle.state_tables.specs.Sound.{allUnder}
+use Rattle.state_tables.specs.Sound.{all_under}
 use Rattle.state_tables.specs.Inner.Column.{under_at}
 use Rattle.state_sound.specs.Inner.Sound.{Seen}
 use Rattle.state_sound.proofs.Units.{seen_none, seen_more}
@@ -12,7 +12,7 @@ use Rattle.state_sound.proofs.seen_of.Statement.{statement}
 use Rattle.state_sound.proofs.seen_of.Tie as tie
 
 abbrev invariant-loop : tie.invariant-loop
-invariant-loop id iid owner links seen₀ l₀ seen l = Seen id iid owner l seen × (l ≤ links) × (links ≤ 128) × (allUnder owner 16 links ≡ true)
+invariant-loop id iid owner links seen₀ l₀ seen l = Seen id iid owner l seen × (l ≤ links) × (links ≤ 128) × (all_under owner 16 links ≡ true)
 
 abbrev decreases-loop : tie.decreases-loop
 decreases-loop id iid owner links seen₀ l₀ seen l = links - l

@@ -2,29 +2,29 @@
 use mathlib.Core.Path.{sym, ◌∙◌}
 use borrow.Author.Rules.{rules}
 use borrow.Author.Tests.{not-true, not-false}
-use Rattle.state_sound.proofs.Units.{counts-fail, empties-fail, rows-said, units-none, counts-few}
+use Rattle.state_sound.proofs.Units.{counts_fail, empties_fail, rows_said, units_none, counts_few}
 use Rattle.state_sound.proofs.units_ok.Statement.{statement}
 use Rattle.state_sound.proofs.units_ok.Tie as tie
 
 returns : tie.Need-returns
-returns c = c.blank.ensures ∙ units-none _ _ _ _ _ _ _ _ _ _ (sym c.before.before.none-counted.ensures ∙ c.before.if1.true)
+returns c = c.blank.ensures ∙ units_none _ _ _ _ _ _ _ _ _ _ (sym c.before.before.none-counted.ensures ∙ c.before.if1.true)
 
 returns-2 : tie.Need-returns-2
-returns-2 c = counts-fail _ _ _ _ _ _ _ _ _ _ (sym c.before.counts-ok.ensures ∙ not-true _ c.if2.true)
+returns-2 c = counts_fail _ _ _ _ _ _ _ _ _ _ (sym c.before.counts-ok.ensures ∙ not-true _ c.if2.true)
 
 returns-3 : tie.Need-returns-3
 returns-3 c =
-    empties-fail _ _ _ _ _ _ _ _ _ _ (sym c.before.before.before.counts-ok.ensures ∙ not-false _ c.before.before.if2.false)
+    empties_fail _ _ _ _ _ _ _ _ _ _ (sym c.before.before.before.counts-ok.ensures ∙ not-false _ c.before.before.if2.false)
     (sym c.before.empties-ok.ensures ∙ not-true _ c.if3.true)
 
 rows-ok-requires : tie.Need-rows-ok-requires
 rows-ok-requires c κs =
     let at = c.before.before.before.before.before.before in
-    (search rules, at.requires.1, counts-few _ _ (sym c.before.before.before.counts-ok.ensures ∙ not-false _ c.before.before.if2.false))
+    (search rules, at.requires.1, counts_few _ _ (sym c.before.before.before.counts-ok.ensures ∙ not-false _ c.before.before.if2.false))
 
 returns-4 : tie.Need-returns-4
 returns-4 c =
-    rows-said _ _ _ _ _ _ _ _ _ _ _ (sym c.before.before.before.before.counts-ok.ensures ∙ not-false _ c.before.before.before.if2.false)
+    rows_said _ _ _ _ _ _ _ _ _ _ _ (sym c.before.before.before.before.counts-ok.ensures ∙ not-false _ c.before.before.before.if2.false)
     (sym c.before.before.empties-ok.ensures ∙ not-false _ c.before.if3.false) c.rows_ok.ensures
 
 pub units-ok-spec : {M : Type 1} → statement M

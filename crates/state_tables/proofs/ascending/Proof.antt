@@ -6,7 +6,7 @@ use borrow.Author.Rules.{rules}
 use lib.Dec.{ltb}
 use Rattle.state_tables.specs.Sound.{ascends}
 use Rattle.laws.specs.Below.{all_below}
-use Rattle.laws.specs.Inner.Below.{all_none, all_more, at-end}
+use Rattle.laws.specs.Inner.Below.{all_none, all_more, at_end}
 use Rattle.laws.specs.Columns.{number_at}
 use Rattle.state_tables.proofs.ascending.Statement.{statement}
 use Rattle.state_tables.proofs.ascending.Tie as tie
@@ -25,7 +25,7 @@ loop-again c = (rw all_more (rw c.before.before.before.loop.invariant.0), search
 
 returns : tie.Need-returns invariant-loop decreases-loop
 unfolding ascends
-returns c = at-end (all_below _) c.before.loop.invariant.0 (omega arith) c.before.loop.invariant.1
+returns c = at_end (all_below _) c.before.loop.invariant.0 (omega arith) c.before.loop.invariant.1
 
 pub ascending-spec : {M : Type 1} → statement M
 ascending-spec =

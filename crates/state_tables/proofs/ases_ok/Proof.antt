@@ -5,16 +5,16 @@ use mathlib.Core.Bool.{true}
 use native.Mathlib.Omega.{arith}
 use borrow.Author.Rules.{rules}
 use Rattle.laws.specs.Below.{all_below}
-use Rattle.laws.specs.Inner.Below.{all_none, all-next}
-use Rattle.laws.specs.Inner.Columns.{HalfCol, half-more, half_at}
-use Rattle.state_tables.specs.Sound.{soundRow, activeIn}
-use Rattle.state_tables.specs.Inner.Limits.{places, limitsTo, flagsOf, flags-small, half-zeros}
-use Rattle.state_tables.specs.Inner.Rows.{row-said, row-over, row_under, active-few, rows-fail, rows_whole}
+use Rattle.laws.specs.Inner.Below.{all_none, all_next}
+use Rattle.laws.specs.Inner.Columns.{HalfCol, half_more, half_at}
+use Rattle.state_tables.specs.Sound.{sound_row, active_in}
+use Rattle.state_tables.specs.Inner.Limits.{places, limits_to, flags_of, flags_small, half_zeros}
+use Rattle.state_tables.specs.Inner.Rows.{row_said, row_over, row_under, active_few, rows_fail, rows_whole}
 use Rattle.state_tables.proofs.ases_ok.Statement.{statement}
 use Rattle.state_tables.proofs.ases_ok.Tie as tie
 
 abbrev invariant-loop : tie.invariant-loop
-invariant-loop place asps ases up member active mode waiting m top on count₀ a₀ count a = (all_below (soundRow up member active asps m) a ≡ true) × HalfCol (activeIn active) (λ i. 0) 16 a count × (a ≤ m) × (m ≤ 16) × (place ≡ places) × (top ≡ limitsTo asps 2) × (on ≡ flagsOf up)
+invariant-loop place asps ases up member active mode waiting m top on count₀ a₀ count a = (all_below (sound_row up member active asps m) a ≡ true) × HalfCol (active_in active) (λ i. 0) 16 a count × (a ≤ m) × (m ≤ 16) × (place ≡ places) × (top ≡ limits_to asps 2) × (on ≡ flags_of up)
 
 abbrev decreases-loop : tie.decreases-loop
 decreases-loop place asps ases up member active mode waiting m top on count₀ a₀ count a = m - a
@@ -23,14 +23,14 @@ limits-requires : tie.Need-limits-requires invariant-loop decreases-loop
 limits-requires c κs = search rules
 
 loop-holds : tie.Need-loop-init invariant-loop decreases-loop
-loop-holds c = (all_none _, half-zeros _, omega arith, search rules, search rules, search rules, search rules)
+loop-holds c = (all_none _, half_zeros _, omega arith, search rules, search rules, search rules, search rules)
 
 row-count-requires : tie.Need-row-count-requires invariant-loop decreases-loop
-row-count-requires c κs = (omega arith, flags-small _ _ c.before.before.before.loop.invariant.6)
+row-count-requires c κs = (omega arith, flags_small _ _ c.before.before.before.loop.invariant.6)
 
 returns : tie.Need-returns invariant-loop decreases-loop
 returns c h =
-    sym (rows-fail c.before.before.before.before.before.before.before.before.before.args.up.now c.before.before.before.before.before.before.before.before.before.args.member.now c.before.before.before.before.before.before.before.before.before.args.active.now c.before.before.before.before.before.before.before.before.before.args.mode.now c.before.before.before.before.before.before.before.before.before.args.waiting.now c.before.before.before.before.before.before.before.before.before.args.asps c.before.before.before.before.before.before.before.before.within.result c.before.before.before.before.before.loop.a (omega arith) (row-over (soundRow c.before.before.before.before.before.before.before.before.before.args.up.now c.before.before.before.before.before.before.before.before.before.args.member.now c.before.before.before.before.before.before.before.before.before.args.active.now c.before.before.before.before.before.before.before.before.before.args.asps c.before.before.before.before.before.before.before.before.within.result c.before.before.before.before.before.loop.a) (activeIn c.before.before.before.before.before.before.before.before.before.args.active.now c.before.before.before.before.before.loop.a) c.before.row_count.result (active-few _ _) (row-said c.before.before.before.before.before.before.before.before.before.args.up.now c.before.before.before.before.before.before.before.before.before.args.member.now c.before.before.before.before.before.before.before.before.before.args.active.now c.before.before.before.before.before.before.before.limits.result c.before.before.before.before.before.before.flags.result c.before.before.before.before.before.before.before.before.before.args.asps c.before.before.before.before.before.before.before.before.within.result c.before.before.before.before.before.loop.a c.before.row_count.result (omega arith) c.before.before.before.before.before.loop.invariant.5 c.before.before.before.before.before.loop.invariant.6 c.before.row_count.ensures) c.if1.true))
+    sym (rows_fail c.before.before.before.before.before.before.before.before.before.args.up.now c.before.before.before.before.before.before.before.before.before.args.member.now c.before.before.before.before.before.before.before.before.before.args.active.now c.before.before.before.before.before.before.before.before.before.args.mode.now c.before.before.before.before.before.before.before.before.before.args.waiting.now c.before.before.before.before.before.before.before.before.before.args.asps c.before.before.before.before.before.before.before.before.within.result c.before.before.before.before.before.loop.a (omega arith) (row_over (sound_row c.before.before.before.before.before.before.before.before.before.args.up.now c.before.before.before.before.before.before.before.before.before.args.member.now c.before.before.before.before.before.before.before.before.before.args.active.now c.before.before.before.before.before.before.before.before.before.args.asps c.before.before.before.before.before.before.before.before.within.result c.before.before.before.before.before.loop.a) (active_in c.before.before.before.before.before.before.before.before.before.args.active.now c.before.before.before.before.before.loop.a) c.before.row_count.result (active_few _ _) (row_said c.before.before.before.before.before.before.before.before.before.args.up.now c.before.before.before.before.before.before.before.before.before.args.member.now c.before.before.before.before.before.before.before.before.before.args.active.now c.before.before.before.before.before.before.before.limits.result c.before.before.before.before.before.before.flags.result c.before.before.before.before.before.before.before.before.before.args.asps c.before.before.before.before.before.before.before.before.within.result c.before.before.before.before.before.loop.a c.before.row_count.result (omega arith) c.before.before.before.before.before.loop.invariant.5 c.before.before.before.before.before.loop.invariant.6 c.before.row_count.ensures) c.if1.true))
     ∙ rw (c.before.before.before.before.before.before.before.before.within.ensures.1 h)
 
 cast-count : tie.Need-overflow-cast-count invariant-loop decreases-loop
@@ -41,8 +41,8 @@ array-write-count c = omega arith
 
 loop-again : tie.Need-loop-preserved invariant-loop decreases-loop
 loop-again c =
-    let r = row_under (soundRow c.before.before.before.before.before.before.before.before.before.args.up.now c.before.before.before.before.before.before.before.before.before.args.member.now c.before.before.before.before.before.before.before.before.before.args.active.now c.before.before.before.before.before.before.before.before.before.args.asps c.before.before.before.before.before.before.before.before.within.result c.before.before.before.before.before.loop.a) (activeIn c.before.before.before.before.before.before.before.before.before.args.active.now c.before.before.before.before.before.loop.a) c.before.row_count.result (row-said c.before.before.before.before.before.before.before.before.before.args.up.now c.before.before.before.before.before.before.before.before.before.args.member.now c.before.before.before.before.before.before.before.before.before.args.active.now c.before.before.before.before.before.before.before.limits.result c.before.before.before.before.before.before.flags.result c.before.before.before.before.before.before.before.before.before.args.asps c.before.before.before.before.before.before.before.before.within.result c.before.before.before.before.before.loop.a c.before.row_count.result (omega arith) c.before.before.before.before.before.loop.invariant.5 c.before.before.before.before.before.loop.invariant.6 c.before.row_count.ensures) c.if1.false in
-    (all-next _ _ c.before.before.before.before.before.loop.invariant.0 r.0, half-more _ c.before.before.before.before.before.loop.invariant.1 (omega arith) r.1, search rules, search rules, search rules, search rules, search rules)
+    let r = row_under (sound_row c.before.before.before.before.before.before.before.before.before.args.up.now c.before.before.before.before.before.before.before.before.before.args.member.now c.before.before.before.before.before.before.before.before.before.args.active.now c.before.before.before.before.before.before.before.before.before.args.asps c.before.before.before.before.before.before.before.before.within.result c.before.before.before.before.before.loop.a) (active_in c.before.before.before.before.before.before.before.before.before.args.active.now c.before.before.before.before.before.loop.a) c.before.row_count.result (row_said c.before.before.before.before.before.before.before.before.before.args.up.now c.before.before.before.before.before.before.before.before.before.args.member.now c.before.before.before.before.before.before.before.before.before.args.active.now c.before.before.before.before.before.before.before.limits.result c.before.before.before.before.before.before.flags.result c.before.before.before.before.before.before.before.before.before.args.asps c.before.before.before.before.before.before.before.before.within.result c.before.before.before.before.before.loop.a c.before.row_count.result (omega arith) c.before.before.before.before.before.loop.invariant.5 c.before.before.before.before.before.loop.invariant.6 c.before.row_count.ensures) c.if1.false in
+    (all_next _ _ c.before.before.before.before.before.loop.invariant.0 r.0, half_more _ c.before.before.before.before.before.loop.invariant.1 (omega arith) r.1, search rules, search rules, search rules, search rules, search rules)
 
 marks-ok-requires : tie.Need-marks-ok-requires invariant-loop decreases-loop
 marks-ok-requires c κs = c.before.before.before.before.before.before.before.before.before.requires

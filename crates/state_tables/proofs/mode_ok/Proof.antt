@@ -1,7 +1,7 @@
 -- `state_tables::mode_ok`: by cases of the flag. Assumes nothing.
 use mathlib.Core.Path.{◌≡◌, refl}
 use mathlib.Core.Bool.{Bool, true, false, ◌&&◌, ◌||◌, not, cond}
-use Rattle.state_tables.specs.Sound.{modeAt}
+use Rattle.state_tables.specs.Sound.{mode_at}
 use Rattle.state_tables.proofs.mode_ok.Statement.{statement}
 use Rattle.state_tables.proofs.mode_ok.Tie as tie
 
@@ -11,7 +11,7 @@ by_flag true false v = refl
 by_flag false u v = refl
 
 returns : tie.Need-returns
-unfolding modeAt
+unfolding mode_at
 returns c = by_flag c.args.inside _ _
 
 pub mode-ok-spec : {M : Type 1} → statement M

@@ -1,11 +1,11 @@
 -- `state_tables::waiting_ok`: the definition's own tests. Assumes nothing.
 use mathlib.Core.Path.{refl}
-use Rattle.state_tables.specs.Sound.{waitingAt}
+use Rattle.state_tables.specs.Sound.{waiting_at}
 use Rattle.state_tables.proofs.waiting_ok.Statement.{statement}
 use Rattle.state_tables.proofs.waiting_ok.Tie as tie
 
 returns : tie.Need-returns
-unfolding waitingAt
+unfolding waiting_at
 returns c = refl
 
 pub waiting-ok-spec : {M : Type 1} → statement M

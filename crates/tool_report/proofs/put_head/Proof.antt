@@ -1,4 +1,4 @@
-use Rattle.tool_report.specs.Shown.{headLine}
+use Rattle.tool_report.specs.Shown.{head_line}
 use Rattle.tool_text.proofs.Puts.{put_then}
 use native.Mathlib.Omega.{arith}
 use borrow.Author.Rules.{rules}
@@ -6,7 +6,7 @@ use Rattle.tool_report.proofs.put_head.Statement.{statement}
 use Rattle.tool_report.proofs.put_head.Tie as tie
 
 returns : tie.Need-returns
-unfolding headLine
+unfolding head_line
 returns c =
     let p = c.before.before.before.before.before.before.put-bytes.ensures.place in
     let q = c.before.before.put_byte.ensures.place in

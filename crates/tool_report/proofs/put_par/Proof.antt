@@ -1,11 +1,11 @@
-use Rattle.tool_report.specs.Shown.{parText}
+use Rattle.tool_report.specs.Shown.{par_text}
 use Rattle.tool_text.proofs.Puts.{put_then}
 use borrow.Author.Rules.{rules}
 use Rattle.tool_report.proofs.put_par.Statement.{statement}
 use Rattle.tool_report.proofs.put_par.Tie as tie
 
 returns : tie.Need-returns
-unfolding parText
+unfolding par_text
 returns c = put_then c.before.before.put-joint.ensures.0 c.put-tagged.ensures
 
 pub put-par-spec : {M : Type 1} → statement M

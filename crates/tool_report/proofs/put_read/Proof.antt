@@ -1,6 +1,6 @@
 use Rattle.codec_read.specs.declared.Reading.{Reading}
 use mathlib.Core.Path.{sym, ap, ◌∙◌}
-use Rattle.tool_report.proofs.Texts.{accepted-short, read_some, read_none}
+use Rattle.tool_report.proofs.Texts.{accepted_short, read_some, read_none}
 use native.Mathlib.Omega.{arith}
 use borrow.Author.Rules.{rules}
 use Rattle.tool_report.proofs.put_read.Statement.{statement}
@@ -9,14 +9,14 @@ use Rattle.tool_report.proofs.put_read.Tie as tie
 put-pars-requires : tie.Need-put-pars-requires
 put-pars-requires c κs =
     let e = c.before.before.before.before.before.read.ensures in
-    let k = accepted-short _ (sym (ap (λ (r : Reading). r.code) e) ∙ c.before.if1.true) in
+    let k = accepted_short _ (sym (ap (λ (r : Reading). r.code) e) ∙ c.before.if1.true) in
     omega arith
 
 returns : tie.Need-returns
 returns c =
     let e = c.before.before.before.before.before.before.read.ensures in
     let z = c.before.before.if1.true in
-    let k = accepted-short _ (sym (ap (λ (r : Reading). r.code) e) ∙ z) in
+    let k = accepted_short _ (sym (ap (λ (r : Reading). r.code) e) ∙ z) in
     (read_some _ _ e z c.before.before.before.before.put-number.ensures.0 c.put-pars.ensures.0, omega arith)
 
 returns-2 : tie.Need-returns-2

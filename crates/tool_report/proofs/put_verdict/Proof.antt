@@ -1,4 +1,4 @@
-use Rattle.tool_report.specs.Shown.{verdictLine}
+use Rattle.tool_report.specs.Shown.{verdict_line}
 use Rattle.tool_text.proofs.Puts.{put_then}
 use native.Mathlib.Omega.{arith}
 use borrow.Author.Rules.{rules}
@@ -6,7 +6,7 @@ use Rattle.tool_report.proofs.put_verdict.Statement.{statement}
 use Rattle.tool_report.proofs.put_verdict.Tie as tie
 
 returns : tie.Need-returns
-unfolding verdictLine
+unfolding verdict_line
 returns c =
     let p = c.before.before.put-bytes.ensures.place in
     (put_then c.before.before.put-bytes.ensures c.put-number.ensures.0, omega arith)

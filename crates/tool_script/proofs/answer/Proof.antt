@@ -1,4 +1,4 @@
-use Rattle.tool_script.proofs.Answers.{bad-answered}
+use Rattle.tool_script.proofs.Answers.{bad_answered}
 use native.Mathlib.Omega.{arith}
 use borrow.Author.Rules.{rules}
 use Rattle.tool_script.proofs.answer.Statement.{statement}
@@ -11,7 +11,7 @@ returns-2 : tie.Need-returns-2
 returns-2 c = (rw c.before.before.before.enum-told2.given.1 c.show.ensures.0, c.show.ensures.1)
 
 returns-3 : tie.Need-returns-3
-returns-3 c = (rw c.before.before.enum-told3.given.1 (bad-answered c.bad.ensures.0 c.bad.ensures.1), omega arith)
+returns-3 c = (rw c.before.before.enum-told3.given.1 (bad_answered c.bad.ensures.0 c.bad.ensures.1), omega arith)
 
 pub answer-spec : {M : Type 1} → statement M
 answer-spec =

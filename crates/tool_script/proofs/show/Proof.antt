@@ -1,16 +1,16 @@
-use Rattle.tool_script.proofs.Answers.{bytes-answered, no_bytes}
+use Rattle.tool_script.proofs.Answers.{bytes_answered, no_bytes}
 use Rattle.tool_report.specs.declared.Style.TheVariants.{Bars}
-use Rattle.tool_report.specs.Shown.{shownText}
+use Rattle.tool_report.specs.Shown.{shown_text}
 use native.Mathlib.Omega.{arith}
 use borrow.Author.Rules.{rules}
 use Rattle.tool_script.proofs.show.Statement.{statement}
 use Rattle.tool_script.proofs.show.Tie as tie
 
 returns : tie.Need-returns
-returns c = (no_bytes (shownText Bars) c.before.before.before.before.bytes_of.ensures c.before.before.enum_told.given.1 c.bad.ensures.0 c.bad.ensures.1, omega arith)
+returns c = (no_bytes (shown_text Bars) c.before.before.before.before.bytes_of_lem.ensures c.before.before.enum_told.given.1 c.bad.ensures.0 c.bad.ensures.1, omega arith)
 
 returns-2 : tie.Need-returns-2
-returns-2 c = (bytes-answered (shownText Bars) c.before.before.before.before.before.before.before.before.bytes_of.ensures c.before.before.before.before.before.before.size.given.1 (omega arith) c.before.before.first.ensures c.put-shown.ensures.0 c.put-shown.ensures.1, omega arith)
+returns-2 c = (bytes_answered (shown_text Bars) c.before.before.before.before.before.before.before.before.bytes_of_lem.ensures c.before.before.before.before.before.before.size.given.1 (omega arith) c.before.before.first.ensures c.put-shown.ensures.0 c.put-shown.ensures.1, omega arith)
 
 pub show-spec : {M : Type 1} → statement M
 show-spec =

@@ -1,5 +1,5 @@
 use Prim.Native.Nat.{◌<◌, ◌≤◌, ◌-◌}
-use Rattle.tool_text.proofs.Words.{Passed, passed_none, passed-end, passed-stop, passed-more}
+use Rattle.tool_text.proofs.Words.{Passed, passed_none, passed_end, passed_stop, passed_more}
 use lib.ListN.{length}
 use native.Mathlib.Omega.{arith}
 use borrow.Author.Rules.{rules}
@@ -20,21 +20,21 @@ returns c =
     let a = c.before.before.before.before.args.line.now in
     let l = c.before.before.before.loop in
     let h : l.i < length a = omega arith in
-    passed-stop a l.i l.invariant h c.if1.true
+    passed_stop a l.i l.invariant h c.if1.true
 
 loop-again : tie.Need-loop-preserved invariant-loop decreases-loop
 loop-again c =
     let a = c.before.before.before.before.args.line.now in
     let l = c.before.before.before.loop in
     let h : l.i < length a = omega arith in
-    passed-more a l.i l.invariant h c.if1.false
+    passed_more a l.i l.invariant h c.if1.false
 
 returns-2 : tie.Need-returns-2 invariant-loop decreases-loop
 returns-2 c =
     let a = c.before.before.args.line.now in
     let l = c.before.loop in
     let h : length a ≤ l.i = omega arith in
-    passed-end a l.i l.invariant h
+    passed_end a l.i l.invariant h
 
 pub blank-at-spec : {M : Type 1} → statement M
 blank-at-spec =

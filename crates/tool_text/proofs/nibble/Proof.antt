@@ -1,4 +1,4 @@
-use Rattle.tool_text.specs.Parse.{nibbleOf}
+use Rattle.tool_text.specs.Parse.{nibble_of}
 use native.Mathlib.Omega.{arith}
 use Rattle.laws.specs.Inner.Choice.{choices}
 use borrow.Author.Rules.{rules}
@@ -6,7 +6,7 @@ use Rattle.tool_text.proofs.nibble.Statement.{statement}
 use Rattle.tool_text.proofs.nibble.Tie as tie
 
 pub nibble-spec : {M : Type 1} → statement M
-unfolding nibbleOf
+unfolding nibble_of
 nibble-spec =
     tie.close
     (tie.spec

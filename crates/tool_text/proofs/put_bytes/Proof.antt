@@ -1,7 +1,7 @@
 use lib.Seq.{take_all}
 use lib.ListN.{length, take}
 use Rattle.tool_text.specs.Put.{overlay}
-use Rattle.tool_text.proofs.Puts.{over-more}
+use Rattle.tool_text.proofs.Puts.{over_more}
 use mathlib.Core.Path.{◌≡◌, refl}
 use native.Mathlib.Omega.{arith}
 use Prim.Native.Nat.{◌≤◌, ◌-◌}
@@ -23,7 +23,7 @@ loop-again : tie.Need-loop-preserved invariant-loop decreases-loop
 loop-again c =
     let a = c.before.before.before.args in
     let i = c.before.before.loop.i in
-    (omega arith, rw c.before.before.loop.invariant.1 (over-more a.out.now a.s.now a.at i (omega arith)))
+    (omega arith, rw c.before.before.loop.invariant.1 (over_more a.out.now a.s.now a.at i (omega arith)))
 
 returns : tie.Need-returns invariant-loop decreases-loop
 returns c =

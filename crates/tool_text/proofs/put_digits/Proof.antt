@@ -1,4 +1,4 @@
-use Rattle.tool_text.proofs.Puts.{digits-done, digit-step}
+use Rattle.tool_text.proofs.Puts.{digits_done, digit_step}
 use native.Mathlib.Omega.{arith}
 use Rattle.tool_text.specs.Digits.{digits}
 use Rattle.tool_text.specs.Put.{overlay}
@@ -18,10 +18,10 @@ loop-holds : tie.Need-loop-init invariant-loop decreases-loop
 loop-holds c = (omega arith, refl)
 
 loop-again : tie.Need-loop-preserved invariant-loop decreases-loop
-loop-again c = (omega arith, digit-step _ _ _ _ _ (omega arith) c.last-digit.ensures.0 ∙ c.before.before.loop.invariant.1)
+loop-again c = (omega arith, digit_step _ _ _ _ _ (omega arith) c.last-digit.ensures.0 ∙ c.before.before.loop.invariant.1)
 
 returns : tie.Need-returns invariant-loop decreases-loop
-returns c = digits-done _ _ _ _ _ _ _ (omega arith) c.before.loop.invariant.1
+returns c = digits_done _ _ _ _ _ _ _ (omega arith) c.before.loop.invariant.1
 
 pub put-digits-spec : {M : Type 1} → statement M
 put-digits-spec =

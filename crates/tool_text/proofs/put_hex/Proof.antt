@@ -1,4 +1,4 @@
-use Rattle.tool_text.proofs.Puts.{hex-none, hex-turn, hex-done}
+use Rattle.tool_text.proofs.Puts.{hex_none, hex_turn, hex_done}
 use native.Mathlib.Omega.{arith}
 use Rattle.tool_text.specs.Digits.{hex}
 use Rattle.tool_text.specs.Put.{Put}
@@ -15,13 +15,13 @@ abbrev decreases-loop : tie.decreases-loop
 decreases-loop out₀ at s i₀ out i = length s - i
 
 loop-holds : tie.Need-loop-init invariant-loop decreases-loop
-loop-holds c = (omega arith, hex-none _ _)
+loop-holds c = (omega arith, hex_none _ _)
 
 loop-again : tie.Need-loop-preserved invariant-loop decreases-loop
-loop-again c = (omega arith, hex-turn _ _ _ _ _ _ (omega arith) c.before.before.before.before.loop.invariant.1 c.put-pair.ensures)
+loop-again c = (omega arith, hex_turn _ _ _ _ _ _ (omega arith) c.before.before.before.before.loop.invariant.1 c.put-pair.ensures)
 
 returns : tie.Need-returns invariant-loop decreases-loop
-returns c = (hex-done _ _ _ _ _ (omega arith) c.before.loop.invariant.1, omega arith)
+returns c = (hex_done _ _ _ _ _ (omega arith) c.before.loop.invariant.1, omega arith)
 
 pub put-hex-spec : {M : Type 1} → statement M
 put-hex-spec =

@@ -6,33 +6,33 @@ use Rattle.tool_text.specs.declared.Size.{Size}
 use Rattle.tool_text.specs.declared.Size.TheVariants.{Count}
 use Rattle.tool_text.specs.declared.Number.{Number}
 use Rattle.tool_text.specs.declared.Number.TheVariants.{Value, NoNumber}
-use Rattle.tool_text.specs.Parse.{isHex, unhex, octets, size_of}
+use Rattle.tool_text.specs.Parse.{is_hex, unhex, octets, size_of}
 
 -- a number with one more decimal digit: none where the character is no digit or the number doesn't fit 32
 -- bits
-unfoldable pub addDigit : ℕ → ℕ → Number
-addDigit n b =
+unfoldable pub add_digit : ℕ → ℕ → Number
+add_digit n b =
     cond (ltb b 48) NoNumber
     (cond (ltb 57 b) NoNumber
     (cond (ltb 4294967295 (n * 10 + (b - 48))) NoNumber (Value (n * 10 + (b - 48)))))
 
-abbrev pub onNumber : Number → (ℕ → Number) → Number
-onNumber (Value n) f = f n
-onNumber NoNumber f = NoNumber
+abbrev pub on_number : Number → (ℕ → Number) → Number
+on_number (Value n) f = f n
+on_number NoNumber f = NoNumber
 
 -- a number with more digits
-unfoldable pub numberFrom : ℕ → List ℕ → Number
-numberFrom n [] = Value n
-numberFrom n (b ∷ bs) = onNumber (addDigit n b) (λ m. numberFrom m bs)
+unfoldable pub number_from : ℕ → List ℕ → Number
+number_from n [] = Value n
+number_from n (b ∷ bs) = on_number (add_digit n b) (λ m. number_from m bs)
 
 -- a word as a decimal number: one digit at least, leading zeros are fine
 unfoldable pub number_of : List ℕ → Number
-number_of w = cond (eqb (length w) 0) NoNumber (numberFrom 0 w)
+number_of w = cond (eqb (length w) 0) NoNumber (number_from 0 w)
 
 -- the answer, and, where the word is one of bytes, these at the start of the buffer
 pub record Octets (w before after : List ℕ) (r : Size) : Type 0 where
   pub size : r ≡ octets w
-  pub bytes : isHex w ≡ true → after ≡ overlay before 0 (unhex w)
+  pub bytes : is_hex w ≡ true → after ≡ overlay before 0 (unhex w)
 
 pub record Bytes (w before after : List ℕ) (r : Size) : Type 0 where
   pub size : r ≡ size_of w
