@@ -1,5 +1,7 @@
 // The gateway with its events as methods, by value: each copies the columns that events change, lends them
 // to the event where they then lie, and hands back a node with them for the next event.
+#![tactic(auto)]
+
 ghost use Rattle.rules_event.specs.Event.{message, lost, recovery, link_up, link_down, link_message, bare};
 ghost use Rattle.rules_event.specs.Entry.{MeetsRules};
 ghost use Rattle.event_asked.specs.Happened.{happened, event};

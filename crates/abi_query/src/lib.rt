@@ -1,5 +1,7 @@
 // What a host asks beside the events, over the C ABI: a parameter of a message, the state of an AS, the place
 // of a link, which recovery times to start and to stop.
+#![tactic(auto)]
+
 ghost use Rattle.std.specs.Prelude.{◌≡◌, ◌&&◌, not};
 ghost use Rattle.laws.specs.Below.{one};
 ghost use Rattle.laws.specs.Columns.{is_set};

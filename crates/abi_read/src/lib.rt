@@ -2,6 +2,8 @@
 // (include/m2ua.h). Thin: each calls the entry of its name and promises the same. (The writer is exported by
 // crate abi_write, the events by crate event_run: in one archive with them the reader would not be compiled
 // into its one caller.) A slice is passed as a pointer and a length, a struct by value.
+#![tactic(auto)]
+
 ghost use Rattle.std.specs.Prelude.{◌≡◌, cond};
 ghost use Rattle.codec_read.specs.Meaning.{reading_of};
 ghost use Rattle.state_plan.specs.Plan.{load_of};

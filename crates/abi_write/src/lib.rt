@@ -1,6 +1,8 @@
 // The writer over the C ABI, for hosts in C and Rust (include/m2ua.h): it calls the entry of its name and
 // promises the same. It has an archive of its own: in one with the reader, which asks the same of each
 // parameter, that question would not be compiled into the reader.
+#![tactic(auto)]
+
 ghost use Rattle.codec_write.specs.Write.{Writes};
 
 use codec_write::Written;

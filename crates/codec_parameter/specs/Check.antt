@@ -1,7 +1,7 @@
 -- Check 7 of one parameter (Rule 2.7).
 -- Assumes nothing.
 use Rattle.std.specs.Prelude.{ℕ, Bool, cond, List, eqb}
-use Rattle.laws.specs.Choice.{◌orElse◌}
+use Rattle.laws.specs.Choice.{◌or_else◌}
 use Rattle.codec_parameter.specs.Table.{Usage, forbidden, optional, mandatory, repeated}
 use Rattle.codec_parameter.specs.Value.{body_code}
 

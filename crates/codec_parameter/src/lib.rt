@@ -1,6 +1,8 @@
 // One parameter of a message: how its tag may stand in a message, and its length and value.
+#![tactic(auto)]
+
 ghost use Rattle.std.specs.Prelude.{◌≡◌, ◌+◌, ◌≤◌, ◌<◌, length};
-ghost use Rattle.laws.specs.Choice.{◌orElse◌};
+ghost use Rattle.laws.specs.Choice.{◌or_else◌};
 ghost use Rattle.codec_wire.specs.Number.{be};
 ghost use Rattle.codec_parameter.specs.Table.{table, has_class, row_in};
 ghost use Rattle.codec_parameter.specs.Value.{bytes_of, number_of, limits_of, plain_code, word_code, value_code, id_code, range_code, body_code};

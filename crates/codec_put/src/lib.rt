@@ -1,5 +1,7 @@
 // Writes numbers, one parameter and the message header into a buffer. Each promise is an equation on the
 // whole buffer.
+#![tactic(auto)]
+
 ghost use Rattle.std.specs.Prelude.{◌≡◌, ◌++◌, ◌+◌, ◌≤◌, ◌<◌, length, replicate};
 ghost use Rattle.codec_put.specs.Bytes.{overlay, bytes16, bytes32, par_size, head_bytes, PutAt};
 

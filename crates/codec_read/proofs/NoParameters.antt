@@ -20,7 +20,7 @@ use Rattle.codec_wire.specs.declared.Step.TheVariants.{End}
 use Rattle.codec_parameter.specs.Table.{table, has_class, among, row_in, entries_in, is_mandatory}
 use Rattle.codec_parameter.specs.Inner.Slot.{info_of}
 use Rattle.codec_parameter.specs.declared.RowInfo.{RowInfo}
-use Rattle.laws.specs.Choice.{◌orElse◌}
+use Rattle.laws.specs.Choice.{◌or_else◌}
 use Rattle.codec_read.specs.Verdict.{most, has, number, all_there, exactly, sequence_code, in_turn, pars_code, last_checks}
 use Rattle.codec_read.specs.Meaning.{meaning, unreadable, outcome, reading_of}
 use Rattle.codec_read.specs.Inner.Seen.{row_code, row_outcome, checks_outcome, needs_none, is_bare}

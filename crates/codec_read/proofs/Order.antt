@@ -10,7 +10,7 @@ use native.Mathlib.Omega.{arith}
 use borrow.Author.Tests.{ne_eqb, eqb-false}
 use Rattle.codec_wire.specs.Number.{be}
 use Rattle.codec_parameter.specs.Table.{table, has_class, row_in}
-use Rattle.laws.specs.Choice.{◌orElse◌, ◌if◌}
+use Rattle.laws.specs.Choice.{◌or_else◌, ◌if◌}
 use Rattle.codec_read.specs.Verdict.{most, check2, check3, check4, check5, last_checks, verdict}
 use Rattle.codec_read.specs.Meaning.{unreadable, outcome, reading_of}
 use Rattle.codec_read.specs.Inner.Seen.{row_code, row_outcome, kind_outcome, checks_outcome}

@@ -17,7 +17,7 @@ use Rattle.codec_parameter.specs.Inner.Slot.{slot, tag_at, info_of, packed_use, 
 use Rattle.codec_parameter.specs.Check.{allowed_code, par_code}
 use Rattle.codec_parameter.specs.Value.{body_code}
 use Rattle.codec_parameter.proofs.Slots.{same_slot, tag_one, usage_slot, all_near, near, row_near, near_slot, usage_far}
-use Rattle.laws.specs.Choice.{◌orElse◌}
+use Rattle.laws.specs.Choice.{◌or_else◌}
 use Rattle.codec_parameter.proofs.Info.{musts_row, use_bits_lem}
 use Rattle.codec_read.specs.Verdict.{has, number, head, all_there, exactly, sequence_code, check8}
 use Rattle.laws.specs.Below.{one}

@@ -20,7 +20,7 @@ use Rattle.codec_parameter.specs.Table.{Usage, table, row_in, usage}
 use Rattle.codec_parameter.specs.Inner.Slot.{slot, info_of, packed_use}
 use Rattle.codec_parameter.specs.declared.RowInfo.{RowInfo}
 use Rattle.codec_parameter.specs.Check.{par_code}
-use Rattle.laws.specs.Choice.{◌orElse◌}
+use Rattle.laws.specs.Choice.{◌or_else◌}
 use Rattle.laws.specs.Inner.Choice.{or_not}
 use Rattle.codec_read.specs.Verdict.{has, head, is_none, in_turn, pars_code, last_checks, check8}
 use Rattle.codec_read.specs.Meaning.{meaning, unreadable, outcome}

@@ -2,7 +2,7 @@
 -- where it finds nothing.
 -- Assumes nothing.
 use Rattle.std.specs.Prelude.{ℕ, zero, suc, ◌+◌, ◌%◌, Bool, true, false, cond, not, ◌&&◌, ◌||◌, List, [], ◌∷◌, ◌++◌, length, get_or, ltb, eqb}
-use Rattle.laws.specs.Choice.{◌orElse◌, ◌if◌}
+use Rattle.laws.specs.Choice.{◌or_else◌, ◌if◌}
 use Rattle.codec_wire.specs.Number.{be}
 use Rattle.codec_wire.specs.Walk.{Par, walk}
 use Rattle.codec_parameter.specs.Table.{is_mandatory, Entry, table, has_class, row_in, entries_in, key, usage}

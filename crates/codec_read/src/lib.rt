@@ -1,6 +1,8 @@
 // Reads M2UA messages: the verdict and the meaning of any bytes.
+#![tactic(auto)]
+
 ghost use Rattle.std.specs.Prelude.{◌≡◌, ◌+◌, ◌≤◌, ◌<◌, cond, not, true, false, [], length, get_or, eqb};
-ghost use Rattle.laws.specs.Choice.{◌orElse◌, ◌if◌};
+ghost use Rattle.laws.specs.Choice.{◌or_else◌, ◌if◌};
 ghost use Rattle.codec_wire.specs.Walk.{walk};
 ghost use Rattle.codec_parameter.specs.Table.{table, row_in};
 ghost use Rattle.codec_parameter.specs.Inner.Slot.{slot, info_of};

@@ -1,4 +1,6 @@
 // The parameters of a received message that go out again.
+#![tactic(auto)]
+
 ghost use Rattle.std.specs.Prelude.{◌≡◌, ◌+◌, ◌≤◌, length};
 ghost use Rattle.codec_wire.specs.Walk.{walk};
 ghost use Rattle.codec_put.specs.Bytes.{pars_bytes};

@@ -1,4 +1,6 @@
 // The wire format below the messages: big-endian numbers, the walk over parameters, the reading place.
+#![tactic(auto)]
+
 ghost use Rattle.std.specs.Prelude.{◌≡◌, ◌+◌, ◌≤◌, length};
 ghost use Rattle.codec_wire.specs.Number.{be};
 ghost use Rattle.codec_wire.specs.Walk.{step_at, step_code, walk, part_of};

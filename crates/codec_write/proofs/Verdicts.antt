@@ -13,7 +13,7 @@ use Rattle.codec_wire.specs.Number.{be}
 use Rattle.codec_wire.specs.Walk.{Par, Walk, walk}
 use Rattle.codec_wire.proofs.Number.{be_four}
 use Rattle.codec_parameter.specs.Table.{table, has_class, row_in}
-use Rattle.laws.specs.Choice.{◌orElse◌, ◌if◌}
+use Rattle.laws.specs.Choice.{◌or_else◌, ◌if◌}
 use Rattle.codec_read.specs.Verdict.{most, check1, check2, check3, check4, check5, pars_code, last_checks, verdict}
 use Rattle.codec_put.specs.Bytes.{head_bytes, pars_bytes}
 use Rattle.codec_put.proofs.Round.{be_two_in, walk_written, pars_multiple}

@@ -11,7 +11,7 @@ use lib.Dec.{ltb, eqb}
 use borrow.Author.Tests.{eq-eqb, ne_eqb, ltb-false}
 use Rattle.codec_wire.specs.Walk.{Par}
 use Rattle.codec_parameter.specs.Table.{table, has_class, row_in}
-use Rattle.laws.specs.Choice.{◌orElse◌, ◌if◌}
+use Rattle.laws.specs.Choice.{◌or_else◌, ◌if◌}
 use Rattle.codec_read.specs.Verdict.{verdict}
 pub use Rattle.codec_read.proofs.Accepted.{or_none, if_none}
 use Rattle.codec_put.specs.Bytes.{overlay, head_bytes, pars_bytes}

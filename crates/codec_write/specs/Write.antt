@@ -1,7 +1,7 @@
 -- What the writer promises.
 -- Assumes nothing.
 use Rattle.std.specs.Prelude.{◌≡◌, ℕ, cond, not, List, length, ltb, eqb}
-use Rattle.laws.specs.Choice.{◌orElse◌, ◌if◌}
+use Rattle.laws.specs.Choice.{◌or_else◌, ◌if◌}
 use Rattle.codec_read.specs.Verdict.{verdict}
 use Rattle.codec_put.specs.Bytes.{overlay}
 use Rattle.codec_write.specs.Encode.{encode, pars_in, whole}

@@ -1,4 +1,6 @@
 // Writes M2UA messages from a lent list of tags and values.
+#![tactic(auto)]
+
 ghost use Rattle.std.specs.Prelude.{◌≡◌, ◌+◌, ◌≤◌, ◌<◌, length};
 ghost use Rattle.codec_parameter.specs.Table.{table, has_class, row_in};
 ghost use Rattle.codec_parameter.specs.Inner.Slot.{info_of};

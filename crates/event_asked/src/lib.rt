@@ -1,5 +1,7 @@
 // What an event asks of the gateway, its message read, and whether it is refused: for the events and for
 // reach alike.
+#![tactic(auto)]
+
 ghost use Rattle.std.specs.Prelude.{◌≡◌, true, ◌||◌, ◌<◌, ◌≤◌, eqb};
 ghost use Rattle.state_tables.specs.Sound.{ascends};
 ghost use Rattle.rules_event.specs.Event.{lending};

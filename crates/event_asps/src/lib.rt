@@ -1,4 +1,6 @@
 // What happens as an ASP comes up, goes down or is lost, and as a recovery time is over.
+#![tactic(auto)]
+
 ghost use Rattle.std.specs.Prelude.{◌≡◌, cond, not, ◌&&◌, [], ◌∷◌, ◌<◌, eqb};
 ghost use Rattle.laws.specs.Columns.{tabulate};
 ghost use Rattle.rules_action.specs.Words.{action};

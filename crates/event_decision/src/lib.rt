@@ -1,4 +1,6 @@
 // Makes the struct `Decision`, one function for each shape of effect.
+#![tactic(auto)]
+
 ghost use Rattle.std.specs.Prelude.{◌≡◌, [], ◌∷◌, ◌<◌};
 ghost use Rattle.rules_action.specs.Words.{action, link_side, to_all};
 ghost use Rattle.rules_event.specs.Effect.{send, set_link, change_in, take_in};

@@ -1,4 +1,6 @@
 // What the events of links do: class 6 messages of an ASP, link up, link down, messages of the link side.
+#![tactic(auto)]
+
 ghost use Rattle.std.specs.Prelude.{◌≡◌, true, cond, [], ◌∷◌, ◌+◌, ◌<◌, ◌≤◌, eqb};
 ghost use Rattle.rules_action.specs.Words.{action, link_side, to_all};
 ghost use Rattle.laws.specs.Columns.{tabulate};

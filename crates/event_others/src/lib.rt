@@ -1,5 +1,7 @@
 // What a message of an ASP is, and what those do that are not of the ASP itself: Beat, Beat Ack, class 6, and
 // any other.
+#![tactic(auto)]
+
 ghost use Rattle.std.specs.Prelude.{◌≡◌, ◌<◌};
 ghost use Rattle.rules_event.specs.Link.{class_six_on};
 ghost use Rattle.rules_event.specs.Rules.{is_error, from_asp};

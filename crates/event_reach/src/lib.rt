@@ -1,4 +1,6 @@
 // The ASes that an event may look into and change (Rule 9.1), as a flag for each.
+#![tactic(auto)]
+
 ghost use Rattle.std.specs.Prelude.{◌≡◌, ◌&&◌, ◌<◌, eqb, ltb};
 ghost use Rattle.laws.specs.Columns.{flag_at, number_at, tabulate};
 ghost use Rattle.codec_wire.specs.Walk.{walk};

@@ -1,4 +1,6 @@
 // Every event: what is asked is refused, or decided and done.
+#![tactic(auto)]
+
 ghost use Rattle.std.specs.Prelude.{◌≡◌, cond, ◌+◌, ◌*◌, ◌<◌, ◌≤◌, eqb, length, take, drop};
 ghost use Rattle.laws.specs.Columns.{number_at};
 ghost use Rattle.codec_put.specs.Bytes.{overlay};

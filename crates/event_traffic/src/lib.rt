@@ -1,4 +1,6 @@
 // What Active and Inactive do.
+#![tactic(auto)]
+
 ghost use Rattle.std.specs.Prelude.{◌≡◌, cond, not, ◌&&◌, ◌||◌, [], ◌∷◌, ◌<◌, eqb};
 ghost use Rattle.laws.specs.Below.{any_below};
 ghost use Rattle.laws.specs.Columns.{flag_at, number_at};

@@ -1,5 +1,7 @@
 // The columns of the units held (Rule 5.21), changed in place: what ASes that wait no longer leave of them,
 // and one unit more.
+#![tactic(auto)]
+
 ghost use Rattle.std.specs.Prelude.{◌≡◌, cond, ◌&&◌, ◌/◌, ◌<◌, eqb, set};
 ghost use Rattle.laws.specs.Columns.{flag_at};
 ghost use Rattle.rules_servers.specs.Changed.{cleared};

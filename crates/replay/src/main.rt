@@ -1,4 +1,6 @@
 // Reads scripts from standard input and writes the answers.
+#![tactic(auto)]
+
 ghost use Rattle.std.specs.Prelude.{◌≡◌, ◌≤◌};
 ghost use Rattle.replay.specs.Inner.Sound.{Sound};
 

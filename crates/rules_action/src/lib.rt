@@ -1,4 +1,6 @@
 // Actions and how they are written, four words to an action (Rule 8.1).
+#![tactic(auto)]
+
 ghost use Rattle.std.specs.Prelude.{◌≡◌, ◌+◌, ◌*◌, ◌≤◌, length};
 ghost use Rattle.laws.specs.Below.{when};
 ghost use Rattle.rules_action.specs.Words.{to_all};

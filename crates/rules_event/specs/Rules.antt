@@ -1,7 +1,7 @@
 -- What each event does (Rules 7.1 to 7.26), and which are refused (Rules 6.3 to 6.6).
 -- Assumes nothing.
 use Rattle.std.specs.Prelude.{ℕ, ◌+◌, ◌*◌, Bool, true, false, cond, not, ◌&&◌, ◌||◌, List, [], ◌∷◌, ◌++◌, length, get_or, ltb, leb, eqb}
-use Rattle.laws.specs.Choice.{◌orElse◌, ◌if◌}
+use Rattle.laws.specs.Choice.{◌or_else◌, ◌if◌}
 use Rattle.laws.specs.Columns.{tabulate}
 use Rattle.codec_wire.specs.Walk.{walk}
 use Rattle.codec_read.specs.Verdict.{verdict}

@@ -1,4 +1,6 @@
 // What an event does, as definitions (specs/), with the structs that the code passes.
+#![tactic(auto)]
+
 use rules_action::Action;
 use rules_server::{Arrival, Change};
 use state_tables::Gateway;

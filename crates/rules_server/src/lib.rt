@@ -1,5 +1,7 @@
 // The record of one AS (Rule 5.3), cut out of the gateway's columns: what an event does to it, and the
 // Notifies that follow.
+#![tactic(auto)]
+
 ghost use Rattle.std.specs.Prelude.{◌≡◌, true, ◌+◌, ◌*◌, ◌<◌, ◌≤◌, length};
 ghost use Rattle.laws.specs.Below.{one};
 ghost use Rattle.laws.specs.Columns.{number_at};

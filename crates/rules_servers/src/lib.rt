@@ -1,5 +1,7 @@
 // An event in the ASes that it names: one loop that cuts each record out, changes it, writes the units and
 // Notifies that go out, and puts it back.
+#![tactic(auto)]
+
 ghost use Rattle.std.specs.Prelude.{◌≡◌, true, ◌+◌, ◌*◌, ◌<◌, ◌≤◌, length};
 ghost use Rattle.laws.specs.Columns.{number_at};
 ghost use Rattle.rules_server.specs.Record.{record_from};

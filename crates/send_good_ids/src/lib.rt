@@ -1,5 +1,7 @@
 // The good identifiers that a message names (Rule 8.11), as flags by the places of their links: so each
 // stands there once, and they ascend. And a message that names these alone.
+#![tactic(auto)]
+
 ghost use Rattle.std.specs.Prelude.{◌≡◌, true, false, cond, ◌&&◌, ◌+◌, ◌<◌, ◌≤◌, eqb, leb, ltb, length};
 ghost use Rattle.laws.specs.Columns.{number_at};
 ghost use Rattle.codec_wire.specs.Walk.{walk};

@@ -2,7 +2,7 @@
 -- actions (Rule 8.20).
 -- Assumes nothing.
 use Rattle.std.specs.Prelude.{◌≡◌, ℕ, ◌*◌, cond, not, List, [], ◌++◌, length, drop, ltb, eqb}
-use Rattle.laws.specs.Choice.{◌orElse◌, ◌if◌}
+use Rattle.laws.specs.Choice.{◌or_else◌, ◌if◌}
 use Rattle.codec_put.specs.Bytes.{overlay}
 use Rattle.rules_action.specs.declared.Action.{Action}
 use Rattle.rules_action.specs.Words.{words_of}

@@ -2,7 +2,7 @@
 -- buffer (Rule 8.16).
 -- Assumes nothing.
 use Rattle.std.specs.Prelude.{◌≡◌, ℕ, ◌+◌, Bool, cond, not, ◌||◌, List, [], length, ltb, leb, eqb}
-use Rattle.laws.specs.Choice.{◌orElse◌, ◌if◌}
+use Rattle.laws.specs.Choice.{◌or_else◌, ◌if◌}
 use Rattle.laws.specs.Below.{concat_below, first_below}
 use Rattle.laws.specs.Columns.{tabulate}
 use Rattle.codec_put.specs.Bytes.{overlay}

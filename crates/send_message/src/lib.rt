@@ -1,4 +1,6 @@
 // The messages that actions to ASPs go out as (Rules 8.8 to 8.16).
+#![tactic(auto)]
+
 ghost use Rattle.std.specs.Prelude.{◌≡◌, cond, [], ◌++◌, ◌+◌, ◌≤◌, length};
 ghost use Rattle.laws.specs.Below.{when, count_below, one};
 ghost use Rattle.codec_wire.specs.Walk.{walk};

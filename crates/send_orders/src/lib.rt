@@ -1,5 +1,7 @@
 // Actions as bytes (Rules 8.15, 8.16 and 8.18): the event is run, and the message of the action at a place
 // written, or those of as many actions as go in.
+#![tactic(auto)]
+
 ghost use Rattle.std.specs.Prelude.{◌≡◌, true, cond, ◌+◌, ◌-◌, ◌<◌, ◌≤◌, leb, length, take, drop};
 ghost use Rattle.codec_wire.specs.Walk.{walk};
 ghost use Rattle.codec_put.specs.Bytes.{overlay};

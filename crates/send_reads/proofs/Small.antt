@@ -6,7 +6,7 @@ use mathlib.Core.List.{List, [], ◌∷◌, ◌++◌}
 use Prim.Native.Nat.{ℕ, zero, suc, ◌≤◌}
 use lib.Dec.{leb}
 use borrow.Author.Tests.{leb-true}
-use Rattle.laws.specs.Choice.{◌orElse◌}
+use Rattle.laws.specs.Choice.{◌or_else◌}
 use Rattle.codec_wire.specs.Walk.{Par, walk, walk_f, on_step, step_at}
 use Rattle.codec_wire.specs.declared.Step.{Step}
 use Rattle.codec_wire.specs.declared.Step.TheVariants.{Param, End, Fault}

@@ -1,5 +1,7 @@
 // An action of an event, and what its message is made of: itself, the message that it passes on, or the unit
 // that it sends (Rules 8.14 and 8.18).
+#![tactic(auto)]
+
 ghost use Rattle.std.specs.Prelude.{◌≡◌, true, cond, ◌+◌, ◌-◌, ◌*◌, ◌<◌, ◌≤◌, length, take, drop};
 ghost use Rattle.laws.specs.Below.{when};
 ghost use Rattle.laws.specs.Columns.{number_at};

@@ -1,4 +1,6 @@
 // Reads one message from standard input and prints what it says, or the verdict that refuses it.
+#![tactic(auto)]
+
 use libc::{STDIN_FILENO, STDOUT_FILENO};
 use tool_report::Style;
 use tool_text::{first, put_byte};

@@ -1,5 +1,7 @@
 // Links by identifier, for a message that names many: a table made once, so that an identifier is found, or
 // known to be none, without a search.
+#![tactic(auto)]
+
 ghost use Rattle.std.specs.Prelude.{◌≡◌, true, cond, ◌+◌, ◌-◌, ◌<◌, ◌≤◌, eqb};
 ghost use Rattle.state_tables.specs.Sound.{ascends};
 ghost use Rattle.state_index.specs.Inner.Spots.{slot_of, Spots, Finds};

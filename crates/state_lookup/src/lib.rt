@@ -1,4 +1,6 @@
 // What the events ask of the gateway's state.
+#![tactic(auto)]
+
 ghost use Rattle.std.specs.Prelude.{◌≡◌, true, ◌&&◌, cond, ◌+◌, ◌*◌, ◌/◌, ◌%◌, ◌<◌, ◌≤◌, ltb};
 ghost use Rattle.laws.specs.Below.{any_below, count_below, one};
 ghost use Rattle.laws.specs.Columns.{is_set, number_at, tabulate};

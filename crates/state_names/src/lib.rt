@@ -1,5 +1,7 @@
 // The identifiers that the value of a parameter names (Rule 2.11): the first that is refused, and the ASes
 // that own the known ones.
+#![tactic(auto)]
+
 ghost use Rattle.std.specs.Prelude.{◌≡◌, true, false, cond, ◌||◌, ◌<◌, ◌≤◌};
 ghost use Rattle.laws.specs.Columns.{flag_at, tabulate};
 ghost use Rattle.state_tables.specs.Sound.{ascends};

@@ -1,4 +1,6 @@
 // The plan file: a fresh state of the gateway (Rule 4.6), or a refusal (Rules 4.4, 4.5, 4.7).
+#![tactic(auto)]
+
 ghost use Rattle.std.specs.Prelude.{◌≡◌, true, ◌&&◌, ◌+◌, ◌*◌, ◌<◌, ◌≤◌, leb, ltb, eqb, length};
 ghost use Rattle.laws.specs.Below.{all_below};
 ghost use Rattle.laws.specs.Columns.{number_at};

@@ -1,5 +1,7 @@
 // The links inside a range of identifiers (Rule 2.11): from the first to the last of them, by the ascending
 // order, so that a range costs a search and not a walk.
+#![tactic(auto)]
+
 ghost use Rattle.std.specs.Prelude.{◌≡◌, true, cond, ◌&&◌, ◌||◌, ◌+◌, ◌-◌, ◌<◌, ◌≤◌, eqb, leb, ltb};
 ghost use Rattle.laws.specs.Below.{any_below};
 ghost use Rattle.laws.specs.Columns.{flag_at, number_at, tabulate};

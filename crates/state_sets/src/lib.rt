@@ -1,5 +1,7 @@
 // A set of ASes, as the bits of a number: AS a is bit a. (A table of flags would be kept in sixteen
 // registers, element by element.)
+#![tactic(auto)]
+
 ghost use Rattle.std.specs.Prelude.{◌≡◌, true, cond, not, ◌||◌, ◌&&◌, set, ◌<◌};
 ghost use Rattle.laws.specs.Below.{all_below, any_below};
 ghost use Rattle.laws.specs.Columns.{flag_at, tabulate};

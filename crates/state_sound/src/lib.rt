@@ -1,4 +1,6 @@
 // Whether the whole state is sound (Rule 5.4): its tables, and the units that it holds (Rule 5.21).
+#![tactic(auto)]
+
 ghost use Rattle.std.specs.Prelude.{◌≡◌, true, cond, ℕ, ◌+◌, ◌<◌, ◌≤◌, length};
 ghost use Rattle.laws.specs.Columns.{number_at};
 ghost use Rattle.state_tables.specs.Sound.{all_under, is_sound, sized, all_units};

@@ -1,5 +1,7 @@
 // The gateway's state (Rule 5.1), by value, as columns; and whether it is sound (Rule 5.4), asked group of
 // columns by group of columns.
+#![tactic(auto)]
+
 ghost use Rattle.std.specs.Prelude.{◌≡◌, true, cond, ◌&&◌, ◌<◌, ◌≤◌, length, ltb};
 ghost use Rattle.laws.specs.Below.{one, all_below};
 ghost use Rattle.state_tables.specs.Inner.Limits.{places, limit, limits_to, flags_of, Flags};

@@ -1,4 +1,6 @@
 // The event lines of a script: what they say, and the text of what an event answers.
+#![tactic(auto)]
+
 ghost use Rattle.std.specs.Prelude.{◌≡◌, ◌+◌, ◌*◌, ◌≤◌, ◌<◌, length};
 
 use tool_text::{

@@ -1,5 +1,7 @@
 // The event that a script's line says: run by the entry of its kind, what it reaches, and its actions as
 // bytes.
+#![tactic(auto)]
+
 ghost use Rattle.std.specs.Prelude.{◌≡◌};
 ghost use Rattle.event_asked.specs.Happened.{event, event_of};
 ghost use Rattle.send_message.specs.Send.{Sends};

@@ -1,4 +1,6 @@
 // Messages as text: the line of `read` and the lines of `show`.
+#![tactic(auto)]
+
 ghost use Rattle.std.specs.Prelude.{◌≡◌, ◌+◌, ◌*◌, ◌≤◌, length};
 ghost use Rattle.codec_wire.specs.Walk.{walk, part_of};
 ghost use Rattle.tool_text.specs.Put.{Put};

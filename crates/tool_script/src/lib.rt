@@ -3,6 +3,8 @@
 //
 // A further command is a case of `Command`, a line of `command_of`, an arm of `answer` and a
 // function of its own.
+#![tactic(auto)]
+
 ghost use Rattle.std.specs.Prelude.{◌≡◌, [], ◌∷◌, ◌+◌, ◌≤◌, length};
 ghost use Rattle.tool_text.specs.Put.{Put};
 ghost use Rattle.tool_report.specs.Shown.{read_text, shown_text};

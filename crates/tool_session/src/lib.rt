@@ -2,6 +2,8 @@
 //
 // A further command is a case of `Command`, a line of `command_of`, an arm of `answer` and a
 // function of its own, which writes at most 18,000 characters and hands the next state back.
+#![tactic(auto)]
+
 ghost use Rattle.std.specs.Prelude.{◌≡◌, ◌+◌, ◌*◌, ◌≤◌, ◌<◌, length};
 
 use abi_node::Next;

@@ -1,4 +1,6 @@
 // The gateway's state as a line of text.
+#![tactic(auto)]
+
 ghost use Rattle.std.specs.Prelude.{◌≡◌, ◌+◌, ◌≤◌, ◌<◌, length};
 
 use state_tables::{Gateway, Units, wide};

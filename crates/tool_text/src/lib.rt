@@ -1,4 +1,6 @@
 // Text in and out: the words of a line, decimal numbers and lower-case hex.
+#![tactic(auto)]
+
 ghost use Rattle.std.specs.Prelude.{◌≡◌, ◌+◌, ◌*◌, ◌-◌, ◌%◌, ◌≤◌, ◌<◌, length, take, [], ◌∷◌, ◌++◌};
 ghost use Rattle.tool_text.specs.Put.{Put};
 ghost use Rattle.tool_text.specs.Digits.{glyph, digits, places, decimal, pair, hex};

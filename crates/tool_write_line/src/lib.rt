@@ -1,4 +1,6 @@
 // The script's command `write`: a list of tags and values from text, and the message as text.
+#![tactic(auto)]
+
 ghost use Rattle.std.specs.Prelude.{◌≡◌, ◌+◌, ◌*◌, ◌≤◌, ◌<◌, length};
 ghost use Rattle.tool_write_line.specs.Inner.Items.{Room, Within};
 

@@ -4,7 +4,7 @@ use Rattle.std.specs.Prelude.{ℕ, ◌+◌, ◌*◌, ◌<◌, ◌≤◌, ◌≡�
 use Rattle.std.proofs.Common.{sym, ap, ◌∙◌, arith, lt-ltb, ne_eqb}
 use Rattle.std.proofs.Math.Bool.{cond}
 use mathlib.Core.List.{List, [], ◌∷◌, ◌++◌}
-use Rattle.laws.specs.Choice.{◌orElse◌, ◌if◌}
+use Rattle.laws.specs.Choice.{◌or_else◌, ◌if◌}
 use Rattle.codec_put.specs.Bytes.{overlay, head_bytes}
 use Rattle.codec_put.proofs.Sets.{over_append, take_over}
 use Rattle.codec_read.specs.Verdict.{verdict}

@@ -6,7 +6,7 @@ use mathlib.Core.Path.{◌≡◌, refl, sym, ap, ◌∙◌}
 use mathlib.Core.List.{[]}
 use lib.ListN.{length}
 use Rattle.codec_read.specs.Inner.Seen.{outcome_at}
-use Rattle.laws.specs.Choice.{◌orElse◌}
+use Rattle.laws.specs.Choice.{◌or_else◌}
 use Rattle.codec_read.specs.Verdict.{in_turn, is_none}
 use Rattle.codec_read.proofs.Seen.{seen_none}
 use Rattle.codec_read.proofs.Turns.{head_none, Walked, ends, refused, passes}

@@ -2,7 +2,7 @@
 -- Assumes nothing.
 use Rattle.std.specs.Prelude.{◌≡◌, ℕ, ◌+◌, ◌≤◌, Bool, cond, not, List, [], ◌∷◌, length, ltb, eqb}
 use Rattle.codec_wire.specs.Walk.{Par}
-use Rattle.laws.specs.Choice.{◌orElse◌}
+use Rattle.laws.specs.Choice.{◌or_else◌}
 use Rattle.codec_read.specs.Verdict.{most, check7, check8}
 use Rattle.codec_put.specs.Bytes.{overlay, par_size}
 use Rattle.codec_write.specs.Encode.{encode, total}

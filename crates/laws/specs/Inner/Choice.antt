@@ -4,7 +4,7 @@ use Rattle.std.specs.Prelude.{◌≡◌, refl, Bool, true, false, cond, ℕ, zer
 use Rattle.std.specs.Bool.{beq}
 use Rattle.std.proofs.lemmas.Bool.{false≢true, lt-leb}
 use Rattle.std.proofs.Common.{le-ltb, lt-ltb, le-leb, eq-eqb, ne_eqb}
-use Rattle.laws.specs.Choice.{◌orElse◌}
+use Rattle.laws.specs.Choice.{◌or_else◌}
 
 module _ {X : Type 0} (x y : X) {z : X} where
   pub at_yes : (b : Bool) → b ≡ true → z ≡ x → z ≡ cond b x y

@@ -2,7 +2,7 @@
 -- Assumes nothing.
 use Rattle.std.specs.Prelude.{ℕ, ◌≤◌, ◌≡◌, refl, Bool, true, false, not, eqb, ltb}
 use Rattle.std.proofs.Common.{arith, eqb-true, ltb-false}
-use Rattle.laws.specs.Choice.{◌orElse◌, ◌if◌}
+use Rattle.laws.specs.Choice.{◌or_else◌, ◌if◌}
 use Rattle.rules_event.specs.Event.{Lent}
 use Rattle.rules_event.specs.Effect.{hold_bytes}
 use Rattle.rules_event.specs.Rules.{refusal_of, least_room}

@@ -9,7 +9,7 @@ use Rattle.std.proofs.Math.Decide.{dec_lt}
 use Rattle.std.proofs.Math.Dec.{eqb}
 use Rattle.std.proofs.Math.ListN.{length, drop}
 use borrow.Author.Tests.{ne_eqb, eqb-true, lt-leb, lt-ltb, le-ltb}
-use Rattle.laws.specs.Choice.{◌orElse◌, ◌if◌}
+use Rattle.laws.specs.Choice.{◌or_else◌, ◌if◌}
 use Rattle.laws.specs.Below.{concat_below}
 use Rattle.laws.specs.Columns.{tabulate}
 use Rattle.codec_put.specs.Bytes.{overlay}

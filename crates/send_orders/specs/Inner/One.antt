@@ -7,7 +7,7 @@ use Rattle.std.proofs.Math.Bool.{true, false}
 use Rattle.std.proofs.Math.Decide.{dec_lt}
 use Rattle.std.proofs.Math.ListN.{length}
 use borrow.Author.Tests.{eq-eqb, ne_eqb, lt-leb, le-leb, le-ltb, ltb-true}
-use Rattle.laws.specs.Choice.{◌orElse◌, ◌if◌}
+use Rattle.laws.specs.Choice.{◌or_else◌, ◌if◌}
 use Rattle.laws.specs.Below.{concat_below, first_below}
 use Rattle.laws.specs.Inner.Below.{concat_more, concat_none, first_none, first_more, first_at}
 use Rattle.laws.specs.Inner.Every.{and_left}

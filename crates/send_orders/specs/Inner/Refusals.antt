@@ -2,7 +2,7 @@
 -- Assumes nothing.
 use Rattle.std.specs.Prelude.{ℕ, ◌≡◌, Bool, true, false, not, eqb}
 use Rattle.std.proofs.Common.{eq-eqb}
-use Rattle.laws.specs.Choice.{◌orElse◌, ◌if◌}
+use Rattle.laws.specs.Choice.{◌or_else◌, ◌if◌}
 use Rattle.rules_event.specs.Event.{lending}
 use Rattle.rules_event.specs.Effect.{hold_bytes}
 use Rattle.rules_event.specs.Rules.{refusal_of, least_room}
