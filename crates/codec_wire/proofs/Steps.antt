@@ -3,15 +3,12 @@
 use mathlib.Core.Path.{◌≡◌, refl, sym, ap, ◌∙◌}
 use mathlib.Core.Bool.{Bool, true, false, cond}
 use mathlib.Core.List.{List, [], ◌∷◌}
-use Prim.Native.Nat.{ℕ, zero, suc, ◌+◌, ◌-◌, ◌*◌, ◌/◌, ◌<◌, ◌≤◌}
+use Prim.Native.Nat.{ℕ, zero, suc, ◌+◌, ◌-◌, ◌<◌, ◌≤◌}
 use native.Mathlib.Omega.{arith}
-use lib.ListN.{length, get_or, take, drop}
+use lib.ListN.{length, take, drop}
 use lib.Dec.{ltb, leb}
-use borrow.Author.Tests.{le-ltb, lt-ltb, le-leb, lt-leb, ltb-false, ltb-true, leb-true, leb-false}
+use borrow.Author.Tests.{le-ltb, lt-ltb, le-leb, lt-leb, ltb-false, leb-true, leb-false}
 use Rattle.codec_wire.specs.Number.{be}
-use mathlib.Core.Logic.{◌⊎◌, ⊎_elim}
-use denote.Enum.Declared.{tag_of, declared}
-use Rattle.codec_wire.specs.contracts.Step.{enum}
 use Rattle.codec_wire.specs.Walk.{step_at, padded, Walk, walk_f, walk, on_step, step_code}
 use Rattle.codec_wire.specs.declared.Step.{Step}
 use Rattle.codec_wire.specs.declared.Step.TheVariants.{Param, End, Fault}
@@ -87,8 +84,8 @@ walk_step s at End e = ap (λ (w : Step). on_step s at w (walk_f (length s - at)
 walk_step s at Fault e = ap (λ (w : Step). on_step s at w (walk_f (length s - at) s)) e
 
 -- a reading that is no parameter ends the walk
-pub walk_stop : (s : List ℕ) (at : ℕ) (w : Step) → step_at s at ≡ w → (tag_of (declared enum) w ≡ 1) ⊎ (tag_of (declared enum) w ≡ 2) → walk s at ≡ record { pars = []; code = step_code w }
-walk_stop s at (Param t l n) e k = absurd (⊎_elim (λ q. omega arith) (λ q. omega arith) k)
+pub walk_stop : (s : List ℕ) (at : ℕ) (w : Step) → step_at s at ≡ w → ((t l n : ℕ) → w ≡ Param t l n → ⊥) → walk s at ≡ record { pars = []; code = step_code w }
+walk_stop s at (Param t l n) e k = absurd (k t l n refl)
 walk_stop s at End e k = walk_step s at End e
 walk_stop s at Fault e k = walk_step s at Fault e
 
@@ -96,5 +93,5 @@ walk_stop s at Fault e k = walk_step s at Fault e
 pub pars_next : (s : List ℕ) (at t l n : ℕ) → step_at s at ≡ Param t l n → (walk s at).pars ≡ record { tag = t; body = take (at + l - (at + 4)) (drop (at + 4) s) } ∷ (walk s n).pars
 pars_next s at t l n e = let em : at + l - (at + 4) ≡ l - 4 = omega arith in rw em (ap (λ (w : Walk). w.pars) (walk_step s at (Param t l n) e))
 
-pub pars_stop : (s : List ℕ) (at : ℕ) (w : Step) → step_at s at ≡ w → (tag_of (declared enum) w ≡ 1) ⊎ (tag_of (declared enum) w ≡ 2) → (walk s at).pars ≡ []
+pub pars_stop : (s : List ℕ) (at : ℕ) (w : Step) → step_at s at ≡ w → ((t l n : ℕ) → w ≡ Param t l n → ⊥) → (walk s at).pars ≡ []
 pars_stop s at w e k = ap (λ (x : Walk). x.pars) (walk_stop s at w e k)
