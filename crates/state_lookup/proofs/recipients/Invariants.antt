@@ -1,12 +1,9 @@
 use Prim.Native.Nat.{◌≤◌, ◌<◌, ◌-◌, ◌%◌}
-use mathlib.Core.Path.{◌≡◌, refl, sym}
-use native.Mathlib.Omega.{arith}
-use borrow.Author.Rules.{rules}
+use mathlib.Core.Path.{◌≡◌}
 use Rattle.state_lookup.specs.Servers.{receives, before}
-use Rattle.state_lookup.specs.Inner.Servers.{before_none, before_more, before_small}
 use Rattle.state_tables.specs.Sound.{active_in}
 use Rattle.laws.specs.Columns.{flag_at}
-use Rattle.laws.specs.Inner.Columns.{Half, half_none, half_more, half_end}
+use Rattle.laws.specs.Inner.Columns.{Half}
 use Rattle.state_lookup.proofs.recipients.Given as goal
 
 abbrev pub invariant-loop-q : goal.invariant-loop-q
