@@ -17,7 +17,7 @@ ghost use Rattle.rules_server.specs.Units.{units_out, let_out};
 use rules_action::Action;
 
 // Its members that are up, those active in it, whether it waits, its traffic mode.
-#[derive(Drop)]
+#[derive(Clone, Copy)]
 pub struct AsRecord {
     pub ups: [bool; 16],
     pub acts: [bool; 16],
