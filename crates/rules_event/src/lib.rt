@@ -18,7 +18,7 @@ pub struct Outcome {
 // is a field here, and is read from the state in one place (`link_at`, `asp_at`).
 
 // What is kept of a link: a row of the links' columns.
-#[derive(Drop)]
+#[derive(Clone, Copy)]
 pub struct Link {
     pub id: u32,
     pub owner: u8,
@@ -28,7 +28,7 @@ pub struct Link {
 
 // What the events of a link ask of the AS that owns it: its traffic mode, whether it waits, how many units it
 // holds.
-#[derive(Drop)]
+#[derive(Clone, Copy)]
 pub struct Owner {
     pub mode: u8,
     pub waiting: u8,
@@ -36,7 +36,7 @@ pub struct Owner {
 }
 
 // What is kept of an ASP itself: a row of the ASPs' columns.
-#[derive(Drop)]
+#[derive(Clone, Copy)]
 pub struct Asp {
     pub id: u32,
     pub up: u8,
@@ -44,7 +44,7 @@ pub struct Asp {
 }
 
 // What class 6 asks of its sender: whether it is up, a member of the link's owner, and active there.
-#[derive(Drop)]
+#[derive(Clone, Copy)]
 pub struct Sender {
     pub up: u8,
     pub member: u8,
