@@ -1,13 +1,9 @@
 use Prim.Native.Nat.{ℕ, ◌≤◌, ◌<◌, ◌-◌}
-use mathlib.Core.Path.{◌≡◌, sym, ◌∙◌}
+use mathlib.Core.Path.{◌≡◌}
 use mathlib.Core.Bool.{true}
-use borrow.Author.Rules.{rules}
-use borrow.Author.Tests.{not-true, not-false}
 use Rattle.laws.specs.Below.{all_below}
-use Rattle.laws.specs.Inner.Below.{all_none, all_next, all_not, at_end}
 use Rattle.laws.specs.Columns.{number_at}
-use Rattle.state_sound.specs.Inner.Sound.{Seen, row_at, rows_fit}
-use Rattle.state_sound.proofs.Units.{row_seen_lem}
+use Rattle.state_sound.specs.Inner.Sound.{Seen, row_at}
 use Rattle.state_sound.proofs.rows_ok.Given as goal
 
 abbrev pub invariant-loop-a : goal.invariant-loop-a

@@ -1,12 +1,8 @@
-use Prim.Native.Nat.{◌≤◌, ◌<◌, ◌-◌}
+use Prim.Native.Nat.{◌≤◌, ◌-◌}
 use mathlib.Core.Path.{◌≡◌}
 use mathlib.Core.Bool.{true}
-use native.Mathlib.Omega.{arith}
-use borrow.Author.Rules.{rules}
 use Rattle.state_tables.specs.Sound.{all_under}
-use Rattle.state_tables.specs.Inner.Column.{under_at}
 use Rattle.state_sound.specs.Inner.Sound.{Seen}
-use Rattle.state_sound.proofs.Units.{seen_none, seen_more}
 use Rattle.state_sound.proofs.seen_of.Given as goal
 
 abbrev pub invariant-loop-l : goal.invariant-loop-l

@@ -1,6 +1,5 @@
 use mathlib.Core.Path.{sym, ◌∙◌}
 use borrow.Author.Rules.{rules}
-use borrow.Author.Tests.{not-true, not-false}
 use Rattle.state_sound.proofs.Units.{tables_links, tables_fail, units_said}
 use Rattle.state_sound.proofs.sound_of.Goals as goal
 

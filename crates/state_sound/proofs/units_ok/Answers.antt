@@ -1,6 +1,5 @@
 use mathlib.Core.Path.{sym, ◌∙◌}
 use borrow.Author.Rules.{rules}
-use borrow.Author.Tests.{not-true, not-false}
 use Rattle.state_sound.proofs.Units.{counts_fail, empties_fail, rows_said, units_none, counts_few}
 use Rattle.state_sound.proofs.units_ok.Goals as goal
 
