@@ -1,9 +1,7 @@
--- `event_traffic::does_nothing`: case by case. Assumes nothing.
 use mathlib.Core.Path.{◌≡◌, refl}
 use mathlib.Core.Bool.{Bool, true, false, not, ◌&&◌, ◌||◌}
 use Rattle.event_traffic.specs.Inner.Aims.{nothing_done}
-use Rattle.event_traffic.proofs.does_nothing.Statement.{statement}
-use Rattle.event_traffic.proofs.does_nothing.Tie as tie
+use Rattle.event_traffic.proofs.does_nothing.Goals as goal
 
 or_none : (u : Bool) → (u || false) ≡ u
 or_none true = refl
@@ -14,8 +12,5 @@ unfolding nothing_done
 each true found whole none = or_none (found && (whole || none))
 each false found whole none = refl
 
-returns : tie.Need-returns
+pub returns : goal.returns
 returns c = each c.args.ids c.args.found c.args.whole c.args.none
-
-pub does-nothing-spec : {M : Type 1} → statement M
-does-nothing-spec = tie.close (tie.spec returns)

@@ -13,8 +13,7 @@ use Rattle.rules_event.specs.Records.{asp_at}
 use Rattle.rules_event.specs.declared.Asp.{Asp}
 use Rattle.state_tables.specs.declared.Gateway.{Gateway}
 use Rattle.event_traffic.specs.Inner.Aims.{nothing_done, takes_whole, aims_on, aimed_fails, aimed_acts}
-use Rattle.event_traffic.proofs.traffic_work.Statement.{statement}
-use Rattle.event_traffic.proofs.traffic_work.Tie as tie
+use Rattle.event_traffic.proofs.traffic_work.Goals as goal
 
 -- the fields that the code asks are those of every state that has p so
 up_on : (g : Gateway) (p : ℕ) {s : Asp} → asp_at g p ≡ s → s.up ≡ 1 → eqb (number_at g.up p) 1 ≡ true
@@ -23,27 +22,21 @@ up_on g p e h = eq-eqb _ 1 (ap (λ (x : Asp). x.up) e ∙ h)
 whole-on : (ids found none : Bool) (g : Gateway) (p : ℕ) {s : Asp} → asp_at g p ≡ s → nothing_done ids found (takes_whole g p) none ≡ nothing_done ids found (eqb s.wholelists 1) none
 whole-on ids found none g p e = ap (λ (x : Asp). nothing_done ids found (eqb x.wholelists 1) none) e
 
-returns : tie.Need-returns
-unfolding traffic_effect
-returns c = record { on = λ g h. rw (ap (λ (x : Asp). x.up) h.asp_is) (search decisions depth 9) }
-
 -- the test, in the rule's words
 tested : (c : tie.After-does-nothing) → c.does-nothing.result ≡ nothing_done (eqb c.before.before.before.before.before.before.before.before.before.args.r.ids 1) c.before.before.before.before.aim.result.refused.found (eqb c.before.before.before.before.before.before.before.before.before.args.a.wholelists 1) (not (some (flags_of c.before.before.before.before.aim.result.set)))
 unfolding some
 tested c = rw c.before.is_none.ensures at c.does-nothing.ensures
 
-returns-2 : tie.Need-returns-2
-returns-2 c =
-    let k = c.before.before.before.before.before.before in
-    record { on = λ g h. aimed_fails g _ _ _ _ _ (up_on g _ h.asp_is k.before.before.if1.false) (aims_on g _ _ h k.aim.ensures) (whole-on _ _ _ g _ h.asp_is ∙ sym (tested c.before.before) ∙ c.before.if2.true) c.fails.ensures }
+pub returns-then-a-ne1 : goal.returns-then-a-ne1
+unfolding traffic_effect
+returns-then-a-ne1 c = record { on = λ g h. rw (ap (λ (x : Asp). x.up) h.asp_is) (search decisions depth 9) }
 
-returns-3 : tie.Need-returns-3
-returns-3 c =
-    let k = c.before.before.before.before.before.before in
-    record { on = λ g h. aimed_acts g _ _ _ _ _ (up_on g _ h.asp_is k.before.before.if1.false) (aims_on g _ _ h k.aim.ensures) (whole-on _ _ _ g _ h.asp_is ∙ sym (tested c.before.before) ∙ c.before.if2.false) (c.act-in.ensures.on g h.mode_is) }
+pub returns-then-does_nothing : goal.returns-then-does_nothing
+returns-then-does_nothing c =
+    let k = c in
+    record { on = λ g h. aimed_fails g _ _ _ _ _ (up_on g _ h.asp_is k.before.before.if1.false) (aims_on g _ _ h k.aim.ensures) (whole-on _ _ _ g _ h.asp_is ∙ sym (tested c) ∙ c.if-does_nothing.true) c.fails.ensures }
 
-pub traffic-work-spec : {M : Type 1} → statement M
-traffic-work-spec =
-    tie.close
-    (tie.spec (λ c κs. search rules) returns (λ c κs. search rules) (λ c κs. search rules) (λ c κs. search rules)
-    (λ c κs. search rules) returns-2 (λ c κs. search rules) returns-3)
+pub returns : goal.returns
+returns c =
+    let k = c in
+    record { on = λ g h. aimed_acts g _ _ _ _ _ (up_on g _ h.asp_is k.before.before.if1.false) (aims_on g _ _ h k.aim.ensures) (whole-on _ _ _ g _ h.asp_is ∙ sym (tested c) ∙ c.if-does_nothing.false) (c.act_in.ensures.on g h.mode_is) }
