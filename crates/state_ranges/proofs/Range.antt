@@ -16,7 +16,7 @@ use Rattle.state_ranges.specs.Named.{owner_by_id, is_owned_by, nothing, first_in
 use Rattle.state_ranges.specs.Inner.Laws.{Table, owner_small}
 use Rattle.state_ranges.specs.Inner.Refused.{refused_by, good_known, all_good}
 use Rattle.state_ranges.specs.Inner.Owners.{owns_from, or_right}
-use Rattle.state_ranges.specs.Inner.Places.{whole_known, index_between, owned_between}
+use Rattle.state_ranges.proofs.Places.{whole_known, index_between, owned_between}
 
 or_none : (u : Bool) → u ≡ (u || false)
 or_none true = refl
