@@ -1,4 +1,3 @@
-use borrow.Author.Rules.{rules}
 use Rattle.rules_event.specs.Asp.{active_effect, inactive_effect}
 use Rattle.event_decision.specs.Inner.Decides.{act, by_yes, by_no}
 use Rattle.event_traffic.specs.Inner.Aims.{mode_is_other}

@@ -1,19 +1,13 @@
-use Rattle.event_traffic.specs.Inner.Aims.{Aims, aims_all, aims_named}
-use Rattle.event_traffic.specs.Inner.Named.{refused_mine, Refusing, refusing_none, refusing_more, refusing_end, Owners, owners_none, owners_more, good_end}
+use Rattle.event_traffic.specs.Inner.Named.{Refusing, Owners}
 use Rattle.rules_servers.specs.Changed.{column_of}
 use Rattle.state_ranges.specs.Named.{is_refused, is_owned_by}
-use Rattle.state_ranges.specs.Inner.Names.{names_both}
-use Rattle.state_ranges.specs.Inner.Owners.{Looked, looked_none}
-use Rattle.state_sets.specs.Inner.Bits.{flags_of, flags_zero}
+use Rattle.state_ranges.specs.Inner.Owners.{Looked}
+use Rattle.state_sets.specs.Inner.Bits.{flags_of}
 use Rattle.state_ranges.specs.Inner.Laws.{Table}
-use Rattle.codec_wire.proofs.Steps.{step_next, Next, pars_next, pars_stop}
-use Rattle.codec_wire.specs.declared.Step.TheVariants.{Param}
-use Rattle.codec_wire.specs.Walk.{step_at, walk}
+use Rattle.codec_wire.specs.Walk.{walk}
 use lib.ListN.{length}
-use mathlib.Core.Path.{◌≡◌, refl, sym, ap, ◌∙◌}
-use Prim.Native.Nat.{◌<◌, ◌-◌}
-use native.Mathlib.Omega.{arith}
-use borrow.Author.Rules.{rules}
+use mathlib.Core.Path.{◌≡◌}
+use Prim.Native.Nat.{◌-◌}
 use Rattle.event_traffic.proofs.aim.Given as goal
 
 abbrev pub invariant-loop-tag : goal.invariant-loop-tag

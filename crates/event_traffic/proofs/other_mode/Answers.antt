@@ -1,4 +1,3 @@
-use borrow.Author.Rules.{rules}
 use Rattle.event_traffic.specs.Inner.Aims.{other_mode_in}
 use Rattle.event_traffic.proofs.other_mode.Goals as goal
 

@@ -1,12 +1,9 @@
 use Rattle.laws.specs.Columns.{flag_at, number_at}
 use Rattle.laws.specs.Below.{any_below}
-use Rattle.laws.specs.Inner.Below.{any_more, any_none, at_end}
 use lib.Dec.{eqb}
 use mathlib.Core.Bool.{not, ◌&&◌}
-use mathlib.Core.Path.{◌≡◌, sym}
+use mathlib.Core.Path.{◌≡◌}
 use Prim.Native.Nat.{◌≤◌, ◌-◌}
-use native.Mathlib.Omega.{arith}
-use borrow.Author.Rules.{rules}
 use Rattle.state_sets.specs.Inner.Bits.{flags_of}
 use Rattle.event_traffic.proofs.some_other.Given as goal
 

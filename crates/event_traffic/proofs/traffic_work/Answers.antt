@@ -1,9 +1,10 @@
-use mathlib.Core.Path.{◌≡◌, refl, sym, ap, ◌∙◌}
+use mathlib.Core.Path.{◌≡◌, sym, ap, ◌∙◌}
+use mathlib.Core.List.{List}
 use mathlib.Core.Bool.{Bool, true, not}
 use Prim.Native.Nat.{ℕ}
 use lib.Dec.{eqb}
-use Rattle.laws.specs.Columns.{number_at}
-use borrow.Author.Rules.{rules}
+use Rattle.laws.specs.Below.{any_below}
+use Rattle.laws.specs.Columns.{flag_at, number_at}
 use borrow.Author.Tests.{eq-eqb}
 use Rattle.rules_server.specs.Record.{some}
 use Rattle.state_sets.specs.Inner.Bits.{flags_of}
@@ -23,9 +24,9 @@ whole-on : (ids found none : Bool) (g : Gateway) (p : ℕ) {s : Asp} → asp_at 
 whole-on ids found none g p e = ap (λ (x : Asp). nothing_done ids found (eqb x.wholelists 1) none) e
 
 -- the test, in the rule's words
-tested : (c : tie.After-does-nothing) → c.does-nothing.result ≡ nothing_done (eqb c.before.before.before.before.before.before.before.before.before.args.r.ids 1) c.before.before.before.before.aim.result.refused.found (eqb c.before.before.before.before.before.before.before.before.before.args.a.wholelists 1) (not (some (flags_of c.before.before.before.before.aim.result.set)))
+tested : {b n : Bool} (ids found whole : Bool) (set : List Bool) → b ≡ nothing_done ids found whole n → n ≡ not (any_below (flag_at set) 16) → b ≡ nothing_done ids found whole (not (some set))
 unfolding some
-tested c = rw c.before.is_none.ensures at c.does-nothing.ensures
+tested ids found whole set e f = rw f at e
 
 pub returns-then-a-ne1 : goal.returns-then-a-ne1
 unfolding traffic_effect
@@ -33,10 +34,8 @@ returns-then-a-ne1 c = record { on = λ g h. rw (ap (λ (x : Asp). x.up) h.asp_i
 
 pub returns-then-does_nothing : goal.returns-then-does_nothing
 returns-then-does_nothing c =
-    let k = c in
-    record { on = λ g h. aimed_fails g _ _ _ _ _ (up_on g _ h.asp_is k.before.before.if1.false) (aims_on g _ _ h k.aim.ensures) (whole-on _ _ _ g _ h.asp_is ∙ sym (tested c) ∙ c.if-does_nothing.true) c.fails.ensures }
+    record { on = λ g h. aimed_fails g _ _ _ _ _ (up_on g _ h.asp_is c.if-a-ne1.false) (aims_on g _ _ h c.aim-e.ensures) (whole-on _ _ _ g _ h.asp_is ∙ sym (tested _ _ _ (flags_of c.aim-e.result.set) c.does_nothing.ensures c.is_none.ensures) ∙ c.if-does_nothing.true) c.fails.ensures }
 
 pub returns : goal.returns
 returns c =
-    let k = c in
-    record { on = λ g h. aimed_acts g _ _ _ _ _ (up_on g _ h.asp_is k.before.before.if1.false) (aims_on g _ _ h k.aim.ensures) (whole-on _ _ _ g _ h.asp_is ∙ sym (tested c) ∙ c.if-does_nothing.false) (c.act_in.ensures.on g h.mode_is) }
+    record { on = λ g h. aimed_acts g _ _ _ _ _ (up_on g _ h.asp_is c.if-a-ne1.false) (aims_on g _ _ h c.aim-e.ensures) (whole-on _ _ _ g _ h.asp_is ∙ sym (tested _ _ _ (flags_of c.aim-e.result.set) c.does_nothing.ensures c.is_none.ensures) ∙ c.if-does_nothing.false) (c.act_in.ensures.on g h.mode_is) }
