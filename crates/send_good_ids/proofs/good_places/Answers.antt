@@ -1,0 +1,30 @@
+use Prim.Native.Nat.{◌≤◌, ◌-◌, ◌<◌}
+use mathlib.Core.Path.{◌∙◌}
+use native.Mathlib.Omega.{arith}
+use borrow.Author.Rules.{rules}
+use Rattle.state_sets.specs.Inner.Bits.{flags_of}
+use Rattle.state_ranges.specs.Inner.Laws.{Table, owner_small}
+use Rattle.send_good_ids.specs.Inner.Marks.{Swept, swept_none, swept_more, GoodsTo, goods_none, goods_more, goods_end}
+use Rattle.send_good_ids.proofs.good_places.Goals as goal
+
+-- the place lies within the tables
+inside : (c : tie.In-loop invariant-loop decreases-loop) → c.before.loop.l < 128
+inside c = omega (arith, c.before.loop.invariant.3.few, c.loop-test.true)
+
+pub marks_of-until-requires : goal.marks_of-until-requires
+marks_of-until-requires c = let t = c.requires in (t.few, t.order)
+
+pub loop-l-init : goal.loop-l-init
+loop-l-init c = (goods_none _ _ _, swept_none _, search rules, c.requires)
+
+pub has-requires : goal.has-requires
+has-requires c = rw c.wide-in-loop-l.ensures (owner_small _ _ _ c.loop-l.invariant.3 _ c.loop-l-test.true)
+
+pub loop-l-preserved : goal.loop-l-preserved
+loop-l-preserved c =
+    let i = c.loop-l.invariant in
+    let s = swept_more i.1 c.later-past.ensures in
+    (goods_more _ _ i.0 (inside k) s (c.bit.ensures.0 ∙ rw (c.wide.ensures, c.has.ensures, c.wide-in-loop-l.ensures)), s, search rules, i.3)
+
+pub returns : goal.returns
+returns c = goods_end c.loop-l.invariant.0 c.loop-l-test.false c.marks_of-until.ensures

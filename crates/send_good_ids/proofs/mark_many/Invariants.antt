@@ -1,0 +1,11 @@
+use Prim.Native.Nat.{◌-◌}
+use mathlib.Core.Bool.{false}
+use Rattle.state_index.specs.Inner.Spots.{Spots}
+use Rattle.send_good_ids.specs.Inner.Marks.{Passed}
+use Rattle.send_good_ids.proofs.mark_many.Given as goal
+
+abbrev pub invariant-loop-i : goal.invariant-loop-i
+invariant-loop-i l = Passed false l.initial.until l.value l.iid l.links l.n l.i l.until × Spots l.table l.iid l.links
+
+abbrev pub decreases-loop-i : goal.decreases-loop-i
+decreases-loop-i l = l.n - l.i

@@ -1,0 +1,18 @@
+use Prim.Native.Nat.{◌≤◌, ◌-◌}
+use mathlib.Core.Path.{◌≡◌, sym, ◌∙◌}
+use mathlib.Core.Bool.{true}
+use native.Mathlib.Omega.{arith}
+use borrow.Author.Rules.{rules}
+use lib.ListN.{length}
+use Rattle.codec_wire.proofs.Steps.{step_next, Next, pars_next, pars_stop}
+use Rattle.codec_wire.specs.declared.Step.TheVariants.{Param}
+use Rattle.codec_wire.specs.Walk.{step_at, walk}
+use Rattle.state_tables.specs.Sound.{ascends}
+use Rattle.send_good_ids.specs.Inner.Marks.{Rest, rest_all, rest_next, rest_end}
+use Rattle.send_good_ids.proofs.marks_of.Given as goal
+
+abbrev pub invariant-loop-tag : goal.invariant-loop-tag
+invariant-loop-tag l = Rest l.until l.iid l.links (walk l.s l.at).pars (walk l.s 8).pars × (l.links ≤ 128) × (ascends l.iid l.links ≡ true)
+
+abbrev pub decreases-loop-tag : goal.decreases-loop-tag
+decreases-loop-tag l = length l.s - l.at

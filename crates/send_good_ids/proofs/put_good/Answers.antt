@@ -1,0 +1,13 @@
+use borrow.Author.Rules.{rules}
+use Rattle.send_good_ids.specs.Inner.Made.{made_fits, good_message}
+use Rattle.send_good_ids.proofs.put_good.Goals as goal
+
+pub put_rest-requires : goal.put_rest-requires
+put_rest-requires c =
+    let p = c.requires in
+    (p.1.few, made_fits _ c.good_places-column.result _ _ _ c.good_form-form.ensures p.1.few p.2 c.args.out.now p.0)
+
+pub returns : goal.returns
+returns c =
+    let p = c.requires in
+    good_message _ c.good_places-column.result _ _ _ c.good_form-form.ensures c.good_places-column.ensures p.1.few p.2 c.args.out.now p.0 c.put_rest.ensures
