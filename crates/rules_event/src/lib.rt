@@ -53,7 +53,7 @@ pub struct Sender {
 
 // What an accepted event does, as the code decides it before it does it (the definitions' Effect, by
 // `effect_in`). The large fields come first: so the compiler moves them whole.
-#[derive(Drop)]
+#[derive(Clone, Copy)]
 pub struct Decision {
     // the ASes of the change, or the ASPs that get `first`
     pub who: [bool; 16],
