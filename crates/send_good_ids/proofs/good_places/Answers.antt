@@ -1,15 +1,9 @@
-use Prim.Native.Nat.{◌≤◌, ◌-◌, ◌<◌}
 use mathlib.Core.Path.{◌∙◌}
 use native.Mathlib.Omega.{arith}
 use borrow.Author.Rules.{rules}
-use Rattle.state_sets.specs.Inner.Bits.{flags_of}
-use Rattle.state_ranges.specs.Inner.Laws.{Table, owner_small}
-use Rattle.send_good_ids.specs.Inner.Marks.{Swept, swept_none, swept_more, GoodsTo, goods_none, goods_more, goods_end}
+use Rattle.state_ranges.specs.Inner.Laws.{owner_small}
+use Rattle.send_good_ids.specs.Inner.Marks.{swept_none, swept_more, goods_none, goods_more, goods_end}
 use Rattle.send_good_ids.proofs.good_places.Goals as goal
-
--- the place lies within the tables
-inside : (c : tie.In-loop invariant-loop decreases-loop) → c.before.loop.l < 128
-inside c = omega (arith, c.before.loop.invariant.3.few, c.loop-test.true)
 
 pub marks_of-until-requires : goal.marks_of-until-requires
 marks_of-until-requires c = let t = c.requires in (t.few, t.order)
@@ -24,7 +18,7 @@ pub loop-l-preserved : goal.loop-l-preserved
 loop-l-preserved c =
     let i = c.loop-l.invariant in
     let s = swept_more i.1 c.later-past.ensures in
-    (goods_more _ _ i.0 (inside k) s (c.bit.ensures.0 ∙ rw (c.wide.ensures, c.has.ensures, c.wide-in-loop-l.ensures)), s, search rules, i.3)
+    (goods_more _ _ i.0 (omega (arith, i.3.few, c.loop-l-test.true)) s (c.bit.ensures.0 ∙ rw (c.wide.ensures, c.has.ensures, c.wide-in-loop-l.ensures)), s, search rules, i.3)
 
 pub returns : goal.returns
 returns c = goods_end c.loop-l.invariant.0 c.loop-l-test.false c.marks_of-until.ensures

@@ -1,10 +1,7 @@
-use Prim.Native.Nat.{◌≤◌, ◌-◌, ◌<◌}
-use mathlib.Core.Path.{◌∙◌}
-use native.Mathlib.Omega.{arith}
-use borrow.Author.Rules.{rules}
+use Prim.Native.Nat.{◌≤◌, ◌-◌}
 use Rattle.state_sets.specs.Inner.Bits.{flags_of}
-use Rattle.state_ranges.specs.Inner.Laws.{Table, owner_small}
-use Rattle.send_good_ids.specs.Inner.Marks.{Swept, swept_none, swept_more, GoodsTo, goods_none, goods_more, goods_end}
+use Rattle.state_ranges.specs.Inner.Laws.{Table}
+use Rattle.send_good_ids.specs.Inner.Marks.{Swept, GoodsTo}
 use Rattle.send_good_ids.proofs.good_places.Given as goal
 
 abbrev pub invariant-loop-l : goal.invariant-loop-l

@@ -1,14 +1,10 @@
 use Prim.Native.Nat.{◌≤◌, ◌-◌}
-use mathlib.Core.Path.{◌≡◌, sym, ◌∙◌}
+use mathlib.Core.Path.{◌≡◌}
 use mathlib.Core.Bool.{true}
-use native.Mathlib.Omega.{arith}
-use borrow.Author.Rules.{rules}
 use lib.ListN.{length}
-use Rattle.codec_wire.proofs.Steps.{step_next, Next, pars_next, pars_stop}
-use Rattle.codec_wire.specs.declared.Step.TheVariants.{Param}
-use Rattle.codec_wire.specs.Walk.{step_at, walk}
+use Rattle.codec_wire.specs.Walk.{walk}
 use Rattle.state_tables.specs.Sound.{ascends}
-use Rattle.send_good_ids.specs.Inner.Marks.{Rest, rest_all, rest_next, rest_end}
+use Rattle.send_good_ids.specs.Inner.Marks.{Rest}
 use Rattle.send_good_ids.proofs.marks_of.Given as goal
 
 abbrev pub invariant-loop-tag : goal.invariant-loop-tag

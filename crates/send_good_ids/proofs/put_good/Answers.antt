@@ -1,4 +1,3 @@
-use borrow.Author.Rules.{rules}
 use Rattle.send_good_ids.specs.Inner.Made.{made_fits, good_message}
 use Rattle.send_good_ids.proofs.put_good.Goals as goal
 
