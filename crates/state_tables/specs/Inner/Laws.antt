@@ -4,7 +4,6 @@ use Rattle.std.specs.Prelude.{ℕ, zero, suc, ◌+◌, ◌-◌, ◌<◌, ◌≤�
 use Rattle.std.proofs.Common.{sym, arith, ltb-true, leb-true, eqb-true}
 use Rattle.std.proofs.Math.Bool.{true, false}
 use Rattle.laws.specs.Inner.Below.{all_at}
-use Rattle.laws.specs.Below.{all_below}
 use Rattle.laws.specs.Columns.{number_at, is_set}
 use Rattle.laws.specs.Inner.Every.{and_left, and_right}
 use Rattle.state_tables.specs.declared.Gateway.{Gateway}

@@ -179,7 +179,7 @@ module _ (up member active mode waiting : List ℕ) (asps ases : ℕ) where
   unfolding sound_as sound_row member_at active_at mode_at waiting_at override_at
   beyond_sound a b h =
       and_both _ _ (all_of _ 16 (λ q c. rw (h.nobody q c, h.idle q c)))
-      (rw (le-ltb a ases b, h.no-wait, eqb-true (number_at mode a) 0 h.no_mode))
+      (rw (le-ltb a ases b, h.no_wait, eqb-true (number_at mode a) 0 h.no_mode))
 
   beyond_blank : (a : ℕ) → ases ≤ a → sound a ≡ true → Blank a
   unfolding sound_row member_at active_at mode_at waiting_at
@@ -232,7 +232,7 @@ module _ (up member active mode waiting : List ℕ) (asps ases : ℕ) where
     marks_sound a b h (yes z) = rw (k.new a z) (and_right (row a) _ h)
     marks_sound a b h (no z) =
         let n = beyond_blank a (omega arith) h in
-        rw (le-ltb a ases (omega arith), n.no-wait, eqb-true (number_at mode a) 0 n.no_mode)
+        rw (le-ltb a ases (omega arith), n.no_wait, eqb-true (number_at mode a) 0 n.no_mode)
 
     -- the rows of the plan's ASes, zeros beyond them, and the marks of all places are all ASes
     pub rows_whole : ases ≤ 16 → all_below row ases ≡ true

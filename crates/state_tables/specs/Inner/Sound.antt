@@ -4,7 +4,6 @@ use Rattle.std.specs.Prelude.{◌≡◌, refl, ℕ, Bool, true, ◌&&◌, List, 
 use Rattle.std.proofs.Common.{eqb-true}
 use Rattle.laws.specs.Inner.Every.{and_left, and_right}
 use Rattle.laws.specs.Below.{all_below}
-use Rattle.state_tables.specs.declared.Gateway.{Gateway}
 use Rattle.state_tables.specs.declared.Units.{Units}
 use Rattle.state_tables.specs.State.{gateway_of}
 use Rattle.state_tables.specs.Sound.{sound_tables, no_units, sized, units_ok, blank_at, all_units, sound_units}
