@@ -185,7 +185,7 @@ fn run_with(
     if size == 34944 {
         return tool_event_run::happen(kind, e.index, msg, hold, words, g);
     }
-    let mut other = io::large_buffer();
+    let mut other = [0u8; 65536];
     tool_event_run::happen(kind, e.index, msg, &mut other[..size], words, g)
 }
 
@@ -274,7 +274,7 @@ fn write_with<'a>(
     if size == 34944 {
         return tool_event_run::written_by(kind, e.index, msg, hold, place, out, g);
     }
-    let other = io::large_buffer();
+    let other = [0u8; 65536];
     tool_event_run::written_by(kind, e.index, msg, first(&other, size), place, out, g)
 }
 
