@@ -1,6 +1,6 @@
 -- The lengths and values of parameters (Rules 2.15 and 2.16).
 -- Assumes nothing.
-use Rattle.std.specs.Prelude.{ℕ, zero, suc, ◌+◌, ◌-◌, ◌*◌, ◌/◌, ◌%◌, Bool, true, false, cond, not, List, [], ◌∷◌, length, ltb, leb, eqb}
+use Rattle.std.specs.Prelude.{ℕ, ◌+◌, ◌-◌, ◌*◌, ◌/◌, ◌%◌, true, false, cond, not, List, length, ltb, leb, eqb}
 use Rattle.laws.specs.Below.{all_below}
 use Rattle.codec_wire.specs.Number.{be}
 use Rattle.codec_parameter.specs.Table.{Usage, forbidden, optional, mandatory, repeated}

@@ -2,17 +2,17 @@
 -- Assumes nothing.
 use mathlib.Core.Path.{◌≡◌, refl, sym, ap, ◌∙◌}
 use mathlib.Core.List.{List, [], ◌∷◌, ◌++◌, append_assoc, append-nil}
-use Prim.Native.Nat.{ℕ, zero, suc, ◌+◌, ◌-◌, ◌*◌, ◌/◌, ◌%◌, ◌<◌, ◌≤◌}
+use Prim.Native.Nat.{ℕ, ◌+◌, ◌-◌, ◌/◌, ◌%◌}
 use native.Mathlib.Nat.{div-add-mod', add_assoc}
 use native.Mathlib.Omega.{arith}
-use lib.ListN.{length, get_or, take, drop, replicate, length-append, length-replicate}
+use lib.ListN.{length, get_or, take, drop, length-append, length-replicate}
 use lib.Seq.{get_or-append-add, get_or-append_seam, drop-append-add, take_at}
 use Rattle.codec_wire.specs.Number.{be}
-use Rattle.codec_wire.specs.Walk.{step_at, padded, Walk, Par, walk}
+use Rattle.codec_wire.specs.Walk.{step_at, padded, Par, walk}
 use Rattle.codec_wire.specs.declared.Step.TheVariants.{Param, End}
-use Rattle.codec_wire.proofs.Number.{be_two, be_four}
+use Rattle.codec_wire.proofs.Number.{be_two}
 use Rattle.codec_wire.proofs.Steps.{step_param, step_end, walk_step}
-use Rattle.codec_put.specs.Bytes.{bytes16, bytes32, par_size, par_bytes, pars_bytes}
+use Rattle.codec_put.specs.Bytes.{par_size, par_bytes, pars_bytes}
 
 -- a number that was written is read again
 pub be_two_in : (xs : List ℕ) (k n : ℕ) → get_or xs k 0 ≡ n / 256 → get_or xs (k + 1) 0 ≡ n % 256 → be 2 xs k ≡ n

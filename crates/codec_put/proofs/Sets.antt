@@ -2,12 +2,12 @@
 -- Assumes nothing.
 use mathlib.Core.Path.{◌≡◌, refl, sym, ap, ◌∙◌}
 use mathlib.Core.List.{List, [], ◌∷◌, ◌++◌}
-use Prim.Native.Nat.{ℕ, zero, suc, ◌+◌, ◌<◌, ◌≤◌}
+use Prim.Native.Nat.{ℕ, suc, ◌+◌, ◌<◌, ◌≤◌}
 use native.Mathlib.Nat.{add-zero, zero-add}
 use native.Mathlib.Omega.{arith}
 use native.Mathlib.Numerals.{add-one}
-use lib.ListN.{length, get_or, take, drop, set, length-append}
-use lib.Seq.{sets, take-suc, length-take-le, length-sets, sets-eq, take_at, get_or-take}
+use lib.ListN.{length, get_or, take, drop, set}
+use lib.Seq.{take-suc, length-take-le, length-sets, sets-eq, take_at, get_or-take}
 use Rattle.codec_put.specs.Bytes.{overlay}
 
 pub over_append : (l xs ys : List ℕ) (i : ℕ) → overlay (overlay l i xs) (i + length xs) ys ≡ overlay l i (xs ++ ys)

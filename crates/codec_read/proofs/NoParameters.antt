@@ -3,8 +3,8 @@
 -- Assumes nothing.
 use mathlib.Core.Path.{◌≡◌, refl, sym, ap, ◌∙◌}
 use mathlib.Core.Bool.{Bool, beq, true, false, cond, not, ◌&&◌, ◌||◌, false≢true}
-use mathlib.Core.List.{List, [], ◌∷◌}
-use Prim.Native.Nat.{ℕ, ◌≤◌, ◌<◌, ◌%◌}
+use mathlib.Core.List.{List, []}
+use Prim.Native.Nat.{ℕ, ◌≤◌, ◌<◌}
 use native.Mathlib.Omega.{arith}
 use lib.ListN.{length, get_or}
 use lib.Dec.{ltb, leb, eqb}
@@ -17,7 +17,7 @@ use Rattle.codec_wire.specs.Number.{be}
 use Rattle.codec_wire.specs.Walk.{Walk, walk}
 use Rattle.codec_wire.proofs.Steps.{step_end, walk_step}
 use Rattle.codec_wire.specs.declared.Step.TheVariants.{End}
-use Rattle.codec_parameter.specs.Table.{table, has_class, among, row_in, entries_in, is_mandatory}
+use Rattle.codec_parameter.specs.Table.{table, has_class, among, row_in, entries_in}
 use Rattle.codec_parameter.specs.Inner.Slot.{info_of}
 use Rattle.codec_parameter.specs.declared.RowInfo.{RowInfo}
 use Rattle.laws.specs.Choice.{◌or_else◌}

@@ -2,8 +2,8 @@
 -- Assumes nothing.
 use mathlib.Core.Path.{◌≡◌, refl, sym, ap, ◌∙◌}
 use mathlib.Core.Bool.{Bool, true, false, cond, not, ◌||◌}
-use mathlib.Core.List.{List, [], ◌∷◌}
-use Prim.Native.Nat.{ℕ, zero, suc, ◌%◌, ◌<◌, ◌≤◌}
+use mathlib.Core.List.{List}
+use Prim.Native.Nat.{ℕ, suc, ◌%◌, ◌<◌, ◌≤◌}
 use lib.ListN.{length, get_or}
 use lib.Dec.{ltb, eqb}
 use native.Mathlib.Omega.{arith}
@@ -11,7 +11,7 @@ use borrow.Author.Tests.{ne_eqb, eqb-false}
 use Rattle.codec_wire.specs.Number.{be}
 use Rattle.codec_parameter.specs.Table.{table, has_class, row_in}
 use Rattle.laws.specs.Choice.{◌or_else◌, ◌if◌}
-use Rattle.codec_read.specs.Verdict.{most, check2, check3, check4, check5, last_checks, verdict}
+use Rattle.codec_read.specs.Verdict.{most, check3, check4, check5, last_checks, verdict}
 use Rattle.codec_read.specs.Meaning.{unreadable, outcome, reading_of}
 use Rattle.codec_read.specs.Inner.Seen.{row_code, row_outcome, kind_outcome, checks_outcome}
 use Rattle.codec_read.specs.declared.Reading.{Reading}

@@ -2,20 +2,16 @@
 -- Assumes nothing.
 use mathlib.Core.Path.{◌≡◌, refl, sym, ap, ◌∙◌}
 use mathlib.Core.Bool.{Bool, true, false, cond, ◌||◌}
-use mathlib.Core.List.{List, [], ◌∷◌}
-use mathlib.Core.Logic.{◌⊎◌}
+use mathlib.Core.List.{List, []}
 use Prim.Native.Nat.{ℕ, zero, suc, ◌+◌, ◌-◌, ◌<◌, ◌≤◌}
 use native.Mathlib.Omega.{arith}
 use lib.ListN.{length, take, drop, length-take, length-drop}
 use lib.Dec.{eqb}
-use denote.Enum.Declared.{tag_of, declared}
-use Rattle.codec_wire.specs.contracts.Step.{enum}
-use Rattle.codec_wire.specs.Walk.{Par, padded, walk, step_at}
+use Rattle.codec_wire.specs.Walk.{padded, walk, step_at}
 use Rattle.codec_wire.specs.declared.Step.{Step}
 use Rattle.codec_wire.specs.declared.Step.TheVariants.{Param, End, Fault}
 use Rattle.codec_wire.proofs.Steps.{step_next, Next, pars_next, pars_stop, walk_step}
 use Rattle.codec_parameter.specs.Table.{key}
-use Rattle.codec_read.specs.declared.DataAt.{DataAt}
 use Rattle.codec_read.specs.declared.Found.{Found}
 use Rattle.codec_read.specs.Meaning.{body_in, found_in, place_of, data_of, data_at, LiesAt, DataLies}
 
@@ -45,7 +41,7 @@ module _ (s : List ℕ) (at t l n : ℕ) (e : step_at s at ≡ Param t l n) wher
   found_lies = let k = step_next s at t l n e in record { bytes = refl; within = omega arith }
 
 -- the parameters end there
-pub found_stop : (s : List ℕ) (at x y : ℕ) (w : Step) → step_at s at ≡ w → (tag_of (declared enum) w ≡ 1) ⊎ (tag_of (declared enum) w ≡ 2)
+pub found_stop : (s : List ℕ) (at x y : ℕ) (w : Step) → step_at s at ≡ w → ((t' l n : ℕ) → w ≡ Param t' l n → ⊥)
     → found_in x y at (walk s at).pars ≡ record { found = 0; tag = 0; start = 0; length = 0 }
 unfolding found_in
 found_stop s at x y w e h = ap (found_in x y at) (pars_stop s at w e h)

@@ -1,6 +1,6 @@
 -- The starred samples of the reader, computed from the rules.
 -- Assumes nothing.
-use mathlib.Core.Path.{◌≡◌, refl}
+use mathlib.Core.Path.{refl}
 use Rattle.laws.specs.Below.{all_below}
 use Rattle.codec_wire.specs.Number.{be}
 use Rattle.codec_wire.specs.Walk.{step_at, walk_f, walk}

@@ -3,16 +3,16 @@
 use mathlib.Core.Path.{◌≡◌, refl, sym, ap, ◌∙◌}
 use mathlib.Core.Bool.{Bool, true, false, cond, not, ◌&&◌, ◌||◌, false≢true}
 use mathlib.Core.List.{List, [], ◌∷◌, ◌++◌}
-use Prim.Native.Nat.{ℕ, zero, suc, ◌<◌}
+use Prim.Native.Nat.{ℕ, ◌<◌}
 use native.Mathlib.Omega.{arith}
 use native.Mathlib.Decide.{ℕ_discrete}
 use lib.ListN.{length, get_or, set, replicate, get_or-replicate}
 use lib.Seq.{get_or-set_same, get_or-set_other}
 use lib.Dec.{eqb}
-use borrow.Author.Tests.{eq-eqb, ne_eqb, eqb-true, eqb-false}
+use borrow.Author.Tests.{eq-eqb, ne_eqb}
 use Rattle.laws.specs.Inner.Below.{both_true}
 use Rattle.codec_wire.specs.Walk.{Par}
-use Rattle.codec_parameter.specs.Table.{Usage, forbidden, Entry, table, entries_in, key, usage}
+use Rattle.codec_parameter.specs.Table.{Usage, forbidden, Entry, table, entries_in, usage}
 use Rattle.codec_parameter.specs.Inner.Slot.{slot, tag_at, info_of, packed_use, all_met}
 use Rattle.codec_parameter.specs.Check.{allowed_code, par_code}
 use Rattle.codec_parameter.specs.Value.{body_code}
@@ -20,10 +20,8 @@ use Rattle.codec_parameter.proofs.Slots.{same_slot, tag_one, usage_slot, all_nea
 use Rattle.laws.specs.Choice.{◌or_else◌}
 use Rattle.codec_parameter.proofs.Info.{musts_row, use_bits_lem}
 use Rattle.codec_read.specs.Verdict.{has, number, head, all_there, exactly, sequence_code, check8}
-use Rattle.laws.specs.Below.{one}
-use Rattle.codec_read.specs.Meaning.{meaning, unreadable}
+use Rattle.codec_read.specs.Meaning.{meaning}
 use Rattle.codec_read.specs.Inner.Seen.{there, word, Seen, sequence_at, end_at, meaning_at}
-use Rattle.codec_read.specs.declared.Reading.{Reading}
 
 -- ---- by tag and by slot
 

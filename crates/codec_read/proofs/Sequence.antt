@@ -16,7 +16,6 @@ use Rattle.codec_read.specs.Verdict.{has, head, number, is_retrieval_request, is
 use Rattle.laws.specs.Below.{one}
 use Rattle.codec_read.specs.Meaning.{unreadable, meaning, outcome, reading_of, body_in, SequenceNumber, SequenceNumbers}
 use Rattle.codec_read.specs.Inner.GoodUnit.{tag_in}
-use Rattle.codec_read.specs.declared.Reading.{Reading}
 use Rattle.codec_read.proofs.Seen.{number_none}
 use Rattle.codec_read.proofs.GoodUnit.{Passed, first_passed}
 use Rattle.codec_read.proofs.Accepted.{or_none, accepted}

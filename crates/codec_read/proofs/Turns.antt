@@ -4,14 +4,10 @@
 use mathlib.Core.Path.{◌≡◌, refl, sym, ap, ◌∙◌}
 use mathlib.Core.Bool.{Bool, true, false, cond}
 use mathlib.Core.List.{List, [], ◌∷◌, ◌++◌, append_assoc, append-nil}
-use mathlib.Core.Logic.{◌⊎◌}
 use Prim.Native.Nat.{ℕ, zero, suc, ◌+◌, ◌-◌, ◌<◌}
 use native.Mathlib.Omega.{arith}
 use lib.ListN.{length, get_or, set, take, drop, replicate}
-use lib.Dec.{eqb}
 use borrow.Author.Tests.{ne_eqb}
-use denote.Enum.Declared.{tag_of, declared}
-use Rattle.codec_wire.specs.contracts.Step.{enum}
 use Rattle.codec_wire.specs.Walk.{Par, Walk, walk, step_at, step_code}
 use Rattle.codec_wire.specs.declared.Step.{Step}
 use Rattle.codec_wire.specs.declared.Step.TheVariants.{Param}
@@ -150,7 +146,7 @@ module _ {s : List ℕ} {met : List Bool} {words : List ℕ} {first : Bool} {at 
         record { here = turn_passes h.here hi ei t k r v (walk s n).pars (pars_next s at t l n w) ek hk er lm lw x ex z; same_code = next_code }
 
   -- the walk ends here
-  pub ends : (w : Step) → step_at s at ≡ w → (tag_of (declared enum) w ≡ 1) ⊎ (tag_of (declared enum) w ≡ 2) → (f : ℕ) → f ≡ step_code w
+  pub ends : (w : Step) → step_at s at ≡ w → ((t' l n : ℕ) → w ≡ Param t' l n → ⊥) → (f : ℕ) → f ≡ step_code w
       → outcome_at (f or_else end_at info.musts (get_or s 2 0) (get_or s 3 0) met words) (get_or s 2 0) (get_or s 3 0) met words ≡ outcome (last_checks s) s
   unfolding outcome_at outcome last_checks pars_code
   ends w e k f ef =

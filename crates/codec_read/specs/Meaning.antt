@@ -1,6 +1,6 @@
 -- What reading a message gives (Rule 2.18), and where its protocol data lies (Rule 1.7).
 -- Assumes nothing.
-use Rattle.std.specs.Prelude.{◌≡◌, ℕ, ◌+◌, ◌≤◌, Bool, true, false, cond, ◌||◌, List, [], ◌∷◌, length, get_or, take, drop, eqb}
+use Rattle.std.specs.Prelude.{◌≡◌, ℕ, ◌+◌, ◌≤◌, true, cond, ◌||◌, List, [], ◌∷◌, length, get_or, take, drop, eqb}
 use Rattle.laws.specs.Below.{one}
 use Rattle.codec_wire.specs.Walk.{Par, padded, walk}
 use Rattle.codec_parameter.specs.Table.{key}

@@ -1,10 +1,10 @@
 -- What the reader keeps of the parameters passed: by slot, whether a tag of the slot is there, and the number
 -- of the first. The checks and the meaning, asked of that.
 -- Assumes nothing.
-use Rattle.std.specs.Prelude.{◌≡◌, ℕ, ◌+◌, ◌%◌, ◌<◌, Bool, true, false, cond, not, ◌&&◌, ◌||◌, List, [], ◌∷◌, length, get_or, ltb, leb, eqb}
+use Rattle.std.specs.Prelude.{◌≡◌, ℕ, ◌%◌, ◌<◌, Bool, false, cond, not, ◌&&◌, ◌||◌, List, [], ◌∷◌, length, get_or, ltb, leb, eqb}
 use Rattle.laws.specs.Choice.{◌or_else◌, ◌if◌}
 use Rattle.codec_wire.specs.Number.{be}
-use Rattle.codec_wire.specs.Walk.{Par, padded}
+use Rattle.codec_wire.specs.Walk.{Par}
 use Rattle.codec_parameter.specs.Table.{table, has_class, row_in}
 use Rattle.codec_parameter.specs.Inner.Slot.{slot, all_asked}
 use Rattle.codec_read.specs.Verdict.{head, exactly, get_bsn, get_messages, most, last_checks}
