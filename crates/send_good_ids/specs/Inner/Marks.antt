@@ -4,7 +4,7 @@
 use Rattle.std.specs.Prelude.{◌≡◌, cond, ◌||◌, ◌&&◌, List, [], ◌∷◌, eqb, length, set, replicate}
 use Rattle.std.proofs.Math.Path.{refl, sym}
 use Rattle.std.proofs.Common.{ap, ◌∙◌, arith, get_or-set_same, get_or-set_other}
-use Rattle.std.proofs.Math.Bool.{Bool, true, false, or_false, or_assoc}
+use Rattle.std.proofs.Math.Bool.{Bool, true, false, or-false, or_assoc}
 use Prim.Native.Nat.{ℕ, ◌+◌, ◌-◌, ◌*◌, ◌<◌, ◌≤◌}
 use Rattle.std.proofs.Math.Decide.{dec_lt, ℕ_discrete}
 use Rattle.std.proofs.Math.Dec.{leb, ltb}
@@ -59,7 +59,7 @@ or_left u v e = rw e
 
 -- where nothing more is named
 same_or : (u v : Bool) → v ≡ false → u ≡ (u || v)
-same_or u v e = rw e (sym (or_false u))
+same_or u v e = rw e (sym (or-false u))
 
 -- below the later of two numbers is below one of them
 below_later : (x y j : ℕ) → ltb j (cond (ltb x y) y x) ≡ (ltb j x || ltb j y)
@@ -333,7 +333,7 @@ rest_next {until} {next} {iid} {links} x rest all r a =
 
 pub rest_end : {until iid : List ℕ} {links : ℕ} (all : List Par) → Rest until iid links [] all → Covered until iid links (λ x. names_some (eqb x) all)
 unfolding names_some
-rest_end {until} all r = record { at = λ l b. sym (or_false (covered until l)) ∙ r.at l b }
+rest_end {until} all r = record { at = λ l b. sym (or-false (covered until l)) ∙ r.at l b }
 
 -- ---- the sweep: a number is below where it has come to just where it is below one of the marks passed
 
