@@ -1,14 +1,11 @@
 -- A turn of the loops over the picked parameters of a message.
 -- Assumes nothing.
-use mathlib.Core.Path.{◌≡◌, refl, sym, ap, ◌∙◌}
+use mathlib.Core.Path.{◌≡◌, ap, ◌∙◌}
 use mathlib.Core.Bool.{Bool, true, false}
 use mathlib.Core.List.{List, [], ◌∷◌}
 use Prim.Native.Nat.{ℕ, ◌+◌, ◌-◌}
 use native.Mathlib.Omega.{arith}
 use lib.ListN.{length, take, drop, length-append, length-take, length-drop}
-use mathlib.Core.Logic.{◌⊎◌}
-use denote.Enum.Declared.{tag_of, declared}
-use Rattle.codec_wire.specs.contracts.Step.{enum}
 use Rattle.codec_wire.specs.Walk.{step_at, walk, Par}
 use Rattle.codec_wire.specs.declared.Step.{Step}
 use Rattle.codec_wire.specs.declared.Step.TheVariants.{Param}
@@ -25,10 +22,10 @@ left f s at = only f (walk s at).pars
 abbrev pub left_size : (ℕ → Bool) → List ℕ → ℕ → ℕ
 left_size f s at = length (pars_bytes (left f s at))
 
-pub left_stop : (f : ℕ → Bool) (s : List ℕ) (at : ℕ) (w : Step) → step_at s at ≡ w → (tag_of (declared enum) w ≡ 1) ⊎ (tag_of (declared enum) w ≡ 2) → left f s at ≡ []
+pub left_stop : (f : ℕ → Bool) (s : List ℕ) (at : ℕ) (w : Step) → step_at s at ≡ w → ((t l n : ℕ) → w ≡ Param t l n → ⊥) → left f s at ≡ []
 left_stop f s at w e k = ap (only f) (pars_stop s at w e k) ∙ only_end f
 
-pub size_stop : (f : ℕ → Bool) (s : List ℕ) (at : ℕ) (w : Step) → step_at s at ≡ w → (tag_of (declared enum) w ≡ 1) ⊎ (tag_of (declared enum) w ≡ 2) → left_size f s at ≡ 0
+pub size_stop : (f : ℕ → Bool) (s : List ℕ) (at : ℕ) (w : Step) → step_at s at ≡ w → ((t l n : ℕ) → w ≡ Param t l n → ⊥) → left_size f s at ≡ 0
 unfolding pars_bytes
 size_stop f s at w e k = ap (λ (x : List Par). length (pars_bytes x)) (left_stop f s at w e k)
 

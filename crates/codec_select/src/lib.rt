@@ -10,7 +10,7 @@ ghost use Rattle.codec_select.specs.Inner.Picks.{picks, PutPars};
 use codec_wire::{HEADER, Step};
 
 // Which parameters: by their tags (Rule 2.11).
-#[derive(Drop)]
+#[derive(Clone, Copy)]
 pub enum Which {
     Nothing,
     All,

@@ -1,12 +1,11 @@
 -- Two messages, worked out.
 -- Assumes nothing.
 use mathlib.Core.Path.{◌≡◌, refl}
-use Prim.Native.Nat.{ℕ}
-use mathlib.Core.List.{List, [], ◌∷◌}
+use mathlib.Core.List.{[], ◌∷◌}
 use Rattle.laws.specs.Columns.{tabulate}
 use Rattle.codec_wire.specs.Number.{be}
 use Rattle.codec_wire.specs.Walk.{step_at, walk_f, walk}
-use Rattle.codec_put.specs.Bytes.{par, par_bytes, pars_bytes}
+use Rattle.codec_put.specs.Bytes.{par_bytes, pars_bytes}
 use Rattle.codec_write.specs.Encode.{size_of, encode, pars_in}
 use Rattle.codec_write.specs.RoundTrip.{is_padding, plain}
 

@@ -2,7 +2,7 @@
 -- Assumes nothing.
 use Rattle.std.specs.Prelude.{◌≡◌, ℕ, ◌+◌, ◌<◌, ◌≤◌, Bool, true, false, cond, ◌&&◌, ◌||◌, List, [], ◌∷◌, length, get_or, take, ltb, leb, eqb}
 use Rattle.laws.specs.Columns.{tabulate}
-use Rattle.codec_wire.specs.Walk.{Par, Walk, walk, padded}
+use Rattle.codec_wire.specs.Walk.{Par, walk, padded}
 use Rattle.codec_read.specs.Verdict.{verdict}
 use Rattle.codec_read.specs.Meaning.{meaning, reading_of}
 use Rattle.codec_put.specs.Bytes.{overlay}

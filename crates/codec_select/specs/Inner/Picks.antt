@@ -1,7 +1,7 @@
 -- Which parameters are picked, what writing parameters leaves, and the laws of specs/Only.antt.
 -- Assumes nothing.
 use Rattle.std.specs.Prelude.{◌≡◌, refl, ℕ, ◌+◌, Bool, true, false, ◌||◌, List, [], ◌∷◌, length, eqb}
-use Rattle.std.proofs.Common.{ap, ◌∙◌, arith}
+use Rattle.std.proofs.Common.{ap, arith}
 use Rattle.codec_wire.specs.Walk.{Par}
 use Rattle.codec_put.specs.Bytes.{overlay, pars_bytes}
 use Rattle.codec_select.specs.Only.{only}

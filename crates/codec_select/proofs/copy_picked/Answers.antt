@@ -1,0 +1,68 @@
+use native.Mathlib.Omega.{arith}
+use mathlib.Core.Path.{sym, ◌∙◌}
+use Rattle.codec_put.proofs.Puts.{puts_none, puts_end, puts_next, puts_length, puts_room, puts_more}
+use Rattle.codec_select.specs.Inner.Picks.{picks}
+use Rattle.codec_select.proofs.Turns.{left, left_stop, left_yes, left_no, the_par, body_length}
+use Rattle.codec_wire.proofs.Steps.{step_next}
+use Rattle.codec_select.proofs.copy_picked.Goals as goal
+
+pub loop-tag-init : goal.loop-tag-init
+loop-tag-init c = puts_none _ _ _
+
+pub shape_of-out-in_default : goal.shape_of-out-in_default
+shape_of-out-in_default c = puts_length c.loop-tag.invariant
+
+pub returns-in_default : goal.returns-in_default
+returns-in_default c = let e = left_stop (picks c.args.which) _ _ _ (sym c.step_at-w.ensures) c.in_default.not-Param in
+    record { next = puts_next c.loop-tag.invariant e; bytes = puts_end c.loop-tag.invariant e }
+
+-- the reading is the walk's, and the parameter lies within the message
+pub overflow_add-start : goal.overflow_add-start
+overflow_add-start c = let k = step_next _ _ _ _ _ (sym c.step_at-w.ensures ∙ c.in-Param.is) in omega arith
+
+pub overflow_cast-stop : goal.overflow_cast-stop
+overflow_cast-stop c = let k = step_next _ _ _ _ _ (sym c.step_at-w.ensures ∙ c.in-Param.is) in omega arith
+
+pub overflow_add-stop : goal.overflow_add-stop
+overflow_add-stop c = let k = step_next _ _ _ _ _ (sym c.step_at-w.ensures ∙ c.in-Param.is) in omega arith
+
+pub slice_bounds-put_param-count : goal.slice_bounds-put_param-count
+slice_bounds-put_param-count c = let k = step_next _ _ _ _ _ (sym c.step_at-w.ensures ∙ c.in-Param.is) in omega arith
+
+pub slice_bounds-put_param-start : goal.slice_bounds-put_param-start
+slice_bounds-put_param-start c = let k = step_next _ _ _ _ _ (sym c.step_at-w.ensures ∙ c.in-Param.is) in omega arith
+
+pub slice_bounds-put_param-end : goal.slice_bounds-put_param-end
+slice_bounds-put_param-end c = let k = step_next _ _ _ _ _ (sym c.step_at-w.ensures ∙ c.in-Param.is) in omega arith
+
+pub loop-tag-smaller-then-picked : goal.loop-tag-smaller-then-picked
+loop-tag-smaller-then-picked c = let k = step_next _ _ _ _ _ (sym c.step_at-w.ensures ∙ c.in-Param.is) in omega arith
+
+pub loop-tag-smaller : goal.loop-tag-smaller
+loop-tag-smaller c = let k = step_next _ _ _ _ _ (sym c.step_at-w.ensures ∙ c.in-Param.is) in omega arith
+
+pub put_param-at-requires : goal.put_param-at-requires
+put_param-at-requires c =
+    let f = picks c.args.which in
+    let reads = sym c.step_at-w.ensures ∙ c.in-Param.is in
+    let p = the_par f _ _ _ _ _ reads in
+    let left_at = left_yes f _ _ _ _ _ reads (sym c.picked.ensures ∙ c.if-picked.true) in
+    let h = c.loop-tag.invariant in
+    let e = puts_room h p (left f c.args.msg.now c.in-Param.next) left_at in
+    let l = puts_length h in
+    let a = h.at_is in
+    let b = body_length f _ _ _ _ _ reads in
+    let k = step_next _ _ _ _ _ reads in
+    (omega arith, omega arith)
+
+pub loop-tag-preserved-then-picked : goal.loop-tag-preserved-then-picked
+loop-tag-preserved-then-picked c =
+    let f = picks c.args.which in
+    let reads = sym c.step_at-w.ensures ∙ c.in-Param.is in
+    let p = the_par f _ _ _ _ _ reads in
+    let left_at = left_yes f _ _ _ _ _ reads (sym c.picked.ensures ∙ c.if-picked.true) in
+    puts_more c.loop-tag.invariant p (left f c.args.msg.now c.in-Param.next) left_at _ _ c.put_param-at.ensures
+
+pub loop-tag-preserved : goal.loop-tag-preserved
+loop-tag-preserved c =
+    rw (left_no (picks c.args.which) _ _ _ _ _ (sym c.step_at-w.ensures ∙ c.in-Param.is) (sym c.picked.ensures ∙ c.if-picked.false)) at c.loop-tag.invariant
