@@ -6,7 +6,8 @@ ghost use Rattle.tool_write_line.specs.Inner.Items.{Room, Within};
 
 use codec_write::Written;
 use tool_text::{
-    Number, Size, find, first, is, number_of, octet, put_byte, put_hex, put_number, rest_of, word_of,
+    Number, Size, find, first, is, number_of, octet, put_byte, put_hex, put_number, rest_of,
+    word_of,
 };
 
 // As much of a list as is read: its items, and the bytes of their values. Of a list of more than 512 items
