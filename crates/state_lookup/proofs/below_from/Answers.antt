@@ -1,0 +1,15 @@
+use mathlib.Core.Path.{sym}
+use native.Mathlib.Omega.{arith}
+use borrow.Author.Rules.{rules}
+use Rattle.laws.specs.Below.{count_below}
+use Rattle.laws.specs.Inner.Below.{at_end, count_none, count_more}
+use Rattle.state_lookup.proofs.below_from.Goals as goal
+
+pub loop-j-init : goal.loop-j-init
+loop-j-init c = (sym (count_none _), search rules, search rules, search rules)
+
+pub loop-j-preserved : goal.loop-j-preserved
+loop-j-preserved c = (rw (count_more, c.loop-j.invariant.0, c.unit_32-c.ensures.0), omega (arith, c.unit_32-c.ensures.1), search rules, search rules)
+
+pub returns : goal.returns
+returns c = at_end (count_below _) c.loop-j.invariant.0 c.loop-j-test.false c.loop-j.invariant.2

@@ -1,0 +1,15 @@
+use mathlib.Core.Path.{sym}
+use native.Mathlib.Omega.{arith}
+use borrow.Author.Rules.{rules}
+use Rattle.laws.specs.Below.{count_below}
+use Rattle.laws.specs.Inner.Below.{at_end, count_none, count_more}
+use Rattle.state_lookup.proofs.eighths_below.Goals as goal
+
+pub loop-k-init : goal.loop-k-init
+loop-k-init c = (sym (count_none _), search rules, search rules, search rules)
+
+pub loop-k-preserved : goal.loop-k-preserved
+loop-k-preserved c = (rw (count_more, c.loop-k.invariant.0, c.unit_32-c.ensures.0), omega (arith, c.unit_32-c.ensures.1), search rules, search rules)
+
+pub returns : goal.returns
+returns c = at_end (count_below _) c.loop-k.invariant.0 c.loop-k-test.false c.loop-k.invariant.2

@@ -1,0 +1,26 @@
+use mathlib.Core.Path.{refl}
+use native.Mathlib.Omega.{arith}
+use borrow.Author.Rules.{rules}
+use Rattle.laws.specs.Inner.Columns.{half_none, half_more, half_at}
+use Rattle.state_plan.proofs.fill_bytes.Goals as goal
+
+pub loop-i-init : goal.loop-i-init
+loop-i-init c = (half_none _ _ _ refl, search rules, search rules, c.requires.1)
+
+pub overflow_mul-out : goal.overflow_mul-out
+overflow_mul-out c = omega (arith, c.loop-i.invariant.3 c.loop-i.i c.loop-i-test.true)
+
+pub overflow_add-out : goal.overflow_add-out
+overflow_add-out c = omega (arith, c.loop-i.invariant.3 c.loop-i.i c.loop-i-test.true)
+
+pub bounds-s-at : goal.bounds-s-at
+bounds-s-at c = c.loop-i.invariant.3 c.loop-i.i c.loop-i-test.true
+
+pub bounds-out-i : goal.bounds-out-i
+bounds-out-i c = omega (arith, c.loop-i.invariant.0.long)
+
+pub loop-i-preserved : goal.loop-i-preserved
+loop-i-preserved c = let i = c.loop-i.invariant in (half_more _ i.0 (omega arith) refl, search rules, search rules, i.3)
+
+pub returns : goal.returns
+returns c = half_at (omega arith) c.loop-i.invariant.0

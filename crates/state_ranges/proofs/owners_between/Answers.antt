@@ -1,0 +1,38 @@
+use Prim.Native.Nat.{◌≤◌, ◌<◌, ◌-◌}
+use mathlib.Core.Path.{◌≡◌, refl, sym, ap, ◌∙◌}
+use mathlib.Core.Bool.{true}
+use native.Mathlib.Omega.{arith}
+use borrow.Author.Rules.{rules}
+use Rattle.state_tables.specs.Sound.{all_under}
+use Rattle.state_tables.specs.Inner.Column.{under_at}
+use Rattle.state_sets.specs.Inner.Bits.{flags_of, flags_long}
+use Rattle.state_ranges.specs.Inner.Owners.{Walking, walk_start, walk_jump, walk_step, walk_looked, walk_owners}
+use Rattle.state_ranges.proofs.owners_between.Goals as goal
+
+pub overflow_cast-end : goal.overflow_cast-end
+overflow_cast-end c = omega (arith, c.requires.0)
+
+pub loop-l-init : goal.loop-l-init
+loop-l-init c = (walk_start _ _ c.requires.2, search rules, c.requires.0, c.requires.1)
+
+pub loop-l-smaller-then-l-next : goal.loop-l-smaller-then-l-next
+loop-l-smaller-then-l-next c = omega (arith, c.if-l-next.true, c.loop-l-test.true)
+
+pub loop-l-preserved-then-l-next : goal.loop-l-preserved-then-l-next
+loop-l-preserved-then-l-next c =
+    let i = c.loop-l.invariant in
+    (walk_jump i.0 (omega (arith, i.2, c.loop-l-test.true)) _ c.later.ensures _ c.wide-next.ensures c.if-l-next.true, omega (arith, i.1, c.if-l-next.true), i.2, i.3)
+
+-- the owner of the place is an AS
+pub with_as-r-requires : goal.with_as-r-requires
+with_as-r-requires c = rw c.wide.ensures (under_at _ 16 _ c.loop-l.invariant.3 _ c.loop-l-test.true)
+
+pub loop-l-preserved : goal.loop-l-preserved
+loop-l-preserved c =
+    let i = c.loop-l.invariant in
+    let t = c.loop-l-test.true in
+    let small : c.wide.result < 16 = rw c.wide.ensures (under_at _ 16 _ i.3 _ t) in
+    (rw (c.with_as-r.ensures, c.wide.ensures) (walk_step i.0 (omega (arith, i.2, t)) _ c.later.ensures i.1 t (omega (arith, c.wide-next.ensures, c.if-l-next.false)) (flags_long _) (rw c.wide.ensures at small)), omega (arith, i.1), i.2, i.3)
+
+pub returns : goal.returns
+returns c = let i = c.loop-l.invariant in (walk_owners i.0 c.loop-l-test.false (flags_long _), walk_looked i.0 c.loop-l-test.false)
