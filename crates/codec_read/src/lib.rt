@@ -51,7 +51,7 @@ const DONE: u32 = 0;
 
 // What reading a message gives. A refused message has its number in `code`, and zeros.
 #[repr(C)]
-#[derive(Drop)]
+#[derive(Clone, Copy)]
 pub struct Reading {
     // 0, or the number of the refusal
     pub code: u32,

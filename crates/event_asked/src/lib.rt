@@ -32,7 +32,7 @@ pub const HOLD_BYTES: usize = 34944;
 pub const LEAST_ROOM: usize = 1544;
 
 // What an event asks of the gateway, its message read.
-#[derive(Drop)]
+#[derive(Clone, Copy)]
 pub enum Ask {
     Up(usize, Reading),
     Down(usize),

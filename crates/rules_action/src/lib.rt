@@ -58,7 +58,7 @@ pub const OTHER_ACTIVE: u32 = 2 * 65536 + 2;
 // To whom: the number of an ASP, or 255 for the link side. Which message: class * 256 + type. Its subject and
 // its value. The index of the unit held that it sends (Rule 7.25), which its words do not have; 0 for any
 // other.
-#[derive(Drop)]
+#[derive(Clone, Copy)]
 pub struct Action {
     pub to: u32,
     pub classtype: u32,

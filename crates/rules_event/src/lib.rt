@@ -18,7 +18,7 @@ pub struct Outcome {
 // is a field here, and is read from the state in one place (`link_at`, `asp_at`).
 
 // What is kept of a link: a row of the links' columns.
-#[derive(Drop)]
+#[derive(Clone, Copy)]
 pub struct Link {
     pub id: u32,
     pub owner: u8,
@@ -28,7 +28,7 @@ pub struct Link {
 
 // What the events of a link ask of the AS that owns it: its traffic mode, whether it waits, how many units it
 // holds.
-#[derive(Drop)]
+#[derive(Clone, Copy)]
 pub struct Owner {
     pub mode: u8,
     pub waiting: u8,
@@ -53,7 +53,7 @@ pub struct Sender {
 
 // What an accepted event does, as the code decides it before it does it (the definitions' Effect, by
 // `effect_in`). The large fields come first: so the compiler moves them whole.
-#[derive(Drop)]
+#[derive(Clone, Copy)]
 pub struct Decision {
     // the ASes of the change, or the ASPs that get `first`
     pub who: [bool; 16],

@@ -17,7 +17,7 @@ ghost use Rattle.rules_server.specs.Units.{units_out, let_out};
 use rules_action::Action;
 
 // Its members that are up, those active in it, whether it waits, its traffic mode.
-#[derive(Drop)]
+#[derive(Clone, Copy)]
 pub struct AsRecord {
     pub ups: [bool; 16],
     pub acts: [bool; 16],
@@ -28,7 +28,7 @@ pub struct AsRecord {
 // What an event does in the ASes that it names. AspUp(p): ASP p is up, and active nowhere. AspDown(p): it is
 // down. Deactivate(p): it becomes inactive. Activate(p): it becomes active, in override alone. Recover: the
 // recovery time is over.
-#[derive(Drop)]
+#[derive(Clone, Copy)]
 pub enum Change {
     AspUp(usize),
     AspDown(usize),
@@ -56,7 +56,7 @@ pub fn has_some(x: [bool; 16]) -> bool
 }
 
 // What is kept of a unit that comes in (Rule 7.24), and where its bytes begin in the message.
-#[derive(Drop)]
+#[derive(Clone, Copy)]
 pub struct Arrival {
     pub tag: u16,
     pub length: u16,

@@ -51,7 +51,7 @@ const REFUSED_IDENTIFIER: u32 = 2;
 
 // A unit that was held, but for its bytes: the tag of its data, and its correlation id where it is marked
 // (Rule 5.21).
-#[derive(Drop)]
+#[derive(Clone, Copy)]
 pub struct Unit {
     pub tag: u16,
     pub marked: bool,
@@ -60,7 +60,7 @@ pub struct Unit {
 
 // What the message of an action is made of: a parameter of one number, the data of a unit, another number,
 // the identifiers of an AS, and the received parameters of two selections, each of them or not.
-#[derive(Drop)]
+#[derive(Clone, Copy)]
 pub struct Form {
     pub class: u8,
     pub msgtype: u8,

@@ -17,7 +17,7 @@ use tool_text::{
 
 // What goes from line to line: how much of the output buffer is filled, how many bytes of a hold are lent,
 // and the gateway's state.
-#[derive(Drop)]
+#[derive(Clone, Copy)]
 pub struct State {
     pub used: usize,
     pub lends: u32,
