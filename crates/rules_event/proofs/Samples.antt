@@ -1,6 +1,6 @@
 -- The starred samples, computed from the rules: every definition is unfolded.
 -- Assumes nothing.
-use mathlib.Core.Path.{◌≡◌, refl}
+use mathlib.Core.Path.{refl}
 use Rattle.codec_read.proofs.Samples.{reader_samples}
 use Rattle.rules_event.specs.Samples.{Samples, Pinned}
 use Rattle.rules_event.specs.Inner.Samples.{ReachApart}

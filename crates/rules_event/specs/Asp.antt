@@ -1,15 +1,14 @@
 -- The messages by which an ASP comes up, goes down, and takes traffic (Rules 7.4 to 7.10).
 -- Assumes nothing.
-use Rattle.std.specs.Prelude.{ℕ, ◌+◌, ◌*◌, Bool, true, false, cond, not, ◌&&◌, ◌||◌, List, [], ◌∷◌, ◌++◌, eqb}
-use Rattle.laws.specs.Below.{any_below, when}
-use Rattle.laws.specs.Columns.{flag_at, number_at, tabulate}
+use Rattle.std.specs.Prelude.{ℕ, Bool, cond, not, ◌&&◌, ◌||◌, List, [], ◌++◌, eqb}
+use Rattle.laws.specs.Below.{any_below}
+use Rattle.laws.specs.Columns.{flag_at, number_at}
 use Rattle.codec_wire.specs.Walk.{Par}
 use Rattle.codec_read.specs.declared.Reading.{Reading}
-use Rattle.state_ranges.specs.declared.Refused.{Refused}
 use Rattle.state_tables.specs.declared.Gateway.{Gateway}
 use Rattle.rules_action.specs.declared.Action.{Action}
 use Rattle.rules_action.specs.Types.{asp_up_ack, asp_down_ack, asp_active_ack, asp_inactive_ack}
-use Rattle.rules_server.specs.declared.Change.TheVariants.{AspUp, AspDown, Deactivate, Activate, Recover}
+use Rattle.rules_server.specs.declared.Change.TheVariants.{AspUp, AspDown, Deactivate, Activate}
 use Rattle.rules_server.specs.Record.{some}
 use Rattle.rules_servers.specs.Changed.{column_of}
 use Rattle.rules_event.specs.Identifiers.{first_refused, owners_good}

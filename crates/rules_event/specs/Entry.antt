@@ -1,6 +1,6 @@
 -- What an event gives, refused or not, and what every entry promises (Rule 6.2).
 -- Assumes nothing.
-use Rattle.std.specs.Prelude.{◌≡◌, ℕ, ◌*◌, ◌≤◌, cond, List, [], ◌∷◌, ◌++◌, length, drop, eqb}
+use Rattle.std.specs.Prelude.{◌≡◌, ℕ, ◌*◌, ◌≤◌, cond, List, [], ◌++◌, length, drop, eqb}
 use Rattle.rules_action.specs.declared.Action.{Action}
 use Rattle.rules_action.specs.Words.{words_of}
 use Rattle.state_tables.specs.declared.Gateway.{Gateway}

@@ -1,6 +1,6 @@
 -- The identifiers that a message names, parameter by parameter in received order (Rule 7.8).
 -- Assumes nothing.
-use Rattle.std.specs.Prelude.{ℕ, Bool, true, false, cond, not, ◌&&◌, ◌||◌, List, [], ◌∷◌, eqb}
+use Rattle.std.specs.Prelude.{ℕ, Bool, false, cond, ◌&&◌, ◌||◌, List, [], ◌∷◌, eqb}
 use Rattle.laws.specs.Columns.{number_at, is_set, tabulate}
 use Rattle.codec_wire.specs.Walk.{Par}
 use Rattle.state_tables.specs.Sound.{pair}

@@ -1,7 +1,7 @@
 -- The links: class 6 messages of an ASP, link up, link down, messages of the link side (Rules 7.14 to 7.24).
 -- Each rule is said of records: k is the link, at the place l, o the AS that owns it, s the sender.
 -- Assumes nothing.
-use Rattle.std.specs.Prelude.{ℕ, ◌+◌, ◌*◌, Bool, true, false, cond, not, ◌&&◌, ◌||◌, List, [], ◌∷◌, ◌++◌, eqb, leb, ltb}
+use Rattle.std.specs.Prelude.{ℕ, ◌+◌, ◌*◌, Bool, cond, not, ◌&&◌, ◌||◌, List, [], ◌++◌, eqb, leb, ltb}
 use Rattle.laws.specs.Columns.{tabulate}
 use Rattle.codec_read.specs.declared.Reading.{Reading}
 use Rattle.codec_read.specs.Meaning.{data_tag, data_at}

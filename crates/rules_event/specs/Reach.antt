@@ -1,6 +1,6 @@
 -- Reach: the ASes that an event may look into and change (Rules 9.1 to 9.3).
 -- Assumes nothing.
-use Rattle.std.specs.Prelude.{ℕ, Bool, true, false, cond, not, ◌&&◌, ◌||◌, List, ltb, eqb}
+use Rattle.std.specs.Prelude.{ℕ, Bool, false, cond, not, ◌&&◌, ◌||◌, List, ltb, eqb}
 use Rattle.codec_wire.specs.Walk.{walk}
 use Rattle.codec_read.specs.Verdict.{verdict}
 use Rattle.codec_read.specs.Meaning.{reading_of}

@@ -1,6 +1,6 @@
 -- What each event does (Rules 7.1 to 7.26), and which are refused (Rules 6.3 to 6.6).
 -- Assumes nothing.
-use Rattle.std.specs.Prelude.{ℕ, ◌+◌, ◌*◌, Bool, true, false, cond, not, ◌&&◌, ◌||◌, List, [], ◌∷◌, ◌++◌, length, get_or, ltb, leb, eqb}
+use Rattle.std.specs.Prelude.{ℕ, ◌+◌, ◌*◌, Bool, cond, not, ◌&&◌, ◌||◌, List, [], length, get_or, ltb, leb, eqb}
 use Rattle.laws.specs.Choice.{◌or_else◌, ◌if◌}
 use Rattle.laws.specs.Columns.{tabulate}
 use Rattle.codec_wire.specs.Walk.{walk}
@@ -10,7 +10,7 @@ use Rattle.codec_read.specs.declared.Reading.{Reading}
 use Rattle.state_tables.specs.Sound.{is_sound}
 use Rattle.state_tables.specs.declared.Gateway.{Gateway}
 use Rattle.rules_action.specs.Types.{asp_up, asp_down, beat, beat_ack, asp_active, asp_inactive}
-use Rattle.rules_server.specs.declared.Change.TheVariants.{AspUp, AspDown, Deactivate, Activate, Recover}
+use Rattle.rules_server.specs.declared.Change.TheVariants.{Recover}
 use Rattle.rules_event.specs.Event.{EventKind, message, lost, recovery, link_up, link_down, link_message, Lent, Event}
 use Rattle.rules_event.specs.Identifiers.{is_known, link_of}
 use Rattle.rules_event.specs.Records.{link_at}

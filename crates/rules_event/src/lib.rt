@@ -36,7 +36,7 @@ pub struct Owner {
 }
 
 // What is kept of an ASP itself: a row of the ASPs' columns.
-#[derive(Drop)]
+#[derive(Clone, Copy)]
 pub struct Asp {
     pub id: u32,
     pub up: u8,
@@ -44,7 +44,7 @@ pub struct Asp {
 }
 
 // What class 6 asks of its sender: whether it is up, a member of the link's owner, and active there.
-#[derive(Drop)]
+#[derive(Clone, Copy)]
 pub struct Sender {
     pub up: u8,
     pub member: u8,

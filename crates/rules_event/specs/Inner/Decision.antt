@@ -1,6 +1,6 @@
 -- The code's struct `Decision` as the rules' Effect.
 -- Assumes nothing.
-use Rattle.std.specs.Prelude.{ℕ, cond, List, [], ◌∷◌, eqb}
+use Rattle.std.specs.Prelude.{cond, List, [], ◌∷◌, eqb}
 use Rattle.rules_action.specs.declared.Action.{Action}
 use Rattle.rules_action.specs.Words.{to_all}
 use Rattle.rules_event.specs.declared.Decision.{Decision}

@@ -2,10 +2,8 @@
 -- Assumes nothing.
 use Rattle.std.specs.Prelude.{ℕ, ◌≤◌, List, ltb, length}
 use Rattle.std.proofs.Common.{arith}
-use Rattle.laws.specs.Below.{concat_below, when}
 use Rattle.laws.specs.Inner.Below.{concat_short, when_short}
 use Rattle.state_tables.specs.Sound.{unit_index}
-use Rattle.rules_action.specs.declared.Action.{Action}
 use Rattle.rules_server.specs.declared.Change.{Change}
 use Rattle.rules_server.specs.declared.Change.TheVariants.{AspUp, AspDown, Deactivate, Activate, Recover}
 use Rattle.rules_server.specs.Units.{sending, unit_out, units_out, let_out}

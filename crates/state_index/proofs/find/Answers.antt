@@ -1,7 +1,5 @@
-use Prim.Native.Nat.{◌<◌}
 use mathlib.Core.Path.{refl, ap}
 use native.Mathlib.Omega.{arith}
-use borrow.Author.Rules.{rules}
 use Rattle.laws.specs.Columns.{number_at}
 use Rattle.state_index.specs.Inner.Spots.{spot_within, spot_finds}
 use Rattle.state_index.proofs.find.Goals as goal

@@ -1,21 +1,17 @@
 -- The entries of a value in order: the first that refuses, and the ASes that they name.
 -- Assumes nothing.
-use Prim.Native.Nat.{ℕ, zero, suc, ◌+◌, ◌*◌, ◌-◌, ◌<◌, ◌≤◌}
-use Rattle.std.specs.Prelude.{◌≡◌, Bool, true, ◌||◌, List, eqb, length, set}
+use Prim.Native.Nat.{ℕ, zero, suc, ◌+◌, ◌*◌, ◌<◌, ◌≤◌}
+use Rattle.std.specs.Prelude.{◌≡◌, Bool, true, ◌||◌, List, length}
 use Rattle.std.proofs.Math.Path.{refl, sym}
-use Rattle.std.proofs.Common.{ap, ◌∙◌, subst, arith, add-zero, add-suc, length-set, get_or-set_same, get_or-set_other, eq-eqb, ne_eqb, lt-ltb}
+use Rattle.std.proofs.Common.{◌∙◌, subst, arith}
 use Rattle.std.proofs.Math.Bool.{false}
 use Rattle.std.proofs.Math.Numerals.{add-one}
-use Rattle.std.proofs.Math.Decide.{ℕ_discrete}
 use Rattle.laws.specs.Below.{any_below}
 use Rattle.laws.specs.Inner.Below.{any_none, any_more}
-use Rattle.laws.specs.Columns.{flag_at, number_at, tabulate}
+use Rattle.laws.specs.Columns.{flag_at, tabulate}
 use Rattle.laws.specs.Inner.Columns.{is_tabulate, tabulate_ext, get_d_tabulate}
-use Rattle.state_lookup.specs.Links.{index_of, known}
-use Rattle.state_lookup.specs.Inner.Links.{index_own}
 use Rattle.state_ranges.specs.declared.Refused.{Refused}
-use Rattle.state_ranges.specs.Named.{owner_by_id, is_owned_by, nothing, refusing, first_in, some_in, first_of, width, start_at, stop_at, entries, refused_entry, some_entry, refused_in, some_of}
-use Rattle.state_ranges.specs.Inner.Laws.{Table}
+use Rattle.state_ranges.specs.Named.{first_in, some_in, first_of, width, start_at, stop_at, entries, refused_entry, some_entry, refused_in, some_of}
 use Rattle.state_ranges.specs.Inner.Refused.{not_found}
 use Rattle.state_ranges.specs.Inner.Names.{earlier, earlier_again, earlier_nothing, Plain, plain_earlier}
 

@@ -1,7 +1,5 @@
-use borrow.Author.Tests.{not-true, not-false}
 use mathlib.Core.Path.{◌≡◌, sym, ◌∙◌}
 use mathlib.Core.Bool.{true, false}
-use borrow.Author.Rules.{rules}
 use Rattle.state_plan.specs.Plan.{layout_ok}
 use Rattle.state_plan.specs.Inner.Layout.{code_of, rows_at, inside_of}
 use Rattle.state_plan.proofs.code_of.Goals as goal

@@ -1,6 +1,5 @@
 use mathlib.Core.Path.{sym, ◌∙◌}
 use native.Mathlib.Omega.{arith}
-use borrow.Author.Rules.{rules}
 use Rattle.state_plan.specs.Inner.Layout.{laid_out, whole, answer}
 use Rattle.state_plan.proofs.load.Goals as goal
 

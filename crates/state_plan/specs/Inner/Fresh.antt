@@ -9,7 +9,6 @@ use Rattle.std.proofs.Math.Decide.{dec_lt, ℕ_discrete}
 use Rattle.std.proofs.Math.Dec.{leb}
 use Rattle.std.proofs.lemmas.List.{get_or-replicate}
 use Rattle.std.proofs.lemmas.Nat.{shr_le}
-use Rattle.laws.specs.Below.{all_below}
 use Rattle.laws.specs.Inner.Below.{all_at, all_of}
 use Rattle.laws.specs.Columns.{number_at}
 use Rattle.laws.specs.Inner.Columns.{get_d_tabulate}

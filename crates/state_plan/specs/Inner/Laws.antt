@@ -1,6 +1,6 @@
 -- What a file that is laid out well gives, and that a loaded plan gives a sound state.
 -- Assumes nothing.
-use Rattle.std.specs.Prelude.{ℕ, zero, ◌+◌, ◌*◌, ◌<◌, ◌≤◌, ◌≡◌, refl, Bool, true, false, ◌||◌, ◌&&◌, cond, List, eqb, leb, ltb, length}
+use Rattle.std.specs.Prelude.{ℕ, ◌+◌, ◌*◌, ◌<◌, ◌≤◌, ◌≡◌, refl, Bool, true, false, ◌||◌, ◌&&◌, cond, List, eqb, leb, ltb, length}
 use Rattle.std.proofs.Common.{◌∙◌, arith, leb-true, eqb-true, lt-ltb}
 use Rattle.laws.specs.Below.{all_below}
 use Rattle.laws.specs.Inner.Below.{all_at, all_of}

@@ -1,12 +1,9 @@
-use Prim.Native.Nat.{◌≤◌, ◌<◌, ◌-◌}
-use mathlib.Core.Path.{◌≡◌, refl, sym, ap, ◌∙◌}
-use mathlib.Core.Bool.{true}
+use Prim.Native.Nat.{◌<◌}
 use native.Mathlib.Omega.{arith}
 use borrow.Author.Rules.{rules}
-use Rattle.state_tables.specs.Sound.{all_under}
 use Rattle.state_tables.specs.Inner.Column.{under_at}
-use Rattle.state_sets.specs.Inner.Bits.{flags_of, flags_long}
-use Rattle.state_ranges.specs.Inner.Owners.{Walking, walk_start, walk_jump, walk_step, walk_looked, walk_owners}
+use Rattle.state_sets.specs.Inner.Bits.{flags_long}
+use Rattle.state_ranges.specs.Inner.Owners.{walk_start, walk_jump, walk_step, walk_looked, walk_owners}
 use Rattle.state_ranges.proofs.owners_between.Goals as goal
 
 pub overflow_cast-end : goal.overflow_cast-end

@@ -1,5 +1,4 @@
 use native.Mathlib.Omega.{arith}
-use borrow.Author.Rules.{rules}
 use Rattle.state_sets.specs.Inner.Bits.{flags_of, flags_long}
 use Rattle.state_ranges.specs.Inner.Laws.{owners_under}
 use Rattle.state_ranges.specs.Inner.Range.{no_owners, owners_range}

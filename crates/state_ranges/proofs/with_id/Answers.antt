@@ -1,9 +1,5 @@
-use Prim.Native.Nat.{◌<◌}
-use mathlib.Core.Path.{◌≡◌, sym, ap, ◌∙◌}
+use mathlib.Core.Path.{sym, ap, ◌∙◌}
 use native.Mathlib.Omega.{arith}
-use borrow.Author.Rules.{rules}
-use borrow.Author.Tests.{not-true, not-false}
-use Rattle.laws.specs.Columns.{number_at}
 use Rattle.state_sets.specs.Inner.Bits.{flags_of, flags_long}
 use Rattle.state_ranges.specs.Inner.Laws.{owner_small}
 use Rattle.state_ranges.specs.Inner.Names.{earlier, earlier_nothing, names_both}

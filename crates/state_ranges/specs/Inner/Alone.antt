@@ -1,9 +1,9 @@
 -- An identifier alone is a range of one.
 -- Assumes nothing.
-use Rattle.std.specs.Prelude.{ℕ, ◌+◌, ◌-◌, ◌<◌, ◌≤◌, ◌≡◌, refl, Bool, true, ◌||◌, ◌&&◌, not, List, eqb, ltb, length, set}
+use Rattle.std.specs.Prelude.{ℕ, ◌+◌, ◌-◌, ◌<◌, ◌≡◌, refl, Bool, true, ◌||◌, ◌&&◌, not, List, eqb, ltb, length, set}
 use Rattle.std.proofs.Common.{◌∙◌, sym, arith, length-set, get_or-set_same, get_or-set_other}
 use Rattle.std.proofs.Math.Bool.{false}
-use Rattle.std.proofs.Math.Decide.{ℕ_discrete, dec_lt}
+use Rattle.std.proofs.Math.Decide.{ℕ_discrete}
 use borrow.Author.Tests.{eq-eqb, ne_eqb, lt-ltb, le-ltb, ltb-true, eqb-true}
 use Rattle.laws.specs.Below.{any_below}
 use Rattle.laws.specs.Columns.{flag_at, number_at, tabulate}
@@ -13,7 +13,7 @@ use Rattle.state_lookup.specs.Links.{index_of, known}
 use Rattle.state_lookup.specs.Inner.Links.{rank, index_own, index_not}
 use Rattle.state_ranges.specs.Named.{owner_by_id, is_owned_by, nothing, refusing, first_in, some_in}
 use Rattle.state_ranges.specs.Inner.Laws.{Table}
-use Rattle.state_ranges.specs.Inner.Refused.{refused_by, refused_here, refused_past, good_none, good_more, refuses_at, none_refused}
+use Rattle.state_ranges.specs.Inner.Refused.{refused_by, refused_here, good_none, good_more, refuses_at, none_refused}
 
 or_none : (u : Bool) → u ≡ (u || false)
 or_none true = refl

@@ -13,7 +13,7 @@ use Rattle.laws.specs.Below.{any_below}
 use Rattle.laws.specs.Inner.Below.{any_at, any_in}
 use Rattle.laws.specs.Columns.{flag_at, number_at, tabulate}
 use Rattle.laws.specs.Inner.Columns.{is_tabulate, get_d_tabulate}
-use Rattle.laws.specs.Inner.Every.{and_left, and_right, and_both, same_truth, or_case}
+use Rattle.laws.specs.Inner.Every.{and_left, and_right, same_truth, or_case}
 
 or_left : (u v : Bool) → u ≡ true → (u || v) ≡ true
 or_left u v e = rw e

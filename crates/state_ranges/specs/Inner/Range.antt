@@ -12,7 +12,7 @@ use Rattle.laws.specs.Inner.Columns.{is_tabulate, tabulate_ext, get_d_tabulate}
 use Rattle.laws.specs.Inner.Every.{and_both}
 use Rattle.state_lookup.specs.Links.{index_of, known}
 use Rattle.state_lookup.specs.Inner.Links.{rank, rank_most}
-use Rattle.state_ranges.specs.Named.{owner_by_id, is_owned_by, span, nothing, first_in, some_in}
+use Rattle.state_ranges.specs.Named.{owner_by_id, is_owned_by, nothing, first_in, some_in}
 use Rattle.state_ranges.specs.Inner.Laws.{Table, owner_small}
 use Rattle.state_ranges.specs.Inner.Refused.{refused_by, good_known, all_good}
 use Rattle.state_ranges.specs.Inner.Owners.{owns_from, or_right}

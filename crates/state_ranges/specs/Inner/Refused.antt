@@ -1,7 +1,7 @@
 -- The identifiers of a range that are refused, one place after the other.
 -- Assumes nothing.
 use Rattle.std.specs.Prelude.{ℕ, ◌+◌, ◌-◌, ◌<◌, ◌≤◌, ◌≡◌, refl, Bool, true, false, ◌||◌, ◌&&◌, cond, List, eqb, ltb}
-use Rattle.std.proofs.Common.{ap, ◌∙◌}
+use Rattle.std.proofs.Common.{◌∙◌}
 use Rattle.std.proofs.Math.Path.{sym, fun_ext}
 use Rattle.std.proofs.Math.Bool.{not}
 use Rattle.std.proofs.lemmas.Bool.{false≢true}
@@ -15,7 +15,6 @@ use Rattle.laws.specs.Inner.Rank.{first_not}
 use Rattle.state_tables.specs.Sound.{pair}
 use Rattle.state_lookup.specs.Links.{index_of, known}
 use Rattle.state_lookup.specs.Inner.Links.{rank, index_here, index_not}
-use Rattle.state_ranges.specs.declared.Refused.{Refused}
 use Rattle.state_ranges.specs.Named.{owner_by_id, is_refused, span, nothing, refusing, first_in}
 use Rattle.state_ranges.specs.Inner.Laws.{Table, owner_small}
 

@@ -1,0 +1,15 @@
+use Prim.Native.Nat.{◌≤◌, ◌-◌}
+use mathlib.Core.Path.{◌≡◌}
+use mathlib.Core.Bool.{false}
+use Rattle.state_index.specs.Inner.Spots.{Spots}
+use Rattle.state_sets.specs.Inner.Bits.{flags_of}
+use Rattle.state_ranges.specs.Named.{entries}
+use Rattle.state_ranges.specs.Inner.Laws.{Table}
+use Rattle.state_names.specs.Inner.Run.{Sofar}
+use Rattle.state_names.proofs.of_many.Given as goal
+
+abbrev pub invariant-loop-i : goal.invariant-loop-i
+invariant-loop-i l = Sofar l.iid l.owner l.links (flags_of l.mine) l.value l.initial.r.refused (flags_of l.initial.r.set) l.i l.r.refused (flags_of l.r.set) × (l.i ≤ l.n) × (l.n ≡ entries false l.value) × Table l.iid l.owner l.links × Spots l.table l.iid l.links
+
+abbrev pub decreases-loop-i : goal.decreases-loop-i
+decreases-loop-i l = l.n - l.i

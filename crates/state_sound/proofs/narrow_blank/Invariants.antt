@@ -1,0 +1,11 @@
+use Prim.Native.Nat.{◌≤◌, ◌-◌, ◌+◌}
+use mathlib.Core.Path.{◌≡◌}
+use Rattle.laws.specs.Below.{all_below}
+use Rattle.state_sound.specs.Inner.Sound.{narrow_at}
+use Rattle.state_sound.proofs.narrow_blank.Given as goal
+
+abbrev pub invariant-loop-k : goal.invariant-loop-k
+invariant-loop-k l = (l.ok ≡ all_below (narrow_at l.c l.d l.e l.from) l.k) × (l.k ≤ l.n) × (l.from + l.n ≤ 128)
+
+abbrev pub decreases-loop-k : goal.decreases-loop-k
+decreases-loop-k l = l.n - l.k
