@@ -1,10 +1,9 @@
 -- What the one call promises that runs an event on the state where it lies and writes the messages of all its
 -- actions (Rule 8.20).
 -- Assumes nothing.
-use Rattle.std.specs.Prelude.{◌≡◌, ℕ, ◌*◌, cond, not, List, [], ◌++◌, length, drop, ltb, eqb}
+use Rattle.std.specs.Prelude.{◌≡◌, ℕ, ◌*◌, cond, not, List, ◌++◌, length, drop, ltb, eqb}
 use Rattle.laws.specs.Choice.{◌or_else◌, ◌if◌}
 use Rattle.codec_put.specs.Bytes.{overlay}
-use Rattle.rules_action.specs.declared.Action.{Action}
 use Rattle.rules_action.specs.Words.{words_of}
 use Rattle.state_tables.specs.Sound.{is_sound}
 use Rattle.state_tables.specs.declared.Gateway.{Gateway}

@@ -2,7 +2,7 @@
 -- plan.
 -- Assumes nothing.
 use Rattle.std.specs.Prelude.{ℕ, ◌<◌, ◌≡◌, refl, Bool, true, false, cond, ◌||◌, List, [], eqb, ltb}
-use Rattle.std.proofs.Common.{sym, ap, ◌∙◌, arith, ltb-true, eqb-true, ne_eqb}
+use Rattle.std.proofs.Common.{sym, ◌∙◌, arith, ltb-true, eqb-true, ne_eqb}
 use Rattle.std.proofs.lemmas.Bool.{false≢true, eqb-false}
 use Rattle.laws.specs.Columns.{tabulate}
 use Rattle.codec_read.specs.Meaning.{reading_of}
@@ -10,7 +10,7 @@ use Rattle.codec_read.specs.declared.Reading.{Reading}
 use Rattle.state_tables.specs.Laws.{Limits}
 use Rattle.state_tables.specs.declared.Gateway.{Gateway}
 use Rattle.rules_server.specs.declared.Change.TheVariants.{Recover}
-use Rattle.rules_event.specs.Event.{EventKind, message, lost, recovery, link_up, link_down, link_message}
+use Rattle.rules_event.specs.Event.{EventKind, message}
 use Rattle.rules_event.specs.Effect.{Effect, change_in}
 use Rattle.codec_wire.specs.Walk.{walk}
 use Rattle.rules_action.specs.Types.{asp_up, asp_down, asp_active, asp_inactive}

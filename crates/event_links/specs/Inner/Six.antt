@@ -1,8 +1,8 @@
 -- The rules of class 6 (Rules 7.14, 7.17) in the order in which the code asks, and the place of the message's
 -- link.
 -- Assumes nothing.
-use Rattle.std.specs.Prelude.{◌≡◌, refl, Bool, true, false, cond, not, ◌&&◌, List, [], ◌∷◌, ℕ, eqb}
-use Rattle.std.proofs.Common.{sym, ap, ◌∙◌}
+use Rattle.std.specs.Prelude.{◌≡◌, refl, Bool, true, false, cond, not, ◌&&◌, [], ◌∷◌, ℕ, eqb}
+use Rattle.std.proofs.Common.{ap, ◌∙◌}
 use Rattle.codec_read.specs.declared.Reading.{Reading}
 use Rattle.rules_action.specs.Words.{action, link_side}
 use Rattle.state_tables.specs.declared.Gateway.{Gateway}

@@ -19,7 +19,7 @@ use Rattle.state_ranges.specs.Inner.Laws.{Table}
 use Rattle.state_ranges.specs.Inner.Refused.{refused_by, refused_by_lem}
 use Rattle.state_ranges.specs.Named.{is_refused, is_owned_by, nothing, refused_in, some_of}
 use Rattle.state_ranges.specs.declared.Refused.{Refused}
-use Rattle.rules_event.specs.Identifiers.{is_ids, first_refused, names_some, is_member, owns_good, owners_good}
+use Rattle.rules_event.specs.Identifiers.{is_ids, first_refused, names_some, owns_good, owners_good}
 use Rattle.rules_event.specs.Asp.{ases_of}
 use Rattle.state_names.specs.Inner.Entries.{plain_in}
 use Rattle.state_ranges.specs.Inner.Names.{earlier, earlier_again, earlier_nothing, Plain, plain_earlier}

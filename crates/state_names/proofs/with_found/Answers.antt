@@ -13,5 +13,5 @@ pub returns : goal.returns
 returns c =
     let a = c.wide-a.ensures in
     found_names _ _ _ c.requires.0 (flags_of c.args.mine) _ _ c.requires.1 _ (flags_of c.args.old.set) (flags_long _) _ (ap (λ (x : ℕ). x % 16) a) _
-    (c.answer.ensures.0 ∙ c.first_unless.ensures ∙ ap (λ (v : Bool). unless_good (c.args.f.known && v) c.args.old.refused c.args.x) c.has.ensures)
+    (cc)
     (ap flags_of c.answer.ensures.1 ∙ c.with_if.ensures)

@@ -4,8 +4,8 @@ use native.Mathlib.Omega.{arith}
 use borrow.Author.Rules.{rules}
 use Rattle.state_sets.specs.Inner.Bits.{flags_of, flags_long}
 use Rattle.state_ranges.specs.Inner.Laws.{owners_under}
-use Rattle.state_ranges.specs.Inner.Places.{rank_up}
-use Rattle.state_ranges.specs.Inner.Range.{no_owners, owners_range, range_good}
+use Rattle.state_ranges.proofs.Places.{rank_up}
+use Rattle.state_ranges.proofs.Range.{no_owners, owners_range, range_good}
 use Rattle.state_ranges.specs.Inner.Refused.{empty_range}
 use Rattle.state_ranges.specs.Inner.Names.{names_both}
 use Rattle.state_ranges.proofs.of_range.Goals as goal

@@ -1,7 +1,7 @@
 use native.Mathlib.Omega.{arith}
 use Rattle.state_sets.specs.Inner.Bits.{flags_of, flags_long}
 use Rattle.state_ranges.specs.Inner.Laws.{owners_under}
-use Rattle.state_ranges.specs.Inner.Range.{no_owners, owners_range}
+use Rattle.state_ranges.proofs.Range.{no_owners, owners_range}
 use Rattle.state_ranges.proofs.owners_in.Goals as goal
 
 -- `state_ranges::owners_in`: the owners between the first and the last place inside. Assumes nothing.
