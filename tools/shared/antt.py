@@ -3,6 +3,7 @@ M2UA."""
 import pathlib
 import re
 
+CRATES = pathlib.Path(__file__).resolve().parents[2] / "crates"
 TOKEN = re.compile(r"[^\s(){}.,;]+")
 SIGNATURE = re.compile(r"(?:(?:abbrev|unfoldable|opaque|pub) )*(?!record |data |module |ruleset |infix|use |mod )(\S+) :(?: |$)")
 
@@ -103,9 +104,10 @@ class Antt:
 
 
 def target(dotted, crate):
-    """`Rattle.x.specs.Y`, `Rattle.x.specs.Inner.Y`, `Rattle.x.proofs.Y`: (x, 'specs/Y')."""
+    """`Rattle.x.specs.Y`, `Rattle.x.specs.Inner.Y`, `Rattle.x.proofs.Y`: (x, 'specs/Y'). What is the kit's has
+    none."""
     m = re.fullmatch(r"Rattle\.([a-z0-9_]+)\.(specs|proofs)\.(.+)", dotted)
-    return (m[1], m[2] + "/" + m[3].replace(".", "/")) if m else None
+    return (m[1], m[2] + "/" + m[3].replace(".", "/")) if m and (CRATES / m[1]).is_dir() else None
 
 
 def imports(lines, crate):
