@@ -104,8 +104,8 @@ class Antt:
 
 
 def target(dotted, crate):
-    """`Rattle.x.specs.Y`, `Rattle.x.specs.Inner.Y`, `Rattle.x.proofs.Y`: (x, 'specs/Y'). What is the kit's has
-    none."""
+    """`Rattle.x.specs.Y`, `Rattle.x.specs.Inner.Y`, `Rattle.x.proofs.Y`: (x, 'specs/Y'). What is the kit's
+    has none."""
     m = re.fullmatch(r"Rattle\.([a-z0-9_]+)\.(specs|proofs)\.(.+)", dotted)
     return (m[1], m[2] + "/" + m[3].replace(".", "/")) if m and (CRATES / m[1]).is_dir() else None
 

@@ -1,5 +1,5 @@
-// What a host asks beside the events (crate abi_query_c exports it over the C ABI): a parameter of a message, the state
-// of an AS, the place of a link, which recovery times to start and to stop.
+// What a host asks beside the events (crate abi_query_c exports it over the C ABI): a parameter of a message,
+// the state of an AS, the place of a link, which recovery times to start and to stop.
 #![tactic(auto)]
 
 ghost use Rattle.std.specs.Prelude.{◌≡◌, ◌&&◌, not};

@@ -1,5 +1,5 @@
-// What a host asks beside the events over the C ABI, for hosts in C and Rust (include/m2ua.h): each calls the entry of
-// its name in crate abi_query and promises the same.
+// What a host asks beside the events over the C ABI, for hosts in C and Rust (include/m2ua.h): each calls the
+// entry of its name in crate abi_query and promises the same.
 #![tactic(auto)]
 
 ghost use Rattle.std.specs.Prelude.{◌≡◌};

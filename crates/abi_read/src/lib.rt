@@ -1,7 +1,8 @@
-// The public entries for reading messages and loading plans, for hosts in C and Rust (include/m2ua.h), which crate
-// abi_read_c exports over the C ABI. Thin: each calls the entry of its name and promises the same. (The writer is
-// exported by crate abi_write_c, the events by crate event_run_c: in one archive with them the reader would not be
-// compiled into its one caller.) A slice is passed as a pointer and a length, a struct by value.
+// The public entries for reading messages and loading plans, for hosts in C and Rust (include/m2ua.h), which
+// crate abi_read_c exports over the C ABI. Thin: each calls the entry of its name and promises the same. (The
+// writer is exported by crate abi_write_c, the events by crate event_run_c: in one archive with them the
+// reader would not be compiled into its one caller.) A slice is passed as a pointer and a length, a struct by
+// value.
 #![tactic(auto)]
 
 ghost use Rattle.std.specs.Prelude.{◌≡◌, cond};

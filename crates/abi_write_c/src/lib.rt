@@ -1,5 +1,5 @@
-// The writer over the C ABI, for hosts in C and Rust (include/m2ua.h): it calls the entry of its name in crate
-// abi_write and promises the same.
+// The writer over the C ABI, for hosts in C and Rust (include/m2ua.h): it calls the entry of its name in
+// crate abi_write and promises the same.
 #![tactic(auto)]
 
 ghost use Rattle.codec_write.specs.Write.{Writes};

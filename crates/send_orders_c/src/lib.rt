@@ -1,5 +1,5 @@
-// The actions as bytes over the C ABI, for hosts in C and Rust (include/m2ua.h): each calls the entry of its name in
-// crate send_orders and promises the same.
+// The actions as bytes over the C ABI, for hosts in C and Rust (include/m2ua.h): each calls the entry of its
+// name in crate send_orders and promises the same.
 #![tactic(auto)]
 
 ghost use Rattle.event_asked.specs.Happened.{happened};
