@@ -3,6 +3,7 @@ M2UA."""
 import pathlib
 import re
 
+CRATES = pathlib.Path(__file__).resolve().parents[2] / "crates"
 TOKEN = re.compile(r"[^\s(){}.,;]+")
 SIGNATURE = re.compile(r"(?:(?:abbrev|unfoldable|opaque|pub) )*(?!record |data |module |ruleset |infix|use |mod )(\S+) :(?: |$)")
 
@@ -13,8 +14,8 @@ def words(text):
 
 
 def uses_word(name, found):
-    """Whether a name is among the words; of an operator `_if_` its parts are."""
-    return all(part in found for part in name.split("_") if part) if "_" in name and not re.search(r"\w_\w", name) else name in found
+    """Whether a name is among the words; of an operator `◌if◌` its parts are."""
+    return all(part in found for part in name.split("◌") if part)
 
 
 class Item:
@@ -103,9 +104,10 @@ class Antt:
 
 
 def target(dotted, crate):
-    """`Rattle·x.specs.Y`, `Rattle·x·specs.specs.Inner.Y`, `Rattle·x·proofs.proofs.Y`: (x, 'specs/Y')."""
-    m = re.fullmatch(r"Rattle·([a-z0-9_]+)(?:·\w+)?\.(specs|proofs)\.(.+)", dotted)
-    return (m[1], m[2] + "/" + m[3].replace(".", "/")) if m else None
+    """`Rattle.x.specs.Y`, `Rattle.x.specs.Inner.Y`, `Rattle.x.proofs.Y`: (x, 'specs/Y'). What is the kit's
+    has none."""
+    m = re.fullmatch(r"Rattle\.([a-z0-9_]+)\.(specs|proofs)\.(.+)", dotted)
+    return (m[1], m[2] + "/" + m[3].replace(".", "/")) if m and (CRATES / m[1]).is_dir() else None
 
 
 def imports(lines, crate):
@@ -151,6 +153,6 @@ def functions(root):
     for p in sorted((root / "crates").glob("*/src/*.rt")):
         text = p.read_text(encoding="utf-8")
         named, aliases = imports(text.splitlines(), p.parts[-3])
-        for m in re.finditer(r"^( *)((?:#\[no_mangle\]\n *)?(?:pub )?(?:extern \"C\" )?fn (\w+).*?)^\1\{$", text, re.M | re.S):
+        for m in re.finditer(r"^( *)((?:#\[unsafe\(no_mangle\)\]\n *)?(?:pub )?(?:extern \"C\" )?fn (\w+).*?)^\1\{$", text, re.M | re.S):
             out[p.parts[-3], m[3]] = (p, m[2], named, aliases)
     return out

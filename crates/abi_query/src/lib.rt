@@ -1,5 +1,5 @@
-// What a host asks beside the events, over the C ABI: a parameter of a message, the state of an AS, the place
-// of a link, which recovery times to start and to stop.
+// What a host asks beside the events (crate abi_query_c exports it over the C ABI): a parameter of a message,
+// the state of an AS, the place of a link, which recovery times to start and to stop.
 #![tactic(auto)]
 
 ghost use Rattle.std.specs.Prelude.{◌≡◌, ◌&&◌, not};
@@ -45,24 +45,21 @@ pub struct Waits {
 
 // The version of the entries that this library has: raised by each change of a struct, a limit or a signature
 // (include/m2ua.h, M2UA_ABI).
-#[unsafe(no_mangle)]
-pub extern "C" fn m2ua_abi() -> u32
+pub fn m2ua_abi() -> u32
     ensures { result ≡ 5 }
 {
     5
 }
 
 // Where the protocol data of a message lies (Rule 1.7).
-#[unsafe(no_mangle)]
-pub extern "C" fn m2ua_data(msg: &[u8]) -> DataAt
+pub fn m2ua_data(msg: &[u8]) -> DataAt
     ensures { result ≡ data_at msg.now }
 {
     codec_read::data_at(msg)
 }
 
 // Where the value of the first parameter of a tag lies (Rule 1.8).
-#[unsafe(no_mangle)]
-pub extern "C" fn m2ua_parameter(msg: &[u8], tag: u16) -> ParamAt
+pub fn m2ua_parameter(msg: &[u8], tag: u16) -> ParamAt
     ensures { result ≡ param_at tag msg.now }
 {
     let p = codec_read::find(msg, HEADER, tag, tag);
@@ -74,8 +71,7 @@ pub extern "C" fn m2ua_parameter(msg: &[u8], tag: u16) -> ParamAt
 }
 
 // The state of AS a (Rule 5.17): 0 down, 2 inactive, 3 active, 4 pending. The state's columns are lent.
-#[unsafe(no_mangle)]
-pub extern "C" fn m2ua_as_state_at<'a>(
+pub fn m2ua_as_state_at<'a>(
     asps: u8,
     ases: u8,
     links: u8,
@@ -144,8 +140,7 @@ pub extern "C" fn m2ua_as_state_at<'a>(
 }
 
 // The place of the link with an interface identifier (Rule 5.18).
-#[unsafe(no_mangle)]
-pub extern "C" fn m2ua_link_place_at<'a>(
+pub fn m2ua_link_place_at<'a>(
     asps: u8,
     ases: u8,
     links: u8,
@@ -233,8 +228,7 @@ fn new_in(x: &[u8; 16], y: &[u8; 16]) -> [u8; 16]
 
 // The ASes whose recovery time starts between two states, and those whose time is to be stopped (Rule
 // 5.19): lent are the columns `waiting` of the two.
-#[unsafe(no_mangle)]
-pub extern "C" fn m2ua_waits_at<'a>(before: &'a [u8; 16], after: &'a [u8; 16]) -> Waits
+pub fn m2ua_waits_at<'a>(before: &'a [u8; 16], after: &'a [u8; 16]) -> Waits
     ensures { result ≡ waits before.now after.now }
 {
     let began = new_in(after, before);

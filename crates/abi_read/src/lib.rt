@@ -1,7 +1,8 @@
-// The public entries for reading messages and loading plans over the C ABI, for hosts in C and Rust
-// (include/m2ua.h). Thin: each calls the entry of its name and promises the same. (The writer is exported by
-// crate abi_write, the events by crate event_run: in one archive with them the reader would not be compiled
-// into its one caller.) A slice is passed as a pointer and a length, a struct by value.
+// The public entries for reading messages and loading plans, for hosts in C and Rust (include/m2ua.h), which
+// crate abi_read_c exports over the C ABI. Thin: each calls the entry of its name and promises the same. (The
+// writer is exported by crate abi_write_c, the events by crate event_run_c: in one archive with them the
+// reader would not be compiled into its one caller.) A slice is passed as a pointer and a length, a struct by
+// value.
 #![tactic(auto)]
 
 ghost use Rattle.std.specs.Prelude.{◌≡◌, cond};
@@ -20,24 +21,21 @@ fn flag(b: bool) -> u32
 }
 
 // Reads a message: its verdict, and of an accepted one what it means.
-#[unsafe(no_mangle)]
-pub extern "C" fn m2ua_read(msg: &[u8]) -> Reading
+pub fn m2ua_read(msg: &[u8]) -> Reading
     ensures { result ≡ reading_of msg.now }
 {
     codec_read::read(msg)
 }
 
 // Loads a plan file: a fresh state, or a refusal with a state of zeros.
-#[unsafe(no_mangle)]
-pub extern "C" fn m2ua_load(file: &[u8]) -> Loaded
+pub fn m2ua_load(file: &[u8]) -> Loaded
     ensures { result ≡ load_of file.now }
 {
     state_plan::load(file)
 }
 
 // 1 where the state is sound (Rule 5.4), else 0. Its columns are lent, and only read.
-#[unsafe(no_mangle)]
-pub extern "C" fn m2ua_is_sound_at<'a>(
+pub fn m2ua_is_sound_at<'a>(
     asps: u8,
     ases: u8,
     links: u8,

@@ -1,6 +1,6 @@
-// The writer over the C ABI, for hosts in C and Rust (include/m2ua.h): it calls the entry of its name and
-// promises the same. It has an archive of its own: in one with the reader, which asks the same of each
-// parameter, that question would not be compiled into the reader.
+// The writer for hosts in C and Rust (include/m2ua.h), which crate abi_write_c exports over the C ABI: it
+// calls the entry of its name and promises the same. It has an archive of its own: in one with the reader,
+// which asks the same of each parameter, that question would not be compiled into the reader.
 #![tactic(auto)]
 
 ghost use Rattle.codec_write.specs.Write.{Writes};
@@ -9,8 +9,7 @@ use codec_write::Written;
 
 // Writes the message of a class, a type and a list of tags and values: the tags, the lengths of the values,
 // and the values one after the other.
-#[unsafe(no_mangle)]
-pub extern "C" fn m2ua_write(
+pub fn m2ua_write(
     class: u8,
     msgtype: u8,
     tags: &[u16],

@@ -1,4 +1,5 @@
--- The cases of `step_at`, each from facts on numbers, and what a parameter's step tells of the place after it.
+-- The cases of `step_at`, each from facts on numbers, and what a parameter's step tells of the place after
+-- it.
 -- Assumes nothing.
 use mathlib.Core.Path.{◌≡◌, refl, sym, ap, ◌∙◌}
 use mathlib.Core.Bool.{Bool, true, false, cond}

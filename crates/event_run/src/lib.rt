@@ -338,8 +338,7 @@ pub fn run<'a>(
 }
 
 // The entry for hosts: the hold is lent whole, so no unit is taken in without its bytes.
-#[unsafe(no_mangle)]
-pub extern "C" fn m2ua_event_at<'a>(
+pub fn m2ua_event_at<'a>(
     asps: u8,
     ases: u8,
     links: u8,

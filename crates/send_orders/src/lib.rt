@@ -413,8 +413,7 @@ fn batch_of(r: Reached) -> Batch
 // From a place of an event's actions on, the messages of as many as go into a buffer, and the length of
 // each (Rule 8.16). The event is run once, with a list of words of its own, on copies of the columns that
 // events change; of the hold, which only a unit that comes in changes, it is lent nothing.
-#[unsafe(no_mangle)]
-pub extern "C" fn m2ua_orders_at<'a>(
+pub fn m2ua_orders_at<'a>(
     asps: u8,
     ases: u8,
     links: u8,
@@ -530,8 +529,7 @@ pub extern "C" fn m2ua_orders_at<'a>(
 
 // The message of the action at a place of an event's actions, written at a buffer's start (Rule 8.15): the
 // first from that place on. One to the link side has no bytes.
-#[unsafe(no_mangle)]
-pub extern "C" fn m2ua_order_at<'a>(
+pub fn m2ua_order_at<'a>(
     asps: u8,
     ases: u8,
     links: u8,
@@ -626,8 +624,7 @@ fn code_of(refusal: u32) -> u32
 // The event, on the state where it lies, and the messages of all its actions (Rule 8.20). What the bytes
 // are made of and events change, the units' columns, is copied out before it; the hold stays where there
 // are actions.
-#[unsafe(no_mangle)]
-pub extern "C" fn m2ua_handle_at<'a>(
+pub fn m2ua_handle_at<'a>(
     asps: u8,
     ases: u8,
     links: u8,

@@ -127,7 +127,7 @@ pub fn unit_for<'a>(
 
 // An action, and what its message is made of: whether it passes the received message on; and whether it sends
 // a unit, from where to where that lies in the hold, and the unit.
-#[derive(Drop)]
+#[derive(Clone, Copy)]
 pub struct Sent {
     pub o: Action,
     pub passed: bool,

@@ -17,7 +17,7 @@ ghost use Rattle.state_tables.specs.Inner.Sound.{sound_tables_of};
 // 12 bits, and 0 for a plain one. `wholelists` is 1 for an ASP whose lists of identifiers are taken whole or
 // not at all (Rule 7.8). `held` are the units held.
 #[repr(C)]
-#[derive(Drop)]
+#[derive(Clone, Copy)]
 pub struct Gateway {
     pub asps: u8,
     pub ases: u8,
@@ -41,7 +41,7 @@ pub struct Gateway {
 // first, at index a * 8 + k its tag, the length of that parameter, whether it has a correlation id, the
 // identifier of its link, and that id. Its bytes lie in the hold (Rule 5.22).
 #[repr(C)]
-#[derive(Drop)]
+#[derive(Clone, Copy)]
 pub struct Units {
     pub count: [u8; 16],
     pub tag: [u16; 128],

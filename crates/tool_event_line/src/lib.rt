@@ -9,7 +9,7 @@ use tool_text::{
 };
 
 // `msg`, `lost`, `recovery`, `up`, `down`, `linkmsg`
-#[derive(Drop)]
+#[derive(Clone, Copy)]
 pub enum EventKind {
     Message,
     Lost,
@@ -29,7 +29,7 @@ enum Named {
 // What an event line says. The index is that of an ASP, an AS or a link place, and 0 for a message of the
 // link side; a message stands in the first bytes of the buffer, `size` of them; `words` is the length of the
 // lent list as it is written.
-#[derive(Drop)]
+#[derive(Clone, Copy)]
 pub struct Event {
     pub kind: EventKind,
     pub index: u32,

@@ -2,18 +2,15 @@
 -- Assumes nothing.
 use mathlib.Core.Path.{◌≡◌, refl, sym, ap, ◌∙◌}
 use mathlib.Core.List.{List, [], ◌∷◌, ◌++◌}
-use mathlib.Core.Logic.{◌⊎◌}
 use Prim.Native.Nat.{ℕ, zero, suc, ◌+◌, ◌-◌, ◌*◌, ◌<◌, ◌≤◌}
 use native.Mathlib.Nat.{add-zero}
 use native.Mathlib.Omega.{arith}
 use lib.ListN.{length, length-append, take, drop, length-take}
-use denote.Enum.Declared.{tag_of, declared}
 use Rattle.tool_text.specs.Put.{overlay, Put}
 use Rattle.tool_text.proofs.Puts.{over_append}
 use Rattle.codec_wire.specs.declared.Step.{Step}
 use Rattle.codec_wire.specs.declared.Step.TheVariants.{Param, End, Fault}
 use Rattle.codec_wire.specs.Walk.{Par, walk, step_at, part_of}
-use Rattle.codec_wire.specs.contracts.Step.{enum}
 use Rattle.codec_wire.proofs.Steps.{step_next, Next, pars_next, pars_stop, walk_step}
 use borrow.Author.Tests.{le-ltb}
 use Rattle.tool_report.specs.declared.Style.{Style}
@@ -57,7 +54,7 @@ module _ {style : Style} {s before : List ℕ} {from : ℕ} {out : List ℕ} {at
   pub rest_used : used ≤ from + 8 * length s
   rest_used = let p = h.place in omega (arith, pars_most style s 8)
 
-  pub rest_stop : (w : Step) → step_at s at ≡ w → (tag_of (declared enum) w ≡ 1) ⊎ (tag_of (declared enum) w ≡ 2) → Put before out from (pars_text style (walk s 8).pars) used
+  pub rest_stop : (w : Step) → step_at s at ≡ w → ((t l n : ℕ) → w ≡ Param t l n → ⊥) → Put before out from (pars_text style (walk s 8).pars) used
   unfolding overlay pars_text
   rest_stop w e k =
       let z : (walk s at).pars ≡ [] = pars_stop s at w e k in

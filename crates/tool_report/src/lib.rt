@@ -12,7 +12,7 @@ use codec_wire::Step;
 use tool_text::{put_byte, put_bytes, put_hex, put_number};
 
 // How parameters are written: by `read`, by `show` in one line, by `show` in lines of its own.
-#[derive(Drop)]
+#[derive(Clone, Copy)]
 pub enum Style {
     Plain,
     Bars,

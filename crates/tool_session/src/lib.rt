@@ -17,7 +17,7 @@ use tool_text::{
 
 // What goes from line to line: how much of the output buffer is filled, how many bytes of a hold are lent,
 // and the gateway's state.
-#[derive(Drop)]
+#[derive(Clone, Copy)]
 pub struct State {
     pub used: usize,
     pub lends: u32,
@@ -185,7 +185,7 @@ fn run_with(
     if size == 34944 {
         return tool_event_run::happen(kind, e.index, msg, hold, words, g);
     }
-    let mut other = io::large_buffer();
+    let mut other = [0u8; 65536];
     tool_event_run::happen(kind, e.index, msg, &mut other[..size], words, g)
 }
 
@@ -274,7 +274,7 @@ fn write_with<'a>(
     if size == 34944 {
         return tool_event_run::written_by(kind, e.index, msg, hold, place, out, g);
     }
-    let other = io::large_buffer();
+    let other = [0u8; 65536];
     tool_event_run::written_by(kind, e.index, msg, first(&other, size), place, out, g)
 }
 

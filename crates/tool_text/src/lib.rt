@@ -1,7 +1,7 @@
 // Text in and out: the words of a line, decimal numbers and lower-case hex.
 #![tactic(auto)]
 
-ghost use Rattle.std.specs.Prelude.{◌≡◌, ◌+◌, ◌*◌, ◌-◌, ◌%◌, ◌≤◌, ◌<◌, length, take, [], ◌∷◌, ◌++◌};
+ghost use Rattle.std.specs.Prelude.{◌≡◌, ◌≢◌, ℕ, ◌+◌, ◌*◌, ◌-◌, ◌%◌, ◌≤◌, ◌<◌, length, take, slice_index, [], ◌∷◌, ◌++◌};
 ghost use Rattle.tool_text.specs.Put.{Put};
 ghost use Rattle.tool_text.specs.Digits.{glyph, digits, places, decimal, pair, hex};
 ghost use Rattle.tool_text.specs.Word.{word_in, rest_in, same};
@@ -302,6 +302,24 @@ pub fn rest_of(line: &[u8]) -> &[u8]
         return &line[at + 1..];
     }
     &line[..0]
+}
+
+// Where a byte first stands in `s`, from a place on; the length of `s` where it stands nowhere there.
+pub fn find(s: &[u8], from: usize, b: u8) -> usize
+    requires { from ≤ length s.now }
+    ensures at_least { from ≤ result }
+    ensures at_most { result ≤ length s.now }
+    ensures before { (k : ℕ) → from ≤ k → k < result → slice_index s.now k ≢ b }
+    ensures found { result < length s.now → slice_index s.now result ≡ b }
+{
+    let mut i = from;
+    while i < s.len() {
+        if s[i] == b {
+            return i;
+        }
+        i += 1;
+    }
+    i
 }
 
 // Two words are the same.

@@ -4,10 +4,10 @@
 ghost use Rattle.std.specs.Prelude.{◌≡◌, ◌+◌, ◌*◌, ◌≤◌, ◌<◌, length};
 ghost use Rattle.tool_write_line.specs.Inner.Items.{Room, Within};
 
-use bytes::scan::find;
 use codec_write::Written;
 use tool_text::{
-    Number, Size, first, is, number_of, octet, put_byte, put_hex, put_number, rest_of, word_of,
+    Number, Size, find, first, is, number_of, octet, put_byte, put_hex, put_number, rest_of,
+    word_of,
 };
 
 // As much of a list as is read: its items, and the bytes of their values. Of a list of more than 512 items
@@ -88,7 +88,7 @@ fn take_item(
     requires { (l.filled ≤ 32768) × (l.count ≤ 512) }
     ensures { Within result }
 {
-    let colon = find(item, 0, item.len(), b':');
+    let colon = find(item, 0, b':');
     if colon == item.len() {
         return Taken::NoList;
     }
@@ -118,7 +118,7 @@ fn take_items(
     };
     let mut at = 0;
     loop {
-        let end = find(list, at, list.len(), b',');
+        let end = find(list, at, b',');
         let taken = take_item(&list[at..end], tags, lens, values, l);
         let Taken::List(m) = taken else {
             return Taken::NoList;

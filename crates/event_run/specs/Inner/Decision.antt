@@ -1,7 +1,7 @@
 -- What the parts of a `Decision` are, by `what`.
 -- Assumes nothing.
 use Rattle.std.specs.Prelude.{ℕ, ◌+◌, ◌-◌, ◌*◌, ◌<◌, ◌≤◌, ◌≡◌, refl, Bool, true, false, cond, not, ◌&&◌, ◌||◌, List, [], ◌∷◌, ◌++◌, eqb, ltb, length, set}
-use Rattle.std.proofs.Common.{ap, ◌∙◌, sym, arith, ne_eqb, eqb-true}
+use Rattle.std.proofs.Common.{ap, sym, arith, ne_eqb, eqb-true}
 use Rattle.std.proofs.lemmas.Bool.{false≢true, eqb-false}
 use Rattle.std.proofs.Math.ListN.{length-append}
 use Rattle.laws.specs.Below.{when}

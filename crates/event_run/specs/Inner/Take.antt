@@ -1,28 +1,27 @@
 -- Where a unit comes in: what the code needs to know to put it in its place.
 -- Assumes nothing.
-use Rattle.std.specs.Prelude.{ℕ, ◌+◌, ◌-◌, ◌*◌, ◌<◌, ◌≤◌, ◌≡◌, refl, Bool, true, false, cond, ◌||◌, ◌&&◌, List, eqb, length, take, drop, set}
+use Rattle.std.specs.Prelude.{ℕ, ◌+◌, ◌-◌, ◌<◌, ◌≤◌, ◌≡◌, refl, Bool, true, false, cond, List, eqb, length, take, drop, set}
 use Rattle.std.proofs.Common.{sym, ap, ◌∙◌, arith}
 use Rattle.std.proofs.lemmas.Bool.{false≢true}
 use Rattle.laws.specs.Columns.{number_at}
 use Rattle.laws.specs.Inner.Every.{and_left}
 use Rattle.codec_put.specs.Bytes.{overlay}
 use Rattle.codec_read.specs.Meaning.{data_at}
-use Rattle.state_tables.specs.Sound.{unit_index, sized, all_units, sound_units, is_sound}
+use Rattle.state_tables.specs.Sound.{sized, all_units, sound_units, is_sound}
 use Rattle.state_tables.specs.Inner.Laws.{parts}
 use Rattle.state_tables.specs.State.{units_of}
 use Rattle.state_tables.specs.Inner.Sound.{sized_is}
 use Rattle.state_tables.specs.declared.Gateway.{Gateway}
-use Rattle.state_tables.specs.declared.Units.{Units}
 use Rattle.rules_server.specs.declared.Arrival.{Arrival}
 use Rattle.rules_servers.specs.Changed.{units_with}
 use Rattle.rules_event.specs.declared.Decision.{Decision}
-use Rattle.rules_event.specs.Event.{EventKind, message, lost, recovery, link_up, link_down, link_message, message_of}
-use Rattle.rules_event.specs.Effect.{take_in, hold_at, hold_after}
+use Rattle.rules_event.specs.Event.{message, lost, recovery, link_up, link_down, link_message, message_of}
+use Rattle.rules_event.specs.Effect.{hold_after}
 use Rattle.rules_event.specs.Link.{arrival}
 use Rattle.rules_event.specs.Rules.{effect_of, refusal}
 use Rattle.rules_event.specs.Sent.{is_passed}
 use Rattle.rules_event.specs.Inner.Decision.{effect_in}
-use Rattle.rules_event.specs.Inner.TakeIn.{TakeIn, take_in_lem}
+use Rattle.rules_event.specs.Inner.TakeIn.{take_in_lem}
 use Rattle.event_asked.specs.Happened.{happened, event_of}
 use Rattle.event_run.specs.declared.Put.{Put}
 use Rattle.event_run.specs.Inner.Decision.{put_in, link_after, effect_take}

@@ -1,0 +1,21 @@
+// Input in blocks.
+#![tactic(auto)]
+
+ghost use Rattle.std.specs.Io.{ReadsAtMost};
+
+use std::io::{Read, Result};
+
+// Reads until the buffer is full or the input ends, and says how many bytes stand at its start.
+pub fn read_full<R: Read>(from: &mut R, buf: &mut [u8]) -> Result<usize>
+    ensures { ReadsAtMost result buf.new }
+{
+    let mut at = 0;
+    while at < buf.len() {
+        let n = from.read(&mut buf[at..])?;
+        if n == 0 {
+            break;
+        }
+        at += n;
+    }
+    Ok(at)
+}
