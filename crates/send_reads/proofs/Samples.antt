@@ -1,7 +1,7 @@
 -- The Ack that message M gets (Rules 11.2, 11.4), as bytes: what goes out, and that the law speaks of it.
 -- Assumes nothing.
-use mathlib.Core.Path.{◌≡◌, refl, sym, ap, ◌∙◌, subst}
-use mathlib.Core.Bool.{Bool, true, false, cond, false≢true}
+use mathlib.Core.Path.{◌≡◌, refl, ap, ◌∙◌, subst}
+use mathlib.Core.Bool.{Bool, true, false, cond}
 use mathlib.Core.List.{List, [], ◌∷◌}
 use Prim.Native.Nat.{ℕ}
 use native.Mathlib.Omega.{arith}
@@ -20,7 +20,7 @@ use Rattle.rules_event.specs.Event.{message}
 use Rattle.rules_event.specs.Effect.{hold_bytes}
 use Rattle.rules_event.specs.Identifiers.{first_refused}
 use Rattle.rules_event.specs.Rules.{in_plan, refusal}
-use Rattle.rules_event.specs.Sent.{actions_on, action_at, is_sent, is_data, unit_for}
+use Rattle.rules_event.specs.Sent.{actions_on, action_at, is_sent, unit_for}
 use Rattle.rules_event.specs.Inner.Accepted.{accepted}
 use Rattle.rules_event.specs.Entry.{actions}
 use Rattle.rules_event.specs.Event.{lending}
