@@ -1,7 +1,7 @@
 -- What a host asks beside the events: a parameter of a message, the state of an AS, the place of a link, and
 -- which recovery times to start and to stop.
 -- Assumes nothing.
-use Rattle.std.specs.Prelude.{ℕ, Bool, cond, not, ◌&&◌, List, ltb}
+use Rattle.std.specs.Prelude.{ℕ, cond, not, ◌&&◌, List, ltb}
 use Rattle.laws.specs.Below.{one}
 use Rattle.laws.specs.Columns.{is_set, tabulate}
 use Rattle.codec_wire.specs.Walk.{walk}
