@@ -1,4 +1,3 @@
--- `send_orders::m2ua_orders_at`: the event's refusal, 104, or what the loop wrote. Assumes nothing.
 use Prim.Native.Nat.{ℕ}
 use mathlib.Core.Path.{◌≡◌, refl}
 use mathlib.Core.List.{List}
@@ -10,8 +9,7 @@ use Rattle.event_asked.specs.Happened.{happened}
 use Rattle.send_orders.specs.Inner.Ran.{Ran, no_101, ran}
 use Rattle.send_orders.specs.Inner.Many.{many_refused, many_beyond, many_done}
 use borrow.Author.Rules.{rules}
-use Rattle.send_orders.proofs.m2ua_orders_at.Statement.{statement}
-use Rattle.send_orders.proofs.m2ua_orders_at.Tie as tie
+use Rattle.send_orders.proofs.m2ua_orders_at.Goals as goal
 
 --@ start: After-run to Start
 abbrev start : tie.After-run → tie.Start
@@ -66,39 +64,20 @@ after c = let z = (start c).args in
     let u = l.1.1.1.1.1.1.1.1.1.1 in
     gateway_of z.asps z.ases z.links z.spare z.aspid.now l.0 z.member.now l.1.1.0 z.mode.now l.1.1.1.1.0 z.iid.now z.owner.now l.1.1.1.1.1.1.1.0 z.highspeed.now z.wholelists.now (units_of u.0 u.1.0 u.1.1.0 u.1.1.1.0 u.1.1.1.1.0 u.1.1.1.1.1.0)
 
--- it was run and is not refused
-ran-at : (c : tie.Else2) → Ran (state_of_lem (start (to-run c))) (start (to-run c)).args.hold.now (event (start (to-run c))) (to-run c).run.result.count (words (to-run c)) (after (to-run c))
-ran-at c = let e = to-run c in ran (state_of_lem (start e)) (start e).args.hold.now (event (start e)) refl e.run.ensures (to-if1 c).if1.false
+pub returns-then-done-ne0 : goal.returns-then-done-ne0
+returns-then-done-ne0 c = let e = refused-run c in many_refused _ _ _ _ _ _ _ (no_101 (state_of_lem (start e)) (start e).args.hold.now (event (start e)) refl e.run.ensures) c.if-done-ne0.true
 
-returns : tie.Need-returns
-returns c = let e = refused-run c in many_refused _ _ _ _ _ _ _ (no_101 (state_of_lem (start e)) (start e).args.hold.now (event (start e)) refl e.run.ensures) c.if1.true
+pub returns-then-done-place : goal.returns-then-done-place
+returns-then-done-place c = let e = beyond-run c in
+    many_beyond _ _ _ _ _ _ (ran (state_of_lem (start e)) (start e).args.hold.now (event (start e)) refl e.run.ensures (beyond-if1 c).if1.false) c.if-done-place.true
 
-returns-2 : tie.Need-returns-2
-returns-2 c = let e = beyond-run c in
-    many_beyond _ _ _ _ _ _ (ran (state_of_lem (start e)) (start e).args.hold.now (event (start e)) refl e.run.ensures (beyond-if1 c).if1.false) c.if2.true
+pub put_from-reached-requires : goal.put_from-reached-requires
+put_from-reached-requires c = let w = put-else c in (omega (arith, w.if2.left), state_of_lem (start (to-run w)), after (to-run w), (to-run c in ran (state_of_lem (start e)) (start e).args.hold.now (event (start e)) refl e.run.ensures (to-if1 c).if1.false))
 
-put-from-requires : tie.Need-put-from-requires
-put-from-requires c κs = let w = put-else c in (omega (arith, w.if2.left), state_of_lem (start (to-run w)), after (to-run w), ran-at w)
-
-returns-3 : tie.Need-returns-3
-returns-3 c = let w = end-else c in
+pub returns : goal.returns
+returns c = let w = end-else c in
     let s = start (to-run w) in
     let p = (end-put c).put-from.ensures in
-    rw c.batch-of.ensures
-    (many_done (state_of_lem s) s.args.hold.now (event s) s.args.place s.args.lens.now s.args.out.now (ran-at w) w.if2.left p.0
-    (p.1 (state_of_lem s) (after (to-run w)) (ran-at w)))
-
-pub m2ua-orders-at-spec : {M : Type 1} → statement M
-m2ua-orders-at-spec =
-    tie.close
-    (tie.spec
-    (λ c. search rules)
-    (λ c. search rules)
-    (λ c κs. search rules)
-    returns
-    returns-2
-    put-from-requires
-    (λ c κs. search rules)
-    (λ c. search rules)
-    (λ c. search rules)
-    returns-3)
+    rw c.batch_of.ensures
+    (many_done (state_of_lem s) s.args.hold.now (event s) s.args.place s.args.lens.now s.args.out.now ((to-run c in ran (state_of_lem (start e)) (start e).args.hold.now (event (start e)) refl e.run.ensures (to-if1 c).if1.false)) w.if2.left p.0
+    (p.1 (state_of_lem s) (after (to-run w)) ((to-run c in ran (state_of_lem (start e)) (start e).args.hold.now (event (start e)) refl e.run.ensures (to-if1 c).if1.false))))

@@ -1,5 +1,3 @@
--- `send_orders::m2ua_handle_at`: the buffer is short, the event is refused, it has no actions, or all of them
--- are written. Assumes nothing.
 use Prim.Native.Nat.{ℕ, ◌+◌, ◌<◌, ◌≤◌}
 use mathlib.Core.Path.{◌≡◌, refl, sym, ap, subst}
 use mathlib.Core.Bool.{Bool}
@@ -18,9 +16,9 @@ use Rattle.send_orders.specs.Inner.Ran.{Ran}
 use Rattle.send_orders.specs.Inner.Stays.{hold_same}
 use Rattle.send_orders.specs.Inner.Handled.{handles_short, handles_refused, handles_quiet, ran_handled, handles_all}
 use borrow.Author.Rules.{rules}
-use Rattle.send_orders.proofs.m2ua_handle_at.Statement.{statement}
-use Rattle.send_orders.proofs.m2ua_handle_at.Tie as tie
+use Rattle.send_orders.proofs.m2ua_handle_at.Goals as goal
 
+-- `send_orders::m2ua_handle_at`: the buffer is short, the event is refused, it has no actions, or all of them
 --@ start: After-run2 to Start
 abbrev start : tie.After-run2 → tie.Start
 start c = c.before.before.before.before.before.before.before.before.before.before.before.before.before.before.before.before.before.before.before.before.before.before
@@ -101,74 +99,41 @@ after c = let z = (start c).args in
     let u = l.1.1.1.1.1.1.1.1.1.1 in
     gateway_of z.asps z.ases z.links z.spare z.aspid.now l.0 z.member.now l.1.1.0 z.mode.now l.1.1.1.1.0 z.iid.now z.owner.now l.1.1.1.1.1.1.1.0 z.highspeed.now z.wholelists.now (units_of u.0 u.1.0 u.1.1.0 u.1.1.1.0 u.1.1.1.1.0 u.1.1.1.1.1.0)
 
-words_long : (c : tie.After-run2) → length (start c).args.words.now ≡ 1544
-words_long c = search rules
-
-room_at : (c : tie.After-run2) → 790528 ≤ length (start c).args.out.now
-room_at c = omega (arith, (to-if1 c).if1.false)
-
--- it was run, is not refused and has actions: so the hold stayed
-hold-is : (c : tie.Else3) → held (to-run c) ≡ (start (to-run c)).args.hold.now
-hold-is c = hold_same (state_of_lem (start (to-run c))) (event (start (to-run c))) (to-run c).run2.ensures (omega (arith, c.if3.false))
-
-ran-at : (c : tie.Else3) → Ran (state_of_lem (start (to-run c))) (held (to-run c)) (event (start (to-run c))) (to-run c).run2.result.count (words (to-run c)) (after (to-run c))
-ran-at c = let e = to-run c in
-    let s = start e in
-    subst (λ (h : List ℕ). Ran (state_of_lem s) h (event s) e.run2.result.count (words e) (after e)) (sym (hold-is c))
-    (ran_handled (state_of_lem s) (event s) s.args.hold.now s.args.words.now s.args.lens.now s.args.out.now (words_long e) (room_at e) e.run2.ensures (to-if2 c).if2.false)
-
-returns : tie.Need-returns
-returns c = let s = short-start c in
-    handles_short (state_of_lem s) (event s) s.args.hold.now s.args.words.now s.args.lens.now s.args.out.now (omega (arith, (short-if1 c).if1.true)) (short-run c).run.ensures c.code_of_lem.ensures
-
-returns-2 : tie.Need-returns-2
-returns-2 c = let e = refused-run c in
-    let s = start e in
-    handles_refused (state_of_lem s) (event s) s.args.hold.now s.args.words.now s.args.lens.now s.args.out.now (words_long e) (room_at e) e.run2.ensures (refused-if2 c).if2.true c.code-of2.ensures
-
-returns-3 : tie.Need-returns-3
-returns-3 c = let e = quiet-run c in
-    let s = start e in
-    handles_quiet (state_of_lem s) (event s) s.args.hold.now s.args.words.now s.args.lens.now s.args.out.now (words_long e) (room_at e) e.run2.ensures (quiet-if2 c).if2.false c.if3.true
-
-put-from-requires : tie.Need-put-from-requires
-put-from-requires c κs = let w = put-else c in (omega arith, state_of_lem (start (to-run w)), after (to-run w), ran-at w)
-
-lens-long : (c : tie.After-put-from) → length (put-start c).args.lens.now ≡ 386
-lens-long c = search rules
-
 -- so what is written of the hold behind the event is written of the one before it
 same_hold : (g : Gateway) (k : EventKind) (all : ℕ → Bool) {h h' lens out lens' out' : List ℕ} {n at : ℕ} → h ≡ h' → Ended (λ j. part_at g h k (0 + j)) all lens out n at lens' out'
     → Ended (λ j. part_at g h' k (0 + j)) all lens out n at lens' out'
 same_hold g k all {h} {h'} {lens} {out} {lens'} {out'} {n} {at} e x = subst (λ (y : List ℕ). Ended (λ j. part_at g y k (0 + j)) all lens out n at lens' out') e x
 
-same-length-4 : tie.Need-same-length-4
-same-length-4 c = ap length (hold-is (end-else c))
+pub returns-then-out-lt-ROOM_BYTES : goal.returns-then-out-lt-ROOM_BYTES
+returns-then-out-lt-ROOM_BYTES c = let s = short-start c in
+    handles_short (state_of_lem s) (event s) s.args.hold.now s.args.words.now s.args.lens.now s.args.out.now (omega (arith, (short-if1 c).if1.true)) (short-run c).run.ensures c.code_of.ensures
 
-returns-4 : tie.Need-returns-4
-returns-4 c = let w = end-else c in
+pub returns-then-done-ne0 : goal.returns-then-done-ne0
+returns-then-done-ne0 c = let e = refused-run c in
+    let s = start e in
+    handles_refused (state_of_lem s) (event s) s.args.hold.now s.args.words.now s.args.lens.now s.args.out.now ((search rules)) ((omega (arith, (to-if1 c).if1.false))) e.run2.ensures (refused-if2 c).if2.true c.code_of-then-done-ne0.ensures
+
+pub returns-then-done-eq0 : goal.returns-then-done-eq0
+returns-then-done-eq0 c = let e = quiet-run c in
+    let s = start e in
+    handles_quiet (state_of_lem s) (event s) s.args.hold.now s.args.words.now s.args.lens.now s.args.out.now ((search rules)) ((omega (arith, (to-if1 c).if1.false))) e.run2.ensures (quiet-if2 c).if2.false c.if-done-eq0.true
+
+pub put_from-reached-requires : goal.put_from-reached-requires
+put_from-reached-requires c = let w = put-else c in (omega arith, state_of_lem (start (to-run w)), after (to-run w), (to-run c in
+    let s = start e in
+    subst (λ (h : List ℕ). Ran (state_of_lem s) h (event s) e.run2.result.count (words e) (after e)) (sym ((hold_same (state_of_lem (start (to-run c))) (event (start (to-run c))) (to-run c).run2.ensures (omega (arith, c.if-done-eq0.false)))))
+    (ran_handled (state_of_lem s) (event s) s.args.hold.now s.args.words.now s.args.lens.now s.args.out.now ((search rules)) ((omega (arith, (to-if1 c).if1.false))) e.run2.ensures (to-if2 c).if2.false)))
+
+pub shape_of-hold : goal.shape_of-hold
+shape_of-hold c = ap length (hold-is (end-else c))
+
+pub returns : goal.returns
+returns c = let w = end-else c in
     let e = to-run w in
     let s = start e in
     let p = (end-put c).put-from.ensures in
-    handles_all (state_of_lem s) (event s) s.args.hold.now s.args.words.now s.args.lens.now s.args.out.now (words_long e) (room_at e) e.run2.ensures (lens-long (end-put c)) (to-if2 w).if2.left (omega (arith, p.0))
-    (same_hold (state_of_lem s) (event s) (λ j. leb (length (actions_on (state_of_lem s) (event s))) (0 + j)) (hold-is w) (p.1 (state_of_lem s) (after e) (ran-at w)))
-
-pub m2ua-handle-at-spec : {M : Type 1} → statement M
-m2ua-handle-at-spec =
-    tie.close
-    (tie.spec
-    (λ c. search rules)
-    (λ c κs. search rules)
-    (λ c κs. search rules)
-    (λ c. search rules)
-    returns
-    (λ c κs. search rules)
-    (λ c κs. search rules)
-    (λ c. search rules)
-    returns-2
-    (λ c. search rules)
-    returns-3
-    put-from-requires
-    same-length-4
-    (λ c. search rules)
-    returns-4)
+    handles_all (state_of_lem s) (event s) s.args.hold.now s.args.words.now s.args.lens.now s.args.out.now ((search rules)) ((omega (arith, (to-if1 c).if1.false))) e.run2.ensures (lens-long (end-put c)) (to-if2 w).if2.left (omega (arith, p.0))
+    (same_hold (state_of_lem s) (event s) (λ j. leb (length (actions_on (state_of_lem s) (event s))) (0 + j)) ((hold_same (state_of_lem (start (to-run c))) (event (start (to-run c))) (to-run c).run2.ensures (omega (arith, c.if-done-eq0.false)))) (p.1 (state_of_lem s) (after e) ((to-run c in
+    let s = start e in
+    subst (λ (h : List ℕ). Ran (state_of_lem s) h (event s) e.run2.result.count (words e) (after e)) (sym ((hold_same (state_of_lem (start (to-run c))) (event (start (to-run c))) (to-run c).run2.ensures (omega (arith, c.if-done-eq0.false)))))
+    (ran_handled (state_of_lem s) (event s) s.args.hold.now s.args.words.now s.args.lens.now s.args.out.now ((search rules)) ((omega (arith, (to-if1 c).if1.false))) e.run2.ensures (to-if2 c).if2.false)))))

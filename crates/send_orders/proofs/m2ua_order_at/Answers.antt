@@ -1,9 +1,7 @@
--- `send_orders::m2ua_order_at`: the first of many. Assumes nothing.
 use mathlib.Core.Path.{◌≡◌, refl}
 use Rattle.send_orders.specs.Inner.One.{one_refused, one_side, one_sent}
 use borrow.Author.Rules.{rules}
-use Rattle.send_orders.proofs.m2ua_order_at.Statement.{statement}
-use Rattle.send_orders.proofs.m2ua_order_at.Tie as tie
+use Rattle.send_orders.proofs.m2ua_order_at.Goals as goal
 
 --@ refused-orders: Need-returns to m2ua-orders-at
 abbrev refused-orders : tie.Then1 → tie.After-m2ua-orders-at
@@ -25,24 +23,11 @@ sent-orders c = c.before.before.before.before.before.before.before
 abbrev sent-if1 : tie.Else2 → tie.Else1
 sent-if1 c = c.before.before
 
-returns : tie.Need-returns
-returns c = one_refused _ _ _ _ _ refl (refused-orders c).m2ua-orders-at.ensures c.if1.true
+pub returns-then-batch-ne0 : goal.returns-then-batch-ne0
+returns-then-batch-ne0 c = one_refused _ _ _ _ _ refl (refused-orders c).m2ua-orders-at.ensures c.if-batch-ne0.true
 
-returns-2 : tie.Need-returns-2
-returns-2 c = one_side _ _ _ _ _ refl (side-orders c).m2ua-orders-at.ensures (side-if1 c).if1.false c.if2.true
+pub returns-then-batch-eq0 : goal.returns-then-batch-eq0
+returns-then-batch-eq0 c = one_side _ _ _ _ _ refl (side-orders c).m2ua-orders-at.ensures (side-if1 c).if1.false c.if-batch-eq0.true
 
-returns-3 : tie.Need-returns-3
-returns-3 c = one_sent _ _ _ _ _ refl (sent-orders c).m2ua-orders-at.ensures (sent-if1 c).if1.false c.if2.false
-
-pub m2ua-order-at-spec : {M : Type 1} → statement M
-m2ua-order-at-spec =
-    tie.close
-    (tie.spec
-    (λ c. search rules)
-    (λ c κs. search rules)
-    (λ c. search rules)
-    returns
-    (λ c. search rules)
-    returns-2
-    (λ c. search rules)
-    returns-3)
+pub returns : goal.returns
+returns c = one_sent _ _ _ _ _ refl (sent-orders c).m2ua-orders-at.ensures (sent-if1 c).if1.false c.if-batch-eq0.false
