@@ -1,6 +1,6 @@
 -- The state after a change in some ASes, and the actions there, from the state before it (Rules 7.1, 8.3).
 -- Assumes nothing.
-use Rattle.std.specs.Prelude.{ℕ, suc, ◌+◌, ◌/◌, ◌%◌, Bool, cond, not, ◌&&◌, List, [], ◌∷◌, eqb, ltb, set}
+use Rattle.std.specs.Prelude.{ℕ, zero, suc, ◌+◌, ◌/◌, ◌%◌, Bool, cond, not, ◌&&◌, List, [], ◌∷◌, eqb, ltb, set}
 use Rattle.laws.specs.Below.{one, concat_below}
 use Rattle.laws.specs.Columns.{flag_at, is_set, number_at, tabulate}
 use Rattle.state_tables.specs.Sound.{pair, unit_index}
