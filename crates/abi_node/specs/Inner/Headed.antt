@@ -13,7 +13,7 @@ use Rattle.rules_action.specs.declared.Action.{Action}
 use Rattle.rules_action.specs.Words.{words_of}
 use Rattle.rules_event.specs.declared.Outcome.{Outcome}
 use Rattle.rules_event.specs.Event.{message}
-use Rattle.rules_event.specs.Effect.{Effect, send, error, actions_of, state_after, hold_after}
+use Rattle.rules_event.specs.Effect.{send, error, actions_of, state_after, hold_after}
 use Rattle.rules_event.specs.Rules.{is_error, message_effect, effect_of, refusal}
 use Rattle.rules_event.specs.Entry.{actions, next, next_hold, MeetsRules}
 use Rattle.event_asked.specs.Happened.{event}

@@ -4,7 +4,6 @@ use mathlib.Core.List.{List}
 use native.Mathlib.Omega.{arith}
 use lib.ListN.{length, take, drop, get_or, length-drop}
 use lib.Seq.{take_all, length-take-le, get_or-take, get_or-drop}
-use borrow.Author.Rules.{rules}
 use Rattle.codec_put.specs.Bytes.{overlay}
 use Rattle.codec_put.proofs.Sets.{over_more, first_more, length_over, take_over, begins_at}
 use Rattle.send_orders.proofs.again.Goals as goal

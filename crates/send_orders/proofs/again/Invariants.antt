@@ -1,12 +1,7 @@
-use Prim.Native.Nat.{ℕ, ◌+◌, ◌-◌, ◌<◌, ◌≤◌}
-use mathlib.Core.Path.{◌≡◌, refl, sym, ap, ◌∙◌}
-use mathlib.Core.List.{List}
-use native.Mathlib.Omega.{arith}
-use lib.ListN.{length, take, drop, get_or, length-drop}
-use lib.Seq.{take_all, length-take-le, get_or-take, get_or-drop}
-use borrow.Author.Rules.{rules}
+use Prim.Native.Nat.{◌-◌, ◌≤◌}
+use mathlib.Core.Path.{◌≡◌}
+use lib.ListN.{length, take, drop}
 use Rattle.codec_put.specs.Bytes.{overlay}
-use Rattle.codec_put.proofs.Sets.{over_more, first_more, length_over, take_over, begins_at}
 use Rattle.send_orders.proofs.again.Given as goal
 
 abbrev pub invariant-loop-i : goal.invariant-loop-i

@@ -1,7 +1,6 @@
 use mathlib.Core.Path.{sym, ◌∙◌}
 use native.Mathlib.Omega.{arith}
 use Rattle.send_orders.specs.Inner.Part.{side_size, asp_size}
-use borrow.Author.Rules.{rules}
 use Rattle.send_orders.proofs.part_size.Goals as goal
 
 pub returns-then-o-eq-LINK_SIDE : goal.returns-then-o-eq-LINK_SIDE

@@ -4,7 +4,6 @@ use native.Mathlib.Omega.{arith}
 use lib.ListN.{drop, length-drop}
 use lib.Seq.{length-take-le}
 use Rattle.send_orders.specs.Inner.Part.{put_short, put_fits}
-use borrow.Author.Rules.{rules}
 use Rattle.send_orders.proofs.put_again.Goals as goal
 
 pub returns-then-out-at : goal.returns-then-out-at

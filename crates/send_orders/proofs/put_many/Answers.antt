@@ -22,9 +22,9 @@ use Rattle.send_orders.proofs.put_many.Goals.{then-repeats, else-repeats}
 -- at the loop's head, where the action n places on is not beyond the last
 module _ {v : Lent} (p : Ready v) {lens₀ out₀ : List ℕ} {n at size d : ℕ} {lens out : List ℕ}
     (h : (v.run.place + n ≤ v.run.count)
-        × Filled (λ j. part_in v (v.run.place + j)) (λ m. leb v.run.count (v.run.place + m)) lens₀ out₀ n at lens out
-        × (0 < n → size ≡ length (part_in v (v.run.place + (n - 1))))
-        × (d ≡ data_in v.words (v.run.place + n)))
+    × Filled (λ j. part_in v (v.run.place + j)) (λ m. leb v.run.count (v.run.place + m)) lens₀ out₀ n at lens out
+    × (0 < n → size ≡ length (part_in v (v.run.place + (n - 1))))
+    × (d ≡ data_in v.words (v.run.place + n)))
     (l : v.run.place + n < v.run.count) where
   -- where it repeats, its part stands before the position, and is as long as the one before it
   repeated : repeats_in v.run.passed v.words v.run.place n ≡ true → (size ≡ length (part_in v (v.run.place + n))) × StandsBefore out at (part_in v (v.run.place + n))
@@ -96,10 +96,10 @@ overflow_sub-out c =
     let l = c.if-count-place.false in
     let a = c.args in
     let w : PutIf c.loop-n.out c.loop-n.at (part_in (lent_of a.run a.words.now a.list.now a.msg.now a.hold.now a.iid.now a.owner.now a.tags.now a.lengths.now a.marks.now a.correlations.now) (a.run.place + c.loop-n.n)) c.if-repeats.size c.if-repeats.out =
-        elim c.if-repeats.branch [
-          then-repeats w ↦ put-copied p i l (sym c.repeats.ensures ∙ w.if-repeats.true) w.put_again-size.ensures w.size-is w.out-is |
-          else-repeats w ↦ put_as w.put_new-size.ensures (made-now p i l w.index_at.ensures c.action_at-o.ensures) w.size-is w.out-is
-        ] in
+    elim c.if-repeats.branch [
+      | then-repeats w ↦ put-copied p i l (sym c.repeats.ensures ∙ w.if-repeats.true) w.put_again-size.ensures w.size-is w.out-is
+      | else-repeats w ↦ put_as w.put_new-size.ensures (made-now p i l w.index_at.ensures c.action_at-o.ensures) w.size-is w.out-is
+    ] in
     omega (arith, i.1.goes_in, filled_out i.1, put_length w)
 
 pub returns-then-out-at-clause-few : goal.returns-then-out-at-clause-few
@@ -112,10 +112,10 @@ returns-then-out-at-clause-ended c =
     let l = c.if-count-place.false in
     let a = c.args in
     let w : PutIf c.loop-n.out c.loop-n.at (part_in (lent_of a.run a.words.now a.list.now a.msg.now a.hold.now a.iid.now a.owner.now a.tags.now a.lengths.now a.marks.now a.correlations.now) (a.run.place + c.loop-n.n)) c.if-repeats.size c.if-repeats.out =
-        elim c.if-repeats.branch [
-          then-repeats w ↦ put-copied p i l (sym c.repeats.ensures ∙ w.if-repeats.true) w.put_again-size.ensures w.size-is w.out-is |
-          else-repeats w ↦ put_as w.put_new-size.ensures (made-now p i l w.index_at.ensures c.action_at-o.ensures) w.size-is w.out-is
-        ] in
+    elim c.if-repeats.branch [
+      | then-repeats w ↦ put-copied p i l (sym c.repeats.ensures ∙ w.if-repeats.true) w.put_again-size.ensures w.size-is w.out-is
+      | else-repeats w ↦ put_as w.put_new-size.ensures (made-now p i l w.index_at.ensures c.action_at-o.ensures) w.size-is w.out-is
+    ] in
     record { filled = filled_as i.1 _ (put_none w c.if-out-at.true); ends_there = ends_room i.1 (omega (arith, c.if-out-at.true, w.size_is, put_length w, filled_out i.1)) }
 
 pub overflow_cast-lens : goal.overflow_cast-lens
@@ -125,10 +125,10 @@ overflow_cast-lens c =
     let l = c.if-count-place.false in
     let a = c.args in
     let w : PutIf c.loop-n.out c.loop-n.at (part_in (lent_of a.run a.words.now a.list.now a.msg.now a.hold.now a.iid.now a.owner.now a.tags.now a.lengths.now a.marks.now a.correlations.now) (a.run.place + c.loop-n.n)) c.if-repeats.size c.if-repeats.out =
-        elim c.if-repeats.branch [
-          then-repeats w ↦ put-copied p i l (sym c.repeats.ensures ∙ w.if-repeats.true) w.put_again-size.ensures w.size-is w.out-is |
-          else-repeats w ↦ put_as w.put_new-size.ensures (made-now p i l w.index_at.ensures c.action_at-o.ensures) w.size-is w.out-is
-        ] in
+    elim c.if-repeats.branch [
+      | then-repeats w ↦ put-copied p i l (sym c.repeats.ensures ∙ w.if-repeats.true) w.put_again-size.ensures w.size-is w.out-is
+      | else-repeats w ↦ put_as w.put_new-size.ensures (made-now p i l w.index_at.ensures c.action_at-o.ensures) w.size-is w.out-is
+    ] in
     omega (arith, w.size_is, p.small (a.run.place + c.loop-n.n))
 
 pub offset_bounds-lens-n : goal.offset_bounds-lens-n
@@ -148,10 +148,10 @@ overflow_add-at c =
     let l = c.if-count-place.false in
     let a = c.args in
     let w : PutIf c.loop-n.out c.loop-n.at (part_in (lent_of a.run a.words.now a.list.now a.msg.now a.hold.now a.iid.now a.owner.now a.tags.now a.lengths.now a.marks.now a.correlations.now) (a.run.place + c.loop-n.n)) c.if-repeats.size c.if-repeats.out =
-        elim c.if-repeats.branch [
-          then-repeats w ↦ put-copied p i l (sym c.repeats.ensures ∙ w.if-repeats.true) w.put_again-size.ensures w.size-is w.out-is |
-          else-repeats w ↦ put_as w.put_new-size.ensures (made-now p i l w.index_at.ensures c.action_at-o.ensures) w.size-is w.out-is
-        ] in
+    elim c.if-repeats.branch [
+      | then-repeats w ↦ put-copied p i l (sym c.repeats.ensures ∙ w.if-repeats.true) w.put_again-size.ensures w.size-is w.out-is
+      | else-repeats w ↦ put_as w.put_new-size.ensures (made-now p i l w.index_at.ensures c.action_at-o.ensures) w.size-is w.out-is
+    ] in
     omega (arith, c.if-out-at.false, i.1.goes_in, filled_out i.1, put_length w)
 
 pub overflow_add-n : goal.overflow_add-n
@@ -167,10 +167,10 @@ loop-n-preserved c =
     let l = c.if-count-place.false in
     let a = c.args in
     let w : PutIf c.loop-n.out c.loop-n.at (part_in (lent_of a.run a.words.now a.list.now a.msg.now a.hold.now a.iid.now a.owner.now a.tags.now a.lengths.now a.marks.now a.correlations.now) (a.run.place + c.loop-n.n)) c.if-repeats.size c.if-repeats.out =
-        elim c.if-repeats.branch [
-          then-repeats w ↦ put-copied p i l (sym c.repeats.ensures ∙ w.if-repeats.true) w.put_again-size.ensures w.size-is w.out-is |
-          else-repeats w ↦ put_as w.put_new-size.ensures (made-now p i l w.index_at.ensures c.action_at-o.ensures) w.size-is w.out-is
-        ] in
+    elim c.if-repeats.branch [
+      | then-repeats w ↦ put-copied p i l (sym c.repeats.ensures ∙ w.if-repeats.true) w.put_again-size.ensures w.size-is w.out-is
+      | else-repeats w ↦ put_as w.put_new-size.ensures (made-now p i l w.index_at.ensures c.action_at-o.ensures) w.size-is w.out-is
+    ] in
     let h = i.1 in
     let s = w.size_is in
     let z : c.loop-n.n ≡ c.loop-n.n + 1 - 1 = omega arith in

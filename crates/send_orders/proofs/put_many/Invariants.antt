@@ -1,23 +1,10 @@
-use Prim.Native.Nat.{ℕ, ◌+◌, ◌-◌, ◌<◌, ◌≤◌}
-use mathlib.Core.Path.{◌≡◌, refl, sym, ap, ◌∙◌}
-use mathlib.Core.Bool.{true}
-use mathlib.Core.List.{List}
-use mathlib.Core.Logic.{⊎_elim}
-use native.Mathlib.Omega.{arith}
-use native.Mathlib.Nat.{add-zero}
+use Prim.Native.Nat.{◌+◌, ◌-◌, ◌<◌, ◌≤◌}
+use mathlib.Core.Path.{◌≡◌}
 use lib.Dec.{leb}
-use lib.ListN.{length, take, drop}
-use borrow.Author.Tests.{le-leb, lt-leb}
-use Rattle.laws.specs.Below.{one}
-use Rattle.laws.specs.Columns.{number_at}
-use Rattle.rules_action.specs.declared.Action.{Action}
-use Rattle.rules_event.specs.Sent.{is_data}
-use Rattle.send_unit.specs.Inner.Words.{data_in, data_more, data_small}
-use Rattle.send_unit.specs.Inner.Made.{held_of}
-use Rattle.send_orders.specs.Inner.Part.{Lent, lent_of, index_in, made_in, part_in, part_of_lem, PutIf, put_as, put_length, put_none, put_done}
-use Rattle.send_orders.specs.Inner.Alike.{repeats_part}
-use Rattle.send_orders.specs.Inner.Batch.{Filled, StandsBefore, filled_none, filled_lens, filled_out, filled_more, filled_as, filled_before, ends_all, ends_slots, ends_room}
-use borrow.Author.Rules.{rules}
+use lib.ListN.{length}
+use Rattle.send_unit.specs.Inner.Words.{data_in}
+use Rattle.send_orders.specs.Inner.Part.{lent_of, part_in}
+use Rattle.send_orders.specs.Inner.Batch.{Filled}
 use Rattle.send_orders.proofs.put_many.Given as goal
 
 abbrev pub invariant-loop-n : goal.invariant-loop-n

@@ -3,7 +3,7 @@ use mathlib.Core.Path.{◌≡◌, sym, ap, ◌∙◌, subst}
 use mathlib.Core.List.{List}
 use native.Mathlib.Omega.{arith}
 use lib.ListN.{length}
-use Rattle.codec_wire.specs.Walk.{Par, walk}
+use Rattle.codec_wire.specs.Walk.{walk}
 use Rattle.codec_put.specs.Bytes.{overlay}
 use Rattle.codec_write.specs.Encode.{size_of, encode}
 use Rattle.send_message.specs.declared.Form.{Form}

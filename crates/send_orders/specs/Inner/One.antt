@@ -1,6 +1,6 @@
 -- One action: what the entry for many actions promises, of a list of one length.
 -- Assumes nothing.
-use Rattle.std.specs.Prelude.{ℕ, ◌+◌, ◌<◌, ◌≤◌, ◌≡◌, Bool, cond, not, ◌&&◌, ◌||◌, List, [], ◌∷◌, eqb, leb, ltb}
+use Rattle.std.specs.Prelude.{ℕ, ◌+◌, ◌<◌, ◌≤◌, ◌≡◌, Bool, cond, not, ◌||◌, List, [], eqb, leb, ltb}
 use Rattle.std.proofs.Math.Path.{refl, sym, ap}
 use Rattle.std.proofs.Common.{◌∙◌, arith, add-zero}
 use Rattle.std.proofs.Math.Bool.{true, false}
@@ -8,7 +8,7 @@ use Rattle.std.proofs.Math.Decide.{dec_lt}
 use Rattle.std.proofs.Math.ListN.{length}
 use borrow.Author.Tests.{eq-eqb, ne_eqb, lt-leb, le-leb, le-ltb, ltb-true}
 use Rattle.laws.specs.Choice.{◌or_else◌, ◌if◌}
-use Rattle.laws.specs.Below.{concat_below, first_below}
+use Rattle.laws.specs.Below.{first_below}
 use Rattle.laws.specs.Inner.Below.{concat_more, concat_none, first_none, first_more, first_at}
 use Rattle.laws.specs.Inner.Every.{and_left}
 use Rattle.codec_put.specs.Bytes.{overlay}
@@ -19,7 +19,7 @@ use Rattle.state_tables.specs.declared.Gateway.{Gateway}
 use Rattle.rules_event.specs.Event.{EventKind}
 use Rattle.rules_event.specs.Effect.{hold_bytes}
 use Rattle.rules_event.specs.Rules.{in_plan}
-use Rattle.rules_event.specs.Sent.{actions_on, action_at, is_sent}
+use Rattle.rules_event.specs.Sent.{actions_on, is_sent}
 use Rattle.send_message.specs.Message.{sent_bytes}
 use Rattle.send_message.specs.Send.{message_at, send_code, Sends, part_at, parts, ends_at, fitting, batch_code, SendsMany}
 use Rattle.send_message.specs.declared.Batch.{Batch}

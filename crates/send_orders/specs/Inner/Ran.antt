@@ -1,14 +1,12 @@
 -- The event that was run, and what the entries promise in each case.
 -- Assumes nothing.
-use Rattle.std.specs.Prelude.{ℕ, ◌*◌, ◌<◌, ◌≤◌, ◌≡◌, true, false, not, List, ◌++◌, eqb, ltb, get_or}
+use Rattle.std.specs.Prelude.{ℕ, ◌*◌, ◌<◌, ◌≤◌, ◌≡◌, true, not, List, ◌++◌, eqb, get_or}
 use Rattle.std.proofs.Math.Path.{refl, ap}
-use Rattle.std.proofs.Common.{sym, ◌∙◌, subst, arith}
+use Rattle.std.proofs.Common.{sym, ◌∙◌, arith}
 use Rattle.std.proofs.Math.ListN.{length, drop}
-use borrow.Author.Tests.{eq-eqb, ne_eqb, lt-ltb, le-ltb, not-true}
+use borrow.Author.Tests.{eq-eqb, lt-ltb, not-true}
 use Rattle.laws.specs.Inner.Every.{and_left, and_right}
-use Rattle.laws.specs.Choice.{◌or_else◌, ◌if◌}
 use Rattle.laws.specs.Columns.{number_at}
-use Rattle.codec_put.specs.Bytes.{overlay}
 use Rattle.state_tables.specs.Sound.{is_sound}
 use Rattle.state_tables.specs.declared.Gateway.{Gateway}
 use Rattle.rules_action.specs.Words.{words_of}
@@ -22,16 +20,15 @@ use Rattle.event_asked.specs.Happened.{happened, event_of}
 use Rattle.rules_action.specs.declared.Action.{Action}
 use Rattle.send_message.specs.Inner.Stands.{Lends}
 use Rattle.send_message.specs.Inner.Kinds.{kinds}
-use Rattle.rules_event.specs.Sent.{actions_on, action_at, is_sent, is_data, is_passed, unit_for}
+use Rattle.rules_event.specs.Sent.{actions_on, action_at, is_data, is_passed, unit_for}
 use Rattle.rules_units.specs.Inner.Counted.{gone, data_before}
 use Rattle.rules_units.proofs.Releases.{counted}
-use Rattle.send_message.specs.Send.{message_at, send_code, Sends, part_at}
+use Rattle.send_message.specs.Send.{part_at}
 use Rattle.send_unit.specs.Inner.Words.{action_in, said, action_in_lem, data_in, data_in_lem}
 use Rattle.send_unit.specs.Inner.Units.{gone_list, gone_at_lem}
 use Rattle.send_unit.specs.Inner.Made.{held_of, held_said, Long}
 use Rattle.send_orders.specs.Inner.Part.{part_from, said_part}
-use Rattle.send_orders.specs.Inner.There.{is_sent_lem, unit_long, part_there}
-use Rattle.send_orders.specs.Inner.Refusals.{refused_first, accepted_rest}
+use Rattle.send_orders.specs.Inner.There.{unit_long, part_there}
 
 -- an event that was run with a list of 1,544 words and was not refused: how many actions, the words, and the
 -- state after it
