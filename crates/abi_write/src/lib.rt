@@ -1,6 +1,5 @@
 // The writer for hosts in C and Rust (include/m2ua.h), which crate abi_write_c exports over the C ABI: it
-// calls the entry of its name and promises the same. It has an archive of its own: in one with the reader,
-// which asks the same of each parameter, that question would not be compiled into the reader.
+// calls the entry of its name and promises the same.
 #![tactic(auto)]
 
 ghost use Rattle.codec_write.specs.Write.{Writes};

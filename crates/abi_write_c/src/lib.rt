@@ -1,5 +1,6 @@
 // The writer over the C ABI, for hosts in C and Rust (include/m2ua.h): it calls the entry of its name in
-// crate abi_write and promises the same.
+// crate abi_write and promises the same. It is compiled apart from the reader: compiled with it, what both
+// ask of a parameter would not be compiled into the reader.
 #![tactic(auto)]
 
 ghost use Rattle.codec_write.specs.Write.{Writes};

@@ -22,7 +22,8 @@ fn session_of(held: usize, state: State) -> Session
     Session { held, state }
 }
 
-// Writes what the output buffer holds.
+// Writes what the output buffer holds. The only error, here and in what calls it, is that of reading or
+// writing: it ends the program, and nothing is said of the buffers then.
 fn write_out(rt: &impl Print, out: &[u8; 65536], used: usize) -> io::Result<()> {
     rt.write_all(first(out, used))
 }

@@ -1,7 +1,8 @@
 -- The hold of a call that keeps what the entries promise is as long as it was.
 -- Assumes nothing.
 use Rattle.std.specs.Prelude.{ℕ, ◌≡◌, refl, List, eqb, length}
-use Rattle.std.proofs.Common.{◌∙◌, eqb-true}
+use Rattle.std.proofs.Common.{◌∙◌, eqb-true, arith}
+use Rattle.std.proofs.lemmas.List.{length-replicate}
 use Rattle.laws.specs.Inner.Choice.{by_cond}
 use Rattle.codec_put.proofs.Sets.{length_over}
 use Rattle.state_tables.specs.declared.Gateway.{Gateway}
@@ -12,11 +13,11 @@ use Rattle.rules_event.specs.Entry.{next_hold}
 use Rattle.rules_event.specs.Calls.{Board, board_after}
 use Rattle.rules_event.specs.Inner.Calls.{lend, made, lend_length}
 
--- a hold stays as long as it is
+-- a hold stays as long as it is (also one that is laid anew, in zeros)
 hold_after_lem : (g : Gateway) (s : List ℕ) (d : Effect) (h : List ℕ) → length (hold_after g s d h) ≡ length h
 hold_after_lem g s (send os) h = refl
 hold_after_lem g s (set_link l v os) h = refl
-hold_after_lem g s (change_in os k named) h = refl
+hold_after_lem g s (change_in os k named) h = omega (arith, length-replicate {A = ℕ} (length h) 0)
 hold_after_lem g s (take_in a x) h = length_over h _ _
 
 pub hold_next : (g : Gateway) (e : Event) (h : List ℕ) → length (next_hold g e h) ≡ length h

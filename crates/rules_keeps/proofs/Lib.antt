@@ -1,2 +1,2 @@
-mod Keeps
+pub mod Keeps
 pub mod Next

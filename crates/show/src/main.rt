@@ -6,7 +6,7 @@ use tool_input::read_full;
 use tool_report::Style;
 use tool_text::{first, put_byte};
 
-// Writes the first bytes of a buffer.
+// Writes the first bytes of a buffer. The only error is that of writing.
 fn write_first(rt: &impl Print, out: &[u8; 65536], n: usize) -> io::Result<()> {
     rt.write_all(first(out, n))
 }

@@ -5,7 +5,8 @@ ghost use Rattle.std.specs.Io.{ReadsAtMost};
 
 use std::io::{Read, Result};
 
-// Reads until the buffer is full or the input ends, and says how many bytes stand at its start.
+// Reads until the buffer is full or the input ends, and says how many bytes stand at its start. The only
+// error is the reader's: of the buffer nothing is said then.
 pub fn read_full<R: Read>(from: &mut R, buf: &mut [u8]) -> Result<usize>
     ensures { ReadsAtMost result buf.new }
 {
