@@ -32,7 +32,8 @@ use Rattle.rules_event.specs.Samples.{plan_s, fresh_s, unit, sample_event}
 use Rattle.rules_event.specs.Event.{EventKind, Event}
 use Rattle.rules_event.specs.Effect.{hold_bytes}
 use Rattle.rules_event.specs.Calls.{Board, Call, events, board_after, Calls, none, call}
-use Rattle.rules_event.specs.Inner.Calls.{made, lend_same, made_meets, made_hold}
+use Rattle.rules_event.specs.Inner.Calls.{made, lend_same, made_meets}
+use Rattle.rules_event.proofs.Calls.{made_hold}
 use Rattle.rules_conserve.specs.Conserve.{came_in, is_data_at, sent_out, since, tally, holds, sum_below}
 use Rattle.rules_conserve.specs.Samples.{leaves, day, Day, Sums}
 

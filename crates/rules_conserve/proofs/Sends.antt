@@ -15,8 +15,8 @@ use Rattle.state_tables.specs.Sound.{unit_index, is_link_of, unit_at, blank_at, 
 use Rattle.state_tables.specs.Inner.Laws.{parts, links_parts}
 use Rattle.state_tables.specs.declared.Gateway.{Gateway}
 use Rattle.state_tables.specs.declared.Units.{Units}
-use Rattle.rules_action.specs.Types.{user_data, mgmt_notify, other_active, as_state}
-use Rattle.rules_action.specs.Words.{link_side, action}
+use Rattle.rules_action.specs.Types.{mgmt_notify, other_active, as_state}
+use Rattle.rules_action.specs.Words.{link_side}
 use Rattle.state_lookup.specs.Links.{index_of, known}
 use Rattle.state_lookup.specs.Inner.Links.{index_own}
 use Rattle.rules_server.specs.declared.AsRecord.{AsRecord}

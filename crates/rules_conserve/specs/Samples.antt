@@ -1,12 +1,12 @@
 -- A history of plan S (Rule 11.1) in which all of it happens to units of AS 0: the statement is about
 -- something.
 -- Assumes nothing.
-use Rattle.std.specs.Prelude.{◌≡◌, List, [], ◌∷◌, ◌++◌, map, ℕ, replicate}
+use Rattle.std.specs.Prelude.{◌≡◌, List, [], ◌∷◌, ◌++◌, map, replicate}
 use Rattle.rules_event.specs.Event.{EventKind, message, recovery, link_message, bare}
 use Rattle.rules_event.specs.Effect.{hold_bytes}
 use Rattle.rules_event.specs.Calls.{Board, Call, events, Calls}
 use Rattle.rules_event.specs.Samples.{fresh_s, sample_event, unit}
-use Rattle.rules_conserve.specs.Conserve.{Tally, tally, holds, sum}
+use Rattle.rules_conserve.specs.Conserve.{tally, holds, sum}
 
 -- ASP 0 takes AS 0 over, and leaves it pending
 unfoldable pub leaves : List EventKind

@@ -12,7 +12,7 @@ use borrow.Author.Tests.{ltb-true, eq-eqb, not-false}
 use Rattle.laws.specs.Below.{count_below}
 use Rattle.laws.specs.Inner.Below.{any_ext}
 use Rattle.laws.specs.Inner.Count.{count_ext}
-use Rattle.laws.specs.Inner.Every.{and_left, and_right, and_both, clash, false_of}
+use Rattle.laws.specs.Inner.Every.{and_left, and_both, clash, false_of}
 use Rattle.laws.specs.Columns.{is_set, number_at}
 use Rattle.laws.specs.Inner.Columns.{tabulate_ext}
 use Rattle.codec_wire.specs.Walk.{Par, walk}
@@ -31,7 +31,7 @@ use Rattle.rules_action.specs.Types.{asp_active_ack, asp_up_ack, asp_up, asp_dow
 use Rattle.rules_server.specs.declared.AsRecord.{AsRecord}
 use Rattle.rules_server.specs.Record.{some, record_of, state_in}
 use Rattle.rules_event.specs.Event.{EventKind, message, lost, recovery, link_up, link_down, link_message}
-use Rattle.rules_event.specs.Identifiers.{first_refused, names_some, owns_good, owners_good, is_known, link_of, owner_at, is_member}
+use Rattle.rules_event.specs.Identifiers.{first_refused, owns_good, owners_good, is_known, link_of, owner_at, is_member}
 use Rattle.rules_action.specs.declared.Action.{Action}
 use Rattle.rules_event.specs.Effect.{Effect, send, set_link, change_in, take_in, one_action, error, error2}
 use Rattle.rules_event.specs.Asp.{ases_of, active_ases, up_effect, down_effect, lost_effect, other_mode, active_effect, part_effect, traffic_effect}

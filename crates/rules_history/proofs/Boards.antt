@@ -21,7 +21,7 @@ use Rattle.rules_event.specs.Rules.{effect_of}
 use Rattle.rules_event.specs.Reach.{reach, from_controller}
 use Rattle.rules_event.specs.Entry.{next_hold}
 use Rattle.rules_event.specs.Calls.{Board, next_board, rules_answer}
-use Rattle.rules_event.specs.Inner.Calls.{hold_next}
+use Rattle.rules_event.proofs.Calls.{hold_next}
 use Rattle.rules_history.specs.Inner.Trade.{Commute}
 use Rattle.rules_history.specs.Inner.Local.{Local, Agree, Apart, commutes}
 use Rattle.rules_history.specs.History.{Independent}

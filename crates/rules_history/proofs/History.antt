@@ -27,7 +27,8 @@ use Rattle.rules_event.specs.Reach.{reach, message_reach, read_reach, from_contr
 use Rattle.rules_event.specs.Entry.{actions, next, next_hold, MeetsRules}
 use Rattle.rules_event.specs.Calls.{Board, next_board, Call, events, board_after, Calls, none, call, answer, rules_answer}
 use Rattle.rules_event.specs.Inner.Accepted.{accepted}
-use Rattle.rules_event.specs.Inner.Calls.{made, lend_same, made_meets, made_hold}
+use Rattle.rules_event.specs.Inner.Calls.{made, lend_same, made_meets}
+use Rattle.rules_event.proofs.Calls.{made_hold}
 use Rattle.rules_event.specs.Samples.{sample_event, g₁, g₅, takes, arrives, comes_up}
 use Rattle.rules_event.specs.Inner.Samples.{ReachApart}
 use Rattle.rules_event.proofs.Samples.{reach_apart, held_apart}

@@ -3,13 +3,12 @@
 -- Assumes nothing.
 use mathlib.Core.Path.{◌≡◌, refl, sym, ◌∙◌}
 use mathlib.Core.Bool.{Bool, true, false, ◌&&◌, ◌||◌, not}
-use mathlib.Core.List.{List, [], ◌∷◌}
-use Prim.Native.Nat.{ℕ, ◌+◌, ◌<◌, ◌≤◌}
+use mathlib.Core.List.{List, []}
+use Prim.Native.Nat.{ℕ, ◌<◌, ◌≤◌}
 use native.Mathlib.Omega.{arith}
 use lib.Dec.{eqb, ltb}
 use borrow.Author.Tests.{lt-ltb, ltb-true, eqb-true, eq-eqb, not-false}
-use Rattle.laws.specs.Inner.Below.{any_at}
-use Rattle.laws.specs.Inner.Every.{and_left, and_right, and_both, or_case, clash}
+use Rattle.laws.specs.Inner.Every.{and_left, and_right, and_both, clash}
 use Rattle.laws.specs.Inner.Choice.{by_cond}
 use Rattle.laws.specs.Columns.{flag_at, is_set, number_at, tabulate}
 use Rattle.laws.specs.Inner.Columns.{get_d_tabulate}
@@ -20,8 +19,7 @@ use Rattle.codec_read.specs.declared.Reading.{Reading}
 use Rattle.state_tables.specs.Sound.{pair, is_sound}
 use Rattle.state_tables.specs.Inner.Laws.{counts_within, owner_within, member_within}
 use Rattle.state_tables.specs.declared.Gateway.{Gateway}
-use Rattle.state_lookup.specs.Links.{index_of, known}
-use Rattle.state_ranges.specs.Named.{owner_by_id, is_owned_by, span, some_in, start_at, stop_at, entries, some_entry, some_of}
+use Rattle.state_ranges.specs.Named.{is_owned_by}
 use Rattle.rules_action.specs.declared.Action.{Action}
 use Rattle.rules_action.specs.Types.{asp_up, asp_down, asp_active, asp_inactive, beat, beat_ack}
 use Rattle.rules_server.specs.declared.Arrival.{Arrival}

@@ -1,1 +1,2 @@
+mod Keeps
 pub mod Next

@@ -33,7 +33,8 @@ use Rattle.rules_event.specs.Rules.{read_effect, message_effect, effect_of, in_p
 use Rattle.rules_event.specs.Entry.{next}
 use Rattle.rules_event.specs.Inner.Accepted.{accepted}
 use Rattle.rules_event.specs.Inner.TakeIn.{Takes, link_cases, taken_in}
-use Rattle.rules_keeps.specs.Inner.Keeps.{keeps_up, keeps_down, keeps_deactivate, keeps_activate, keeps_recover, keeps_link, keeps_unit}
+use Rattle.rules_keeps.specs.Inner.Keeps.{keeps_link, keeps_unit}
+use Rattle.rules_keeps.proofs.Keeps.{keeps_up, keeps_down, keeps_deactivate, keeps_activate, keeps_recover}
 
 module _ (g : Gateway) (ok : is_sound g ≡ true) where
   unfoldable Keeps : Effect → Type 0

@@ -4,26 +4,13 @@ use Rattle.std.specs.Prelude.{ℕ, ◌*◌, ◌≡◌, refl, cond, List, ◌++�
 use Rattle.std.proofs.Common.{sym, ◌∙◌, eq-eqb, eqb-true}
 use Rattle.std.proofs.lemmas.List.{length-replicate}
 use Rattle.laws.specs.Inner.Choice.{by_cond, at_yes}
-use Rattle.codec_put.proofs.Sets.{length_over}
-use Rattle.state_tables.specs.declared.Gateway.{Gateway}
 use Rattle.rules_action.specs.Words.{words_of}
-use Rattle.rules_event.specs.Event.{Event, message_of}
-use Rattle.rules_event.specs.Effect.{Effect, send, set_link, change_in, take_in, hold_bytes, hold_after}
-use Rattle.rules_event.specs.Rules.{effect_of, refusal}
+use Rattle.rules_event.specs.Event.{Event}
+use Rattle.rules_event.specs.Effect.{hold_bytes}
+use Rattle.rules_event.specs.Rules.{refusal}
 use Rattle.rules_event.specs.Entry.{actions, next, next_hold, MeetsRules}
-use Rattle.rules_event.specs.Calls.{Board, Call, board_after}
+use Rattle.rules_event.specs.Calls.{Board, Call}
 use Rattle.rules_event.specs.Inner.Few.{few_actions}
-
--- a hold stays as long as it is
-hold_after_lem : (g : Gateway) (s : List ℕ) (d : Effect) (h : List ℕ) → length (hold_after g s d h) ≡ length h
-hold_after_lem g s (send os) h = refl
-hold_after_lem g s (set_link l v os) h = refl
-hold_after_lem g s (change_in os k named) h = refl
-hold_after_lem g s (take_in a x) h = length_over h _ _
-
-pub hold_next : (g : Gateway) (e : Event) (h : List ℕ) → length (next_hold g e h) ≡ length h
-unfolding next_hold
-hold_next g e h = by_cond (eqb (refusal g e) 0) (λ (x : List ℕ). length x ≡ length h) (λ _. hold_after_lem g (message_of e.kind) (effect_of g e.kind) h) (λ _. refl)
 
 -- the hold to lend: the board's, or zeros where the event has another length
 abbrev pub lend : Board → Event → List ℕ
@@ -46,7 +33,7 @@ module _ (b : Board) (e : Event) where
   lend_same t = sym (at_yes b.hold (replicate e.lent.hold 0) (eqb e.lent.hold hold_bytes) (eq-eqb e.lent.hold hold_bytes t) refl)
 
   module _ (n : length b.hold ≡ hold_bytes) (l : List ℕ) where
-    lend_length : length (lend b e) ≡ e.lent.hold
+    pub lend_length : length (lend b e) ≡ e.lent.hold
     lend_length =
         by_cond (eqb e.lent.hold hold_bytes) (λ (x : List ℕ). length x ≡ e.lent.hold) (λ t. n ∙ sym (eqb-true e.lent.hold hold_bytes t)) (λ _. length-replicate e.lent.hold 0)
 
@@ -62,9 +49,3 @@ module _ (b : Board) (e : Event) where
           bytes = refl;
           words = refl;
         }
-
-    -- the hold that goes on has its length too
-    pub made_hold : length (board_after b (made b e l)).hold ≡ hold_bytes
-    made_hold =
-        by_cond (eqb e.lent.hold hold_bytes) (λ (x : List ℕ). length x ≡ hold_bytes)
-        (λ t. hold_next b.gateway e (lend b e) ∙ lend_length ∙ eqb-true e.lent.hold hold_bytes t) (λ _. n)

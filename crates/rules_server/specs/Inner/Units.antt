@@ -10,7 +10,7 @@ use Rattle.rules_server.specs.Units.{sending, unit_out, units_out, let_out}
 
 pub unit_out_short : (p n : ℕ) (id : List ℕ) (a k : ℕ) → length (unit_out p n id a k) ≤ 1
 unfolding unit_out
-unit_out_short p n id a k = when_short (ltb k n) (sending p id (unit_index a k))
+unit_out_short p n id a k = when_short (ltb k n) _
 
 pub units_out_short : (p n : ℕ) (id : List ℕ) (a : ℕ) → length (units_out p n id a) ≤ 8
 unfolding units_out

@@ -14,7 +14,8 @@ use Rattle.send_orders.specs.declared.Turn.{Turn}
 use Rattle.send_orders.specs.Inner.Part.{Fits, form_in, part_of, part_made, put_short, put_fits, side_put, asp_part, asp_size}
 use Rattle.send_orders.proofs.put_new.Goals as goal
 
--- x is the action with its unit, b the bytes of the unit that it shows: the message made of them is the one that is asked for
+-- x is the action with its unit, b the bytes of the unit that it shows: the message made of them is the one
+-- that is asked for
 module _ {iid owner tags lengths marks correlations : List ℕ} {t : Turn} {s h out : List ℕ} (p : Fits iid owner tags lengths marks correlations t s h out) {x : Sent} (e : x ≡ sent_of tags lengths marks correlations t.passed t.index t.o) where
   lies_at : Lies s h x
   lies_at = subst (λ (y : Sent). Lies s h y) (sym e) (lies s h tags lengths marks correlations t.passed t.index t.o p.whole p.place p.long)

@@ -1,0 +1,54 @@
+use Rattle.std.specs.Prelude.{ℕ, ◌≡◌, Bool, true, List}
+use mathlib.Core.Path.{sym, ◌∙◌}
+use Rattle.state_tables.specs.Sound.{is_sound}
+use Rattle.state_tables.specs.Inner.Laws.{counts_within}
+use Rattle.state_tables.specs.declared.Gateway.{Gateway}
+use Rattle.state_ranges.specs.Inner.Laws.{table}
+use Rattle.rules_event.specs.Event.{lending}
+use Rattle.rules_event.specs.Records.{link_at}
+use Rattle.rules_event.specs.declared.Link.{Link}
+use Rattle.rules_event.specs.Rules.{refusal, refusal_of, in_plan}
+use Rattle.event_asked.specs.Happened.{happened, event_of}
+use Rattle.event_asked.specs.declared.Ask.{Ask}
+use Rattle.event_asked.specs.Inner.Ask.{Asks, ask_fits_at}
+use Rattle.event_asked.specs.Inner.Place.{Named, known_in, refusal_in_lem}
+use Rattle.rules_event.specs.Inner.Accepted.{Accepted, accepted}
+use Rattle.event_reach.specs.Inner.Rows.{row_is, reached_no, reached_yes}
+use Rattle.event_reach.proofs.of_event.Goals as goal
+
+-- the refusal by the place is the rule's
+refusal_is : (g : Gateway) (kind i room hold : ℕ) (s : List ℕ) {ask : Ask} {sound there : Bool} {k : Link} {n no : ℕ}
+    → no ≡ refusal_of sound (known_in g.asps g.ases there k ask) (lending room hold) → k ≡ link_at g n → sound ≡ is_sound g
+    → (sound ≡ true → Named g.links g.iid ask there n) → Asks kind i s ask → no ≡ refusal g (event_of (happened kind i s) room hold)
+refusal_is g kind i room hold s {ask} {sound} {there} {k} {n} e q z p a =
+    e
+    ∙ (λ j. refusal_of sound (known_in g.asps g.ases there (q j) ask) (lending room hold))
+    ∙ refusal_in_lem g ask sound there n (lending room hold) z p
+    ∙ (λ j. refusal_of (is_sound g) (a.known g j) (lending room hold))
+
+pub placed-at-requires : goal.placed-at-requires
+placed-at-requires c h =
+    let t = table c.args.g (sym c.is_sound-sound.ensures ∙ h) in
+    (t.few, t.order)
+
+pub returns-then-code-ne0 : goal.returns-then-code-ne0
+returns-then-code-ne0 c =
+    reached_no c.args.g _
+    (refusal_is c.args.g c.args.kind c.args.i c.args.room c.args.hold c.args.msg.now c.refused-code.ensures c.link_at-k.ensures c.is_sound-sound.ensures c.placed-at.ensures.1 c.asked-ask.ensures)
+    c.if-code-ne0.true
+
+pub row_of-row-requires : goal.row_of-row-requires
+row_of-row-requires c =
+    let g = c.args.g in
+    let a = c.asked-ask.ensures in
+    let r = refusal_is g c.args.kind c.args.i c.args.room c.args.hold c.args.msg.now c.refused-code.ensures c.link_at-k.ensures c.is_sound-sound.ensures c.placed-at.ensures.1 a in
+    let t : Accepted (is_sound g) (in_plan g (happened c.args.kind c.args.i c.args.msg.now)) (lending c.args.room c.args.hold) = accepted _ _ _ (sym r ∙ c.if-code-ne0.false) in
+    let w = c.wide-n.ensures in
+    (rw w (table g t.sound_yes), ask_fits_at g _ c.asked-ask.result w (counts_within g t.sound_yes) (a.known g ∙ t.known_yes) a.small)
+
+pub returns : goal.returns
+returns c =
+    let g = c.args.g in
+    let a = c.asked-ask.ensures in
+    let r = refusal_is g c.args.kind c.args.i c.args.room c.args.hold c.args.msg.now c.refused-code.ensures c.link_at-k.ensures c.is_sound-sound.ensures c.placed-at.ensures.1 a in
+    reached_yes g _ r c.if-code-ne0.false (row_is g c.args.msg.now c.asked-ask.result (event_of (happened c.args.kind c.args.i c.args.msg.now) c.args.room c.args.hold) c.wide-n.ensures c.row_of-row.ensures (a.reach g)) (rw c.wide.ensures at c.within.ensures)
