@@ -74,6 +74,7 @@ fn first_near(iid: &[u32; 128], links: usize, guess: &[u8; 256], x: u32, near: u
 }
 
 // How many identifiers are not above stop.
+#[tactic(auto, using(state_ranges::specs::Inner::Ranks::past_at))]
 fn past_near(
     iid: &[u32; 128],
     links: usize,

@@ -39,6 +39,7 @@ const LINK_SIDE: u32 = 255;
 const ROOM_BYTES: usize = 790528;
 
 // The message whose parameters go out again: none where the event has none.
+#[tactic(auto, unfolding(send_message::specs::Inner::Kinds::lent_by))]
 fn received(kind: u32, msg: &[u8]) -> &[u8]
     ensures { result.now ≡ lent_by kind msg.now }
 {
