@@ -263,6 +263,9 @@ def anew():
     with Lab(plan, "--links", "loop", "--log", "changes", *quiet, sctp="kernel", address="0.0.0.0") as lab:
         with Cables():
             active(controller(lab, "left", *words, within=FAR))
+            # what was sent last is acknowledged by then, and not sent again: that too would be answered by an
+            # ABORT
+            time.sleep(0.5)
             shell("ip -n far link set far1 down")
             lab.controllers[-1].kill()
         with Cables():
