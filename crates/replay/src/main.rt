@@ -86,12 +86,21 @@ fn take_input(
     let mut left: u64 = 0x1000000000000;
     while left > 0 {
         let mut block = [0u8; 65536];
-        let n = read_full(&mut input, &mut block)?;
-        if n == 0 {
-            break;
+        match read_full(&mut input, &mut block) {
+            Ok(n) => {
+                if n == 0 {
+                    break;
+                }
+                t = take_block(rt, &block[..n], line, bytes, hold, out, t)?;
+                left -= 1;
+            }
+            Err(e) => {
+                // as at the end of the input: what was read is answered and written, then the error ends it
+                let last = take_block(rt, b"\n", line, bytes, hold, out, t)?;
+                write_out(rt, out, last.state.used)?;
+                return Err(e);
+            }
         }
-        t = take_block(rt, &block[..n], line, bytes, hold, out, t)?;
-        left -= 1;
     }
     let last = take_block(rt, b"\n", line, bytes, hold, out, t)?;
     Ok(last.state)

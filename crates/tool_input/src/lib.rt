@@ -12,11 +12,20 @@ pub fn read_full<R: Read>(from: &mut R, buf: &mut [u8]) -> Result<usize>
 {
     let mut at = 0;
     while at < buf.len() {
-        let n = from.read(&mut buf[at..])?;
-        if n == 0 {
-            break;
+        match from.read(&mut buf[at..]) {
+            Ok(n) => {
+                if n == 0 {
+                    return Ok(at);
+                }
+                at += n;
+            }
+            Err(e) => {
+                if at == 0 {
+                    return Err(e);
+                }
+                return Ok(at);
+            }
         }
-        at += n;
     }
     Ok(at)
 }
