@@ -4,7 +4,7 @@
 ghost use Rattle.std.specs.Prelude.{◌≡◌, ◌&&◌, ◌<◌, eqb, ltb};
 ghost use Rattle.laws.specs.Columns.{flag_at, number_at, tabulate};
 ghost use Rattle.codec_wire.specs.Walk.{walk};
-ghost use Rattle.state_ranges.specs.Inner.Laws.{Table};
+ghost use Rattle.state_lookup.specs.Inner.Table.{Table};
 ghost use Rattle.state_ranges.specs.Named.{is_owned_by};
 ghost use Rattle.state_ranges.specs.Inner.Owners.{Looked};
 ghost use Rattle.state_sets.specs.Inner.Bits.{flags_of};

@@ -5,7 +5,7 @@ ghost use Rattle.std.specs.Prelude.{◌≡◌, cond, ◌+◌, ◌*◌, ◌<◌, 
 ghost use Rattle.laws.specs.Columns.{number_at};
 ghost use Rattle.codec_put.specs.Bytes.{overlay};
 ghost use Rattle.rules_action.specs.Inner.Words.{Written};
-ghost use Rattle.state_ranges.specs.Inner.Laws.{Table};
+ghost use Rattle.state_lookup.specs.Inner.Table.{Table};
 ghost use Rattle.rules_event.specs.Entry.{MeetsRules, Runs};
 ghost use Rattle.rules_event.specs.Inner.Decision.{first_actions, spread, effect_in};
 ghost use Rattle.event_decision.specs.Inner.Decides.{asp_of, DecidesOn};

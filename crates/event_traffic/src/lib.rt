@@ -6,7 +6,7 @@ ghost use Rattle.laws.specs.Below.{any_below};
 ghost use Rattle.laws.specs.Columns.{flag_at, number_at};
 ghost use Rattle.codec_wire.specs.Walk.{walk};
 ghost use Rattle.rules_action.specs.Words.{action};
-ghost use Rattle.state_ranges.specs.Inner.Laws.{Table};
+ghost use Rattle.state_lookup.specs.Inner.Table.{Table};
 ghost use Rattle.state_ranges.specs.Named.{is_refused, is_owned_by};
 ghost use Rattle.state_ranges.specs.Inner.Names.{earlier, Plain, Names};
 ghost use Rattle.state_ranges.specs.Inner.Owners.{Looked};

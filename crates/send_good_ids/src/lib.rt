@@ -10,7 +10,7 @@ ghost use Rattle.state_lookup.specs.Inner.Links.{rank};
 ghost use Rattle.state_sets.specs.Inner.Bits.{flags_of};
 ghost use Rattle.state_ranges.specs.Named.{some_of};
 ghost use Rattle.state_ranges.specs.Places.{is_from};
-ghost use Rattle.state_ranges.specs.Inner.Laws.{Table};
+ghost use Rattle.state_lookup.specs.Inner.Table.{Table};
 ghost use Rattle.rules_event.specs.Identifiers.{is_ids, names_some};
 ghost use Rattle.send_good_ids.specs.Inner.Marks.{Marked, Adds, Covered, GoodColumn};
 ghost use Rattle.send_good_ids.specs.Inner.Made.{good_form, ModeFits, GoodMessage};

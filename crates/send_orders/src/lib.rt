@@ -5,7 +5,7 @@
 ghost use Rattle.std.specs.Prelude.{◌≡◌, true, cond, ◌+◌, ◌-◌, ◌<◌, ◌≤◌, leb, length, take, drop};
 ghost use Rattle.codec_wire.specs.Walk.{walk};
 ghost use Rattle.codec_put.specs.Bytes.{overlay};
-ghost use Rattle.state_ranges.specs.Inner.Laws.{Table};
+ghost use Rattle.state_lookup.specs.Inner.Table.{Table};
 ghost use Rattle.rules_servers.specs.Changed.{column_of};
 ghost use Rattle.send_good_ids.specs.Inner.Made.{ModeFits, GoodMessage};
 ghost use Rattle.event_asked.specs.Happened.{happened};

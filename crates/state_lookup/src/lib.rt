@@ -10,6 +10,10 @@ ghost use Rattle.state_lookup.specs.Inner.Servers.{state_of};
 ghost use Rattle.state_lookup.specs.Links.{index_of, known};
 ghost use Rattle.state_lookup.specs.Inner.Links.{rank};
 
+mod links;
+
+pub use links::Links;
+
 // ---- ASes
 
 // Whether ASP p is a member of AS a.

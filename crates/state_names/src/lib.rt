@@ -8,7 +8,7 @@ ghost use Rattle.state_tables.specs.Sound.{ascends};
 ghost use Rattle.state_lookup.specs.Inner.Links.{rank};
 ghost use Rattle.state_sets.specs.Inner.Bits.{flags_of};
 ghost use Rattle.state_ranges.specs.Named.{is_owned_by, start_at, stop_at, entries, first_in, refused_in, some_in, some_of};
-ghost use Rattle.state_ranges.specs.Inner.Laws.{Table};
+ghost use Rattle.state_lookup.specs.Inner.Table.{Table};
 ghost use Rattle.state_ranges.specs.Inner.Refused.{refused_by};
 ghost use Rattle.state_ranges.specs.Inner.Owners.{Looked};
 ghost use Rattle.state_ranges.specs.Inner.Names.{earlier, Plain, Names};

@@ -13,7 +13,8 @@ use Rattle.laws.specs.Inner.Every.{and_both}
 use Rattle.state_lookup.specs.Links.{index_of, known}
 use Rattle.state_lookup.specs.Inner.Links.{rank, rank_most}
 use Rattle.state_ranges.specs.Named.{owner_by_id, is_owned_by, nothing, first_in, some_in}
-use Rattle.state_ranges.specs.Inner.Laws.{Table, owner_small}
+use Rattle.state_lookup.specs.Inner.Table.{Table}
+use Rattle.state_ranges.specs.Inner.Laws.{owner_small}
 use Rattle.state_ranges.specs.Inner.Refused.{refused_by, good_known, all_good}
 use Rattle.state_ranges.specs.Inner.Owners.{owns_from, or_right}
 use Rattle.state_ranges.proofs.Places.{whole_known, index_between, owned_between}

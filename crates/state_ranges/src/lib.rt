@@ -9,7 +9,7 @@ ghost use Rattle.state_tables.specs.Sound.{ascends, all_under};
 ghost use Rattle.state_lookup.specs.Inner.Links.{rank};
 ghost use Rattle.state_sets.specs.Inner.Bits.{flags_of};
 ghost use Rattle.state_ranges.specs.Named.{is_owned_by, nothing, refusing, first_in, some_in};
-ghost use Rattle.state_ranges.specs.Inner.Laws.{Table};
+ghost use Rattle.state_lookup.specs.Inner.Table.{Table};
 ghost use Rattle.state_ranges.specs.Inner.Refused.{refused_by};
 ghost use Rattle.state_ranges.specs.Inner.Owners.{owns_from, Looked};
 ghost use Rattle.state_ranges.specs.Inner.Names.{earlier, Plain, Names};

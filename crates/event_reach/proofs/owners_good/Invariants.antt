@@ -1,6 +1,6 @@
 use Rattle.event_traffic.specs.Inner.Named.{Owners}
 use Rattle.state_ranges.specs.Named.{is_owned_by}
-use Rattle.state_ranges.specs.Inner.Laws.{Table}
+use Rattle.state_lookup.specs.Inner.Table.{Table}
 use Rattle.state_ranges.specs.Inner.Owners.{Looked}
 use Rattle.state_sets.specs.Inner.Bits.{flags_of}
 use Rattle.codec_wire.specs.Walk.{walk}

@@ -3,7 +3,7 @@ use Rattle.rules_servers.specs.Changed.{column_of}
 use Rattle.state_ranges.specs.Named.{is_refused, is_owned_by}
 use Rattle.state_ranges.specs.Inner.Owners.{Looked}
 use Rattle.state_sets.specs.Inner.Bits.{flags_of}
-use Rattle.state_ranges.specs.Inner.Laws.{Table}
+use Rattle.state_lookup.specs.Inner.Table.{Table}
 use Rattle.codec_wire.specs.Walk.{walk}
 use lib.ListN.{length}
 use mathlib.Core.Path.{◌≡◌}

@@ -15,7 +15,7 @@ use Rattle.state_tables.specs.Sound.{pair}
 use Rattle.state_tables.specs.declared.Gateway.{Gateway}
 use Rattle.state_sets.specs.Inner.Bits.{flags_of}
 use Rattle.rules_servers.specs.Changed.{column_of}
-use Rattle.state_ranges.specs.Inner.Laws.{Table}
+use Rattle.state_lookup.specs.Inner.Table.{Table}
 use Rattle.state_ranges.specs.Inner.Refused.{refused_by, refused_by_lem}
 use Rattle.state_ranges.specs.Named.{is_refused, is_owned_by, nothing, refused_in, some_of}
 use Rattle.state_ranges.specs.declared.Refused.{Refused}

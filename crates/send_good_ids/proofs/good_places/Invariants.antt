@@ -1,6 +1,6 @@
 use Prim.Native.Nat.{◌≤◌, ◌-◌}
 use Rattle.state_sets.specs.Inner.Bits.{flags_of}
-use Rattle.state_ranges.specs.Inner.Laws.{Table}
+use Rattle.state_lookup.specs.Inner.Table.{Table}
 use Rattle.send_good_ids.specs.Inner.Marks.{Swept, GoodsTo}
 use Rattle.send_good_ids.proofs.good_places.Given as goal
 

@@ -16,7 +16,8 @@ use Rattle.state_tables.specs.Sound.{all_under, is_sound}
 use Rattle.state_tables.specs.Inner.Laws.{counts_within}
 use Rattle.state_tables.specs.declared.Gateway.{Gateway}
 use Rattle.rules_action.specs.Types.{mgmt_error, asp_active_ack, asp_inactive_ack}
-use Rattle.state_ranges.specs.Inner.Laws.{Table, table}
+use Rattle.state_lookup.specs.Inner.Table.{Table}
+use Rattle.state_ranges.specs.Inner.Laws.{table}
 use Rattle.rules_servers.specs.Changed.{column_of}
 use Rattle.rules_servers.specs.Inner.Records.{column_at}
 use Rattle.rules_event.specs.Event.{EventKind, message}

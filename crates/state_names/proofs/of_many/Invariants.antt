@@ -4,7 +4,7 @@ use mathlib.Core.Bool.{false}
 use Rattle.state_index.specs.Inner.Spots.{Spots}
 use Rattle.state_sets.specs.Inner.Bits.{flags_of}
 use Rattle.state_ranges.specs.Named.{entries}
-use Rattle.state_ranges.specs.Inner.Laws.{Table}
+use Rattle.state_lookup.specs.Inner.Table.{Table}
 use Rattle.state_names.specs.Inner.Run.{Sofar}
 use Rattle.state_names.proofs.of_many.Given as goal
 

@@ -3,7 +3,7 @@ use mathlib.Core.Path.{◌≡◌}
 use mathlib.Core.Bool.{true}
 use Rattle.state_sets.specs.Inner.Bits.{flags_of}
 use Rattle.state_ranges.specs.Named.{is_owned_by, first_of, entries, refused_entry}
-use Rattle.state_ranges.specs.Inner.Laws.{Table}
+use Rattle.state_lookup.specs.Inner.Table.{Table}
 use Rattle.state_ranges.specs.Inner.Refused.{refused_by}
 use Rattle.state_ranges.specs.Inner.Owners.{Looked}
 use Rattle.state_ranges.specs.Inner.Names.{earlier}

@@ -2,7 +2,7 @@ use Prim.Native.Nat.{◌≤◌, ◌-◌}
 use mathlib.Core.Path.{◌≡◌}
 use Rattle.state_sets.specs.Inner.Bits.{flags_of}
 use Rattle.state_ranges.specs.Named.{is_owned_by, entries}
-use Rattle.state_ranges.specs.Inner.Laws.{Table}
+use Rattle.state_lookup.specs.Inner.Table.{Table}
 use Rattle.state_ranges.specs.Inner.Owners.{Looked}
 use Rattle.state_names.specs.Inner.Entries.{Flags}
 use Rattle.state_names.proofs.owners_of.Given as goal

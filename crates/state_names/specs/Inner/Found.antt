@@ -15,7 +15,8 @@ use Rattle.state_sets.specs.Inner.Bits.{flags_of}
 use Rattle.state_ranges.specs.declared.Refused.{Refused}
 use Rattle.state_ranges.specs.declared.Named.{Named}
 use Rattle.state_ranges.specs.Named.{is_owned_by, nothing, refusing, first_in, some_in}
-use Rattle.state_ranges.specs.Inner.Laws.{Table, owner_small}
+use Rattle.state_lookup.specs.Inner.Table.{Table}
+use Rattle.state_ranges.specs.Inner.Laws.{owner_small}
 use Rattle.state_ranges.specs.Inner.Refused.{refused_by}
 use Rattle.state_ranges.specs.Inner.Ranks.{rank_here}
 use Rattle.state_ranges.specs.Inner.Alone.{alone_marked, absent_refused, absent_none, present_good, present_refused}

@@ -12,7 +12,7 @@ use Rattle.state_sets.specs.Inner.Bits.{flags_of}
 use Rattle.state_ranges.specs.declared.Refused.{Refused}
 use Rattle.state_ranges.specs.declared.Named.{Named}
 use Rattle.state_ranges.specs.Named.{is_owned_by, first_in, some_in, first_of, start_at, entries, refused_entry, refused_in, some_of}
-use Rattle.state_ranges.specs.Inner.Laws.{Table}
+use Rattle.state_lookup.specs.Inner.Table.{Table}
 use Rattle.state_ranges.specs.Inner.Refused.{refused_by}
 use Rattle.state_ranges.specs.Inner.Ranks.{rank_here}
 use Rattle.state_ranges.specs.Inner.Alone.{alone_marked, present_good}

@@ -2,7 +2,7 @@ use Prim.Native.Nat.{◌≤◌, ◌-◌}
 use mathlib.Core.Path.{◌≡◌}
 use Rattle.state_lookup.specs.Inner.Links.{rank}
 use Rattle.state_sets.specs.Inner.Bits.{flags_of}
-use Rattle.state_ranges.specs.Inner.Laws.{Table}
+use Rattle.state_lookup.specs.Inner.Table.{Table}
 use Rattle.state_ranges.specs.Inner.Refused.{refused_by, Good}
 use Rattle.state_ranges.proofs.first_refused.Given as goal
 

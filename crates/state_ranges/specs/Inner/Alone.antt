@@ -12,7 +12,7 @@ use Rattle.laws.specs.Inner.Every.{and_left, and_right, clash}
 use Rattle.state_lookup.specs.Links.{index_of, known}
 use Rattle.state_lookup.specs.Inner.Links.{rank, index_own, index_not}
 use Rattle.state_ranges.specs.Named.{owner_by_id, is_owned_by, nothing, refusing, first_in, some_in}
-use Rattle.state_ranges.specs.Inner.Laws.{Table}
+use Rattle.state_lookup.specs.Inner.Table.{Table}
 use Rattle.state_ranges.specs.Inner.Refused.{refused_by, refused_here, good_none, good_more, refuses_at, none_refused}
 
 or_none : (u : Bool) → u ≡ (u || false)

@@ -5,13 +5,8 @@ use Rattle.laws.specs.Columns.{number_at}
 use Rattle.state_tables.specs.Sound.{ascends, all_under, is_sound}
 use Rattle.state_tables.specs.Inner.Laws.{parts, links_parts, counts_within}
 use Rattle.state_tables.specs.Inner.Column.{column_all, under_at, under_fewer, under_wider}
+use Rattle.state_lookup.specs.Inner.Table.{Table}
 use Rattle.state_tables.specs.declared.Gateway.{Gateway}
-
--- few, ascending, their owners within the table of pairs
-pub record Table (iid owner : List ℕ) (links : ℕ) : Type 0 where
-  pub few : links ≤ 128
-  pub order : ascends iid links ≡ true
-  pub owned : all_under owner 16 links ≡ true
 
 -- a sound state has it
 pub table : (g : Gateway) → is_sound g ≡ true → Table g.iid g.owner g.links

@@ -16,7 +16,8 @@ use Rattle.state_tables.specs.Sound.{pair}
 use Rattle.state_lookup.specs.Links.{index_of, known}
 use Rattle.state_lookup.specs.Inner.Links.{rank, index_here, index_not}
 use Rattle.state_ranges.specs.Named.{owner_by_id, is_refused, span, nothing, refusing, first_in}
-use Rattle.state_ranges.specs.Inner.Laws.{Table, owner_small}
+use Rattle.state_lookup.specs.Inner.Table.{Table}
+use Rattle.state_ranges.specs.Inner.Laws.{owner_small}
 
 -- x is unknown, or the flag of its AS is not set in mine
 unfoldable pub refused_by : List ℕ → List ℕ → ℕ → List Bool → ℕ → Bool
