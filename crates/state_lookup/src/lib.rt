@@ -12,7 +12,7 @@ ghost use Rattle.state_lookup.specs.Inner.Links.{rank};
 
 mod links;
 
-pub use links::Links;
+pub use links::{Identifiers, Links};
 
 // ---- ASes
 

@@ -1,13 +1,21 @@
 // The links of a sound state, as the columns that are searched.
 
-ghost use Rattle.state_lookup.specs.Inner.Table.{Table};
+ghost use Rattle.std.specs.Prelude.{◌≡◌, ◌≤◌, true};
+ghost use Rattle.state_tables.specs.Sound.{ascends, all_under};
 
-// Which link stands at a place, by its identifier, and which AS owns it; so many places are in use. They
-// ascend by the identifier.
+// The interface identifiers of the links: so many places are in use, and they ascend.
+#[derive(Clone, Copy)]
+pub struct Identifiers<'a> {
+    pub iid: &'a [u32; 128],
+    pub count: usize,
+    ghost few: { count ≤ 128 },
+    ghost order: { ascends iid.now count ≡ true },
+}
+
+// They, and which AS owns each link.
 #[derive(Clone, Copy)]
 pub struct Links<'a> {
-    pub iid: &'a [u32; 128],
+    pub ids: Identifiers<'a>,
     pub owner: &'a [u8; 128],
-    pub count: usize,
-    ghost table: { Table iid.now owner.now count },
+    ghost owned: { all_under owner.now 16 ids.count ≡ true },
 }
