@@ -17,7 +17,7 @@ number FieldError = 18
 number UnexpectedParameter = 19
 number MissingParameter = 22
 
--- what a check gave, as its number: 0 where it found nothing
-abbrev pub code : Result Unit Refusal → ℕ
-code (Ok u) = 0
+-- the number of what a check gave: 0 where it found nothing
+abbrev pub code : {A : Type 0} → Result A Refusal → ℕ
+code (Ok x) = 0
 code (Err r) = number r
