@@ -240,10 +240,7 @@ fn finish(fault: Result<(), Refusal>, musts: u32, c: u8, t: u8, seen: &Seen) -> 
 fn refused_at(s: &[u8], next: usize, r: Refusal) -> Reading
     ensures { result ≡ unreadable ((walk s.now next).code or_else number r) }
 {
-    match codec_wire::walk_code(s, next) {
-        Ok(()) => refused(r),
-        Err(fault) => refused(fault),
-    }
+    refused(codec_wire::walk_code(s, next).err().unwrap_or(r))
 }
 
 // The checks 6 to 8 in one walk, of a message whose row is known.
