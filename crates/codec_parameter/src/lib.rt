@@ -54,16 +54,11 @@ pub struct RowInfo {
 }
 
 // The class is listed.
+#[tactic(auto, unfolding(crate::specs::Table::has_class, crate::specs::Table::table))]
 pub fn class_ok(c: u8) -> bool
     ensures { result ≡ has_class table c }
 {
-    match c {
-        0 => true,
-        3 => true,
-        4 => true,
-        6 => true,
-        _ => false,
-    }
+    matches!(c, 0 | 3 | 4 | 6)
 }
 
 // The row of a type in a class: four bits for each type are its place among the class's rows, 15 for none;
@@ -103,6 +98,7 @@ fn packed_row(uses: u64, musts: u32) -> RowInfo
 }
 
 // A row, packed.
+#[tactic(auto, unfolding(crate::specs::Inner::Slot::info_of))]
 pub fn row_info(row: usize) -> RowInfo
     ensures { result ≡ info_of row }
 {
@@ -128,22 +124,16 @@ pub fn row_info(row: usize) -> RowInfo
 }
 
 // The slot of a tag.
+#[tactic(auto, unfolding(crate::specs::Inner::Slot::slot))]
 pub fn slot_of(t: u16) -> usize
     ensures { (result ≡ slot t) × (result < 32) }
 {
-    if t < 20 {
-        return usize::from(t);
+    match t {
+        0..=19 => usize::from(t),
+        0x301 => 20,
+        0x300..=0x308 => usize::from(t) - 748,
+        _ => NO_SLOT,
     }
-    if t < 0x300 {
-        return NO_SLOT;
-    }
-    if t > 0x308 {
-        return NO_SLOT;
-    }
-    if t == 0x301 {
-        return 20;
-    }
-    usize::from(t) - 748
 }
 
 // How the tag of a slot may stand.
@@ -186,6 +176,7 @@ fn number_of(low: u32, high: u32) -> Limits
 }
 
 // The limits of a tag's value.
+#[tactic(auto, unfolding(crate::specs::Value::limits_of))]
 fn limits_of(t: u16) -> Limits
     ensures { result ≡ limits_of t }
 {
@@ -391,6 +382,7 @@ fn met_at(met: &[bool; 32], k: usize) -> bool
 }
 
 // Each of three packed slots is met.
+#[tactic(auto, unfolding(crate::specs::Inner::Slot::all_asked))]
 pub fn musts_met(musts: u32, met: &[bool; 32]) -> bool
     ensures { result ≡ all_asked musts met.now }
 {
