@@ -210,13 +210,11 @@ fn value_code(t: u16) -> Refusal
 }
 
 // A number in its limits.
+#[tactic(auto, unfolding(crate::specs::Value::word_code))]
 fn word_code(m: Limits, t: u16, n: u32) -> Result<(), Refusal>
     ensures { code result ≡ word_code m t n }
 {
-    if n < m.low {
-        return Err(value_code(t));
-    }
-    if m.high < n {
+    if n < m.low || m.high < n {
         return Err(value_code(t));
     }
     Ok(())
@@ -227,10 +225,7 @@ fn word_code(m: Limits, t: u16, n: u32) -> Result<(), Refusal>
 fn plain_code(m: Limits, t: u16, v: &[u8]) -> Result<(), Refusal>
     ensures { code result ≡ plain_code m t v.now }
 {
-    if v.len() < m.least {
-        return Err(Refusal::FieldError);
-    }
-    if m.most < v.len() {
+    if v.len() < m.least || m.most < v.len() {
         return Err(Refusal::FieldError);
     }
     if !m.word {
@@ -247,32 +242,24 @@ fn plain_code(m: Limits, t: u16, v: &[u8]) -> Result<(), Refusal>
 fn id_code(u: Usage, v: &[u8]) -> Result<(), Refusal>
     ensures { code result ≡ id_code u v.now }
 {
-    if u == Usage::Repeated {
-        if v.len() < 4 {
-            return Err(Refusal::FieldError);
-        }
-        if v.len() % 4 == 0 {
-            Ok(())
-        } else {
-            Err(Refusal::FieldError)
-        }
+    let fits = if u == Usage::Repeated {
+        v.len() >= 4 && v.len() % 4 == 0
     } else {
-        if v.len() == 4 {
-            Ok(())
-        } else {
-            Err(Refusal::FieldError)
-        }
+        v.len() == 4
+    };
+    if fits {
+        Ok(())
+    } else {
+        Err(Refusal::FieldError)
     }
 }
 
 // Ranges of interface identifiers: pairs of a start and a stop.
+#[tactic(auto, unfolding(crate::specs::Value::range_code))]
 fn range_code(v: &[u8]) -> Result<(), Refusal>
     ensures { code result ≡ range_code v.now }
 {
-    if v.len() < 8 {
-        return Err(Refusal::FieldError);
-    }
-    if v.len() % 8 != 0 {
+    if v.len() < 8 || v.len() % 8 != 0 {
         return Err(Refusal::FieldError);
     }
     for k in 0..v.len() / 8 {
@@ -290,13 +277,11 @@ fn range_code(v: &[u8]) -> Result<(), Refusal>
 fn body_code(u: Usage, t: u16, v: &[u8]) -> Result<(), Refusal>
     ensures { code result ≡ body_code u t v.now }
 {
-    if t == INTERFACE_ID {
-        return id_code(u, v);
+    match t {
+        INTERFACE_ID => id_code(u, v),
+        ID_RANGE => range_code(v),
+        _ => plain_code(limits_of(t), t, v),
     }
-    if t == ID_RANGE {
-        return range_code(v);
-    }
-    plain_code(limits_of(t), t, v)
 }
 
 // The refusal of a text identifier (Rule 2.13). u is how identifiers stand in the message.
@@ -306,15 +291,8 @@ fn text_code(u: Usage, first: bool) -> Refusal
 {
     match u {
         Usage::Repeated => Refusal::UnsupportedIdentifier,
-        Usage::Mandatory => {
-            if first {
-                Refusal::UnsupportedIdentifier
-            } else {
-                Refusal::UnexpectedParameter
-            }
-        }
-        Usage::Forbidden => Refusal::UnexpectedParameter,
-        Usage::Optional => Refusal::UnexpectedParameter,
+        Usage::Mandatory if first => Refusal::UnsupportedIdentifier,
+        _ => Refusal::UnexpectedParameter,
     }
 }
 
@@ -323,13 +301,7 @@ fn text_code(u: Usage, first: bool) -> Refusal
 fn once_code(first: bool, again: bool, t: u16) -> Result<(), Refusal>
     ensures { code result ≡ once_code first again t }
 {
-    if again {
-        return Err(Refusal::UnexpectedParameter);
-    }
-    if t == INTERFACE_ID {
-        if first {
-            return Ok(());
-        }
+    if again || (t == INTERFACE_ID && !first) {
         return Err(Refusal::UnexpectedParameter);
     }
     Ok(())
@@ -347,8 +319,7 @@ fn allowed_code(u1: Usage, u: Usage, first: bool, again: bool, t: u16) -> Result
     match u {
         Usage::Forbidden => Err(Refusal::UnexpectedParameter),
         Usage::Repeated => Ok(()),
-        Usage::Optional => once_code(first, again, t),
-        Usage::Mandatory => once_code(first, again, t),
+        Usage::Optional | Usage::Mandatory => once_code(first, again, t),
     }
 }
 
