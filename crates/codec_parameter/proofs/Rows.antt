@@ -3,16 +3,17 @@
 use mathlib.Core.Path.{◌≡◌, refl, sym, ap, ◌∙◌}
 use mathlib.Core.Bool.{Bool, true, false, cond, not, ◌&&◌, ◌||◌, false≢true}
 use mathlib.Core.List.{List, [], ◌∷◌}
-use Prim.Native.Nat.{ℕ, suc, ◌<◌, ◌≤◌}
+use Prim.Native.Nat.{ℕ, suc, ◌+◌, ◌*◌, ◌/◌, ◌%◌, ◌^◌, ◌<◌, ◌≤◌}
+use Rattle.std.specs.Prelude.{Option, Some, None, IfSome}
 use native.Mathlib.Omega.{arith}
 use native.Mathlib.Decide.{dec_lt}
 use lib.ListN.{length}
 use lib.Dec.{ltb, eqb}
-use borrow.Author.Tests.{eqb-true, ltb-true, lt-ltb, ne_eqb}
+use borrow.Author.Tests.{eqb-true, ltb-true, lt-ltb, eq-eqb, ne_eqb}
 use Rattle.laws.specs.Below.{all_below}
 use Rattle.laws.specs.Inner.Below.{all_at, both_true}
 use Rattle.codec_parameter.specs.Table.{Row, table, among, has_class, row_in}
-use Rattle.codec_parameter.specs.Inner.Slot.{row_bits}
+use Rattle.codec_parameter.specs.Inner.Slot.{row_bits, row_or_none, listed}
 
 -- each number is below n
 below : ℕ → List ℕ → Bool
@@ -99,9 +100,26 @@ row_right c t hc hl = go (dec_lt t 16)
     go (yes h) = eqb-true _ _ (implied (has_class table c) _ (all_at (right c) 16 (all_at (λ x. all_below (right x) 16) 7 all_right c hc) t h) hl)
     go (no n) = far_bits (packed c) (base c) t (omega arith) ∙ sym (no_type c t (λ h. omega arith) (omega arith))
 
+-- no place in a packed row is that of no row
+apart : ℕ → ℕ → Bool
+apart c t = not (ltb (packed c / 2 ^ (4 * t) % 16) 15 && eqb (base c + packed c / 2 ^ (4 * t) % 16) 17)
+
+all_apart : all_below (λ c. all_below (apart c) 16) 7 ≡ true
+unfolding all_below apart packed base
+all_apart = refl
+
+row_apart : (c t : ℕ) → c < 7 → t ≤ 15 → packed c / 2 ^ (4 * t) % 16 < 15 → base c + packed c / 2 ^ (4 * t) % 16 ≡ 17 → ⊥
+unfolding apart
+row_apart c t hc ht l e = false≢true (sym (simp (lt-ltb _ 15 l, eq-eqb _ 17 e)) ∙ all_at (apart c) 16 (all_at (λ x. all_below (apart x) 16) 7 all_apart c hc) t (omega arith))
+
 -- what the code finds in the packed row of the class k is the row of c, which is k
-pub class_row : (k c t r : ℕ) → r ≡ row_bits (packed k) (base k) t → k < 7 → has_class table k ≡ true → c ≡ k → r ≡ row_in table c t
-class_row k c t r e h l ek = e ∙ row_right k t h l ∙ ap (λ (x : ℕ). row_in table x t) (sym ek)
+pub class_row : (k c t : ℕ) (r : Option ℕ) → row_or_none r ≡ row_bits (packed k) (base k) t → IfSome r (λ i. ((t ≤ 15) × (packed k / 2 ^ (4 * t) % 16 < 15)) × (i ≡ base k + packed k / 2 ^ (4 * t) % 16))
+    → k < 7 → has_class table k ≡ true → c ≡ k → r ≡ listed (row_in table c t)
+class_row k c t r e p h l ek = go r (e ∙ row_right k t h l ∙ ap (λ (x : ℕ). row_in table x t) (sym ek)) p
+  where
+    go : (r : Option ℕ) → row_or_none r ≡ row_in table c t → IfSome r (λ i. ((t ≤ 15) × (packed k / 2 ^ (4 * t) % 16 < 15)) × (i ≡ base k + packed k / 2 ^ (4 * t) % 16)) → r ≡ listed (row_in table c t)
+    go None q p = ap listed q
+    go (Some i) q p = sym (ap (λ (b : Bool). cond b None (Some i)) (ne_eqb i 17 (λ z. row_apart k t h p.0.0 p.0.1 (sym p.1 ∙ z)))) ∙ ap listed q
 
 -- a class that is not listed has no row
 pub unlisted : (rs : List Row) (c t : ℕ) → has_class rs c ≡ false → row_in rs c t ≡ length rs
@@ -112,6 +130,11 @@ unlisted (r ∷ rs) c t h = go (eqb c r.class) h (unlisted rs c t)
     go : (b : Bool) → (b || has_class rs c) ≡ false → (has_class rs c ≡ false → row_in rs c t ≡ length rs) → cond (b && among t r.types) 0 (suc (row_in rs c t)) ≡ suc (length rs)
     go true e ih = absurd (false≢true (sym e))
     go false e ih = ap suc (ih e)
+
+-- so the code finds none
+pub no_row : (c t : ℕ) → has_class table c ≡ false → None ≡ listed (row_in table c t)
+unfolding table
+no_row c t h = ap listed (sym (unlisted table c t h))
 
 -- a row's index is at most the number of rows
 pub row_most : (rs : List Row) (c t : ℕ) → row_in rs c t ≤ length rs

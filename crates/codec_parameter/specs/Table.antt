@@ -1,13 +1,9 @@
 -- The table of message types (Rule 2.10): which parameters a message has.
 -- Assumes nothing.
 use Rattle.std.specs.Prelude.{ℕ, zero, suc, Bool, true, false, cond, ◌&&◌, ◌||◌, List, [], ◌∷◌, eqb}
-
 -- how a tag stands in a message: not at all; once at most; exactly once; as often as one likes (Rule 2.11)
-pub data Usage : Type 0 where
-  forbidden : Usage
-  optional : Usage
-  mandatory : Usage
-  repeated : Usage
+pub use Rattle.codec_parameter.specs.declared.Usage.{Usage}
+pub use Rattle.codec_parameter.specs.declared.Usage.TheVariants.{Forbidden as forbidden, Optional as optional, Mandatory as mandatory, Repeated as repeated}
 
 abbrev pub is_mandatory : Usage → Bool
 is_mandatory forbidden = false

@@ -1,17 +1,15 @@
 // One parameter of a message: how its tag may stand in a message, and its length and value.
 #![tactic(auto)]
 
-ghost use Rattle.std.specs.Prelude.{◌≡◌, ◌+◌, ◌≤◌, ◌<◌, length};
-ghost use Rattle.laws.specs.Choice.{◌or_else◌};
+ghost use Rattle.std.specs.Prelude.{◌≡◌, ◌+◌, ◌*◌, ◌/◌, ◌%◌, ◌^◌, ◌≤◌, ◌<◌, length, IfSome};
 ghost use Rattle.codec_wire.specs.Number.{be};
+ghost use Rattle.codec_wire.specs.Refusal.{number, code};
 ghost use Rattle.codec_parameter.specs.Table.{table, has_class, row_in};
 ghost use Rattle.codec_parameter.specs.Value.{bytes_of, number_of, limits_of, plain_code, word_code, value_code, id_code, range_code, body_code};
-ghost use Rattle.codec_parameter.specs.Inner.Slot.{slot, info, info_of, row_bits, use_bits, usage_of, packed_use, asked, all_asked};
-ghost use Rattle.codec_parameter.specs.Check.{text_code, allowed_code, par_code};
+ghost use Rattle.codec_parameter.specs.Inner.Slot.{slot, info, info_of, row_bits, packed_use, asked, all_asked, row_or_none, listed};
+ghost use Rattle.codec_parameter.specs.Check.{text_code, once_code, allowed_code, par_code};
 
-use codec_wire::{
-    FIELD_ERROR, INVALID_VALUE, UNEXPECTED_PARAMETER, UNSUPPORTED_IDENTIFIER, UNSUPPORTED_MODE,
-};
+use codec_wire::Refusal;
 
 // Tags that the checks ask for.
 const INTERFACE_ID: u16 = 0x1;
@@ -22,19 +20,22 @@ const ID_RANGE: u16 = 0x8;
 
 const TRAFFIC_MODE: u16 = 0xb;
 
-// How a tag stands in the messages of a row, as two bits; 1 stands for an optional tag.
-const FORBIDDEN: u64 = 0;
-
-const MANDATORY: u64 = 2;
-
-const REPEATED: u64 = 3;
-
-// The index that stands for no row.
-pub const NO_ROW: usize = 17;
 // The slot of every tag that no message has.
+// Kept: the reader's and the writer's tables have a place for it, so that a tag is looked up without a branch.
 const NO_SLOT: usize = 31;
 
+// How a tag stands in a message: not at all; once at most; exactly once; as often as one likes (Rule 2.11).
+// The two bits of a packed row are its place in this list.
+#[derive(Clone, Copy, PartialEq, Eq, Debug)]
+pub enum Usage {
+    Forbidden,
+    Optional,
+    Mandatory,
+    Repeated,
+}
+
 // How long a value may be, and, of one that is a number, what it may be.
+// Kept: the definition limits_of (specs/Value.antt), which readers believe, has these fields.
 #[derive(Drop)]
 pub struct Limits {
     pub least: usize,
@@ -67,30 +68,31 @@ pub fn class_ok(c: u8) -> bool
 
 // The row of a type in a class: four bits for each type are its place among the class's rows, 15 for none;
 // base is the class's first row.
-fn row_in(rows: u64, base: usize, t: u8) -> usize
+fn row_in(rows: u64, base: usize, t: u8) -> Option<usize>
     requires { base < 17 }
-    ensures { result ≡ row_bits rows base t }
+    ensures row { row_or_none result ≡ row_bits rows base t }
+    ensures place { IfSome result (λ i. ((t ≤ 15) × (rows / 2 ^ (4 * t) % 16 < 15)) × (i ≡ base + rows / 2 ^ (4 * t) % 16)) }
 {
     if 15 < t {
-        return NO_ROW;
+        return None;
     }
-    let place = ((rows >> (4 * t as u64)) % 16) as usize;
+    let place = ((rows >> (4 * u64::from(t))) % 16) as usize;
     if place == 15 {
-        return NO_ROW;
+        return None;
     }
-    base + place
+    Some(base + place)
 }
 
 // The row of a class and type.
-pub fn row_of(c: u8, t: u8) -> usize
-    ensures { result ≡ row_in table c t }
+pub fn row_of(c: u8, t: u8) -> Option<usize>
+    ensures { result ≡ listed (row_in table c t) }
 {
     match c {
         0 => row_in(0xffffffffffffff10, 0, t),
         3 => row_in(0xfffffffff211210f, 2, t),
         4 => row_in(0xfffffffffff1010f, 5, t),
         6 => row_in(0x987654322111110f, 7, t),
-        _ => NO_ROW,
+        _ => None,
     }
 }
 
@@ -130,7 +132,7 @@ pub fn slot_of(t: u16) -> usize
     ensures { (result ≡ slot t) × (result < 32) }
 {
     if t < 20 {
-        return t as usize;
+        return usize::from(t);
     }
     if t < 0x300 {
         return NO_SLOT;
@@ -141,15 +143,21 @@ pub fn slot_of(t: u16) -> usize
     if t == 0x301 {
         return 20;
     }
-    (t as usize) - 748
+    usize::from(t) - 748
 }
 
 // How the tag of a slot may stand.
-fn use_at(uses: u64, k: usize) -> u64
+#[tactic(auto, unfolding(crate::specs::Inner::Slot::usage_of))]
+fn use_at(uses: u64, k: usize) -> Usage
     requires { k < 32 }
-    ensures { result ≡ use_bits uses k }
+    ensures { result ≡ packed_use uses k }
 {
-    (uses >> (2 * k)) % 4
+    match (uses >> (2 * k)) % 4 {
+        0 => Usage::Forbidden,
+        2 => Usage::Mandatory,
+        3 => Usage::Repeated,
+        _ => Usage::Optional,
+    }
 }
 
 fn bytes_of(least: usize, most: usize) -> Limits
@@ -200,101 +208,96 @@ fn limits_of(t: u16) -> Limits
 }
 
 // The refusal of a value that is out of its limits.
-fn value_code(t: u16) -> u32
-    ensures { result ≡ value_code t }
+fn value_code(t: u16) -> Refusal
+    ensures { number result ≡ value_code t }
 {
     if t == TRAFFIC_MODE {
-        UNSUPPORTED_MODE
+        Refusal::UnsupportedMode
     } else {
-        INVALID_VALUE
+        Refusal::InvalidValue
     }
 }
 
-// A number in its limits: 0, or the refusal.
-fn word_code(m: Limits, t: u16, n: u32) -> u32
-    ensures { result ≡ word_code m t n }
+// A number in its limits.
+fn word_code(m: Limits, t: u16, n: u32) -> Result<(), Refusal>
+    ensures { code result ≡ word_code m t n }
 {
     if n < m.low {
-        return value_code(t);
+        return Err(value_code(t));
     }
     if m.high < n {
-        return value_code(t);
+        return Err(value_code(t));
     }
-    0
+    Ok(())
 }
 
-fn word_at(m: Limits, t: u16, v: &[u8]) -> u32
-    requires { 4 ≤ length v.now }
-    ensures { result ≡ word_code m t (be 4 v.now 0) }
+// A value in its limits.
+#[tactic(auto, unfolding(crate::specs::Value::plain_code))]
+fn plain_code(m: Limits, t: u16, v: &[u8]) -> Result<(), Refusal>
+    ensures { code result ≡ plain_code m t v.now }
 {
+    if v.len() < m.least {
+        return Err(Refusal::FieldError);
+    }
+    if m.most < v.len() {
+        return Err(Refusal::FieldError);
+    }
+    if !m.word {
+        return Ok(());
+    }
+    if v.len() < 4 {
+        return Err(Refusal::FieldError);
+    }
     word_code(m, t, codec_wire::get32(v, 0))
 }
 
-// A value in its limits: 0, or the refusal.
-fn plain_code(m: Limits, t: u16, v: &[u8]) -> u32
-    ensures { result ≡ plain_code m t v.now }
-{
-    if v.len() < m.least {
-        return FIELD_ERROR;
-    }
-    if m.most < v.len() {
-        return FIELD_ERROR;
-    }
-    if !m.word {
-        return 0;
-    }
-    if v.len() < 4 {
-        return FIELD_ERROR;
-    }
-    word_at(m, t, v)
-}
-
-fn plain_of(t: u16, v: &[u8]) -> u32
-    ensures { result ≡ plain_code (limits_of t) t v.now }
-{
-    plain_code(limits_of(t), t, v)
-}
-
 // Interface identifiers: one in a link message, else one or more (Rules 2.11 and 2.12).
-fn id_code(u: u64, v: &[u8]) -> u32
-    ensures { result ≡ id_code (usage_of u) v.now }
+#[tactic(auto, unfolding(crate::specs::Value::id_code))]
+fn id_code(u: Usage, v: &[u8]) -> Result<(), Refusal>
+    ensures { code result ≡ id_code u v.now }
 {
-    if u == REPEATED {
+    if u == Usage::Repeated {
         if v.len() < 4 {
-            return FIELD_ERROR;
+            return Err(Refusal::FieldError);
         }
-        if v.len() % 4 == 0 { 0 } else { FIELD_ERROR }
+        if v.len() % 4 == 0 {
+            Ok(())
+        } else {
+            Err(Refusal::FieldError)
+        }
     } else {
-        if v.len() == 4 { 0 } else { FIELD_ERROR }
+        if v.len() == 4 {
+            Ok(())
+        } else {
+            Err(Refusal::FieldError)
+        }
     }
 }
 
 // Ranges of interface identifiers: pairs of a start and a stop.
-fn range_code(v: &[u8]) -> u32
-    ensures { result ≡ range_code v.now }
+fn range_code(v: &[u8]) -> Result<(), Refusal>
+    ensures { code result ≡ range_code v.now }
 {
     if v.len() < 8 {
-        return FIELD_ERROR;
+        return Err(Refusal::FieldError);
     }
     if v.len() % 8 != 0 {
-        return FIELD_ERROR;
+        return Err(Refusal::FieldError);
     }
-    let n = v.len() / 8;
-    let mut k: usize = 0;
-    while k < n {
+    for k in 0..v.len() / 8 {
         let start = codec_wire::get32(v, k * 8);
         let stop = codec_wire::get32(v, k * 8 + 4);
         if stop < start {
-            return INVALID_VALUE;
+            return Err(Refusal::InvalidValue);
         }
-        k += 1;
     }
-    0
+    Ok(())
 }
 
 // The length and value of a tag that may stand as u says.
-fn body_code(u: u64, t: u16, v: &[u8]) -> u32
-    ensures { result ≡ body_code (usage_of u) t v.now }
+#[tactic(auto, unfolding(crate::specs::Value::body_code))]
+fn body_code(u: Usage, t: u16, v: &[u8]) -> Result<(), Refusal>
+    ensures { code result ≡ body_code u t v.now }
 {
     if t == INTERFACE_ID {
         return id_code(u, v);
@@ -302,69 +305,78 @@ fn body_code(u: u64, t: u16, v: &[u8]) -> u32
     if t == ID_RANGE {
         return range_code(v);
     }
-    plain_of(t, v)
+    plain_code(limits_of(t), t, v)
 }
 
-// A text identifier, refused (Rule 2.13). u is how identifiers stand in the message.
-fn text_code(u: u64, first: bool) -> u32
-    ensures { result ≡ text_code (usage_of u) first }
+// The refusal of a text identifier (Rule 2.13). u is how identifiers stand in the message.
+#[tactic(auto, unfolding(crate::specs::Check::text_code))]
+fn text_code(u: Usage, first: bool) -> Refusal
+    ensures { number result ≡ text_code u first }
 {
-    if u == REPEATED {
-        return UNSUPPORTED_IDENTIFIER;
-    }
-    if u == MANDATORY {
-        if first {
-            return UNSUPPORTED_IDENTIFIER;
+    match u {
+        Usage::Repeated => Refusal::UnsupportedIdentifier,
+        Usage::Mandatory => {
+            if first {
+                Refusal::UnsupportedIdentifier
+            } else {
+                Refusal::UnexpectedParameter
+            }
         }
-        return UNEXPECTED_PARAMETER;
+        Usage::Forbidden => Refusal::UnexpectedParameter,
+        Usage::Optional => Refusal::UnexpectedParameter,
     }
-    UNEXPECTED_PARAMETER
+}
+
+// A tag that comes once: not seen before, and an interface identifier as the first parameter alone (Rules
+// 2.12 and 2.14).
+fn once_code(first: bool, again: bool, t: u16) -> Result<(), Refusal>
+    ensures { code result ≡ once_code first again t }
+{
+    if again {
+        return Err(Refusal::UnexpectedParameter);
+    }
+    if t == INTERFACE_ID {
+        if first {
+            return Ok(());
+        }
+        return Err(Refusal::UnexpectedParameter);
+    }
+    Ok(())
 }
 
 // May a parameter stand there (Rules 2.12 to 2.14)? u1 is how identifiers stand in the message, u how this
 // tag does.
-fn allowed_code(u1: u64, u: u64, first: bool, again: bool, t: u16) -> u32
-    ensures { result ≡ allowed_code (usage_of u1) (usage_of u) first again t }
+#[tactic(auto, unfolding(crate::specs::Check::allowed_code))]
+fn allowed_code(u1: Usage, u: Usage, first: bool, again: bool, t: u16) -> Result<(), Refusal>
+    ensures { code result ≡ allowed_code u1 u first again t }
 {
     if t == TEXT_ID {
-        return text_code(u1, first);
+        return Err(text_code(u1, first));
     }
-    if u == FORBIDDEN {
-        return UNEXPECTED_PARAMETER;
+    match u {
+        Usage::Forbidden => Err(Refusal::UnexpectedParameter),
+        Usage::Repeated => Ok(()),
+        Usage::Optional => once_code(first, again, t),
+        Usage::Mandatory => once_code(first, again, t),
     }
-    if u == REPEATED {
-        return 0;
-    }
-    if again {
-        return UNEXPECTED_PARAMETER;
-    }
-    if t == INTERFACE_ID {
-        if first {
-            return 0;
-        }
-        return UNEXPECTED_PARAMETER;
-    }
-    0
-}
-
-// A parameter that may stand there or not, and then its length and value.
-fn par_code(allowed: u32, u: u64, t: u16, v: &[u8]) -> u32
-    ensures { result ≡ allowed or_else body_code (usage_of u) t v.now }
-{
-    if allowed == 0 {
-        return body_code(u, t, v);
-    }
-    allowed
 }
 
 // One parameter of a message of a row whose uses are packed: the first or not, its tag seen before or not,
-// its slot, tag and value.
-pub fn par_at(uses: u64, first: bool, again: bool, k: usize, t: u16, v: &[u8]) -> u32
+// its slot, tag and value. It may stand there or not, and then its length and value count.
+pub fn par_at(
+    uses: u64,
+    first: bool,
+    again: bool,
+    k: usize,
+    t: u16,
+    v: &[u8],
+) -> Result<(), Refusal>
     requires { k < 32 }
-    ensures { result ≡ par_code (packed_use uses 1) (packed_use uses k) first again t v.now }
+    ensures { code result ≡ par_code (packed_use uses 1) (packed_use uses k) first again t v.now }
 {
     let u = use_at(uses, k);
-    par_code(allowed_code(use_at(uses, 1), u, first, again, t), u, t, v)
+    allowed_code(use_at(uses, 1), u, first, again, t)?;
+    body_code(u, t, v)
 }
 
 // A slot is met; 0 stands for no slot.

@@ -3,6 +3,7 @@
 
 ghost use Rattle.std.specs.Prelude.{◌≡◌, ◌+◌, ◌≤◌, length};
 ghost use Rattle.codec_wire.specs.Number.{be};
+ghost use Rattle.codec_wire.specs.Refusal.{number, code};
 ghost use Rattle.codec_wire.specs.Walk.{step_at, step_code, walk, part_of};
 
 // The bytes of a message's header; the first parameter stands behind them.
@@ -11,25 +12,38 @@ pub const HEADER: usize = 8;
 pub const MOST: usize = 2048;
 
 // Why a message is refused: RFC 3331's error codes.
-pub const INVALID_VERSION: u32 = 1;
+#[derive(Clone, Copy, PartialEq, Eq, Debug)]
+pub enum Refusal {
+    InvalidVersion,
+    UnsupportedClass,
+    UnsupportedType,
+    UnsupportedMode,
+    ProtocolError,
+    UnsupportedIdentifier,
+    InvalidValue,
+    FieldError,
+    UnexpectedParameter,
+    MissingParameter,
+}
 
-pub const UNSUPPORTED_CLASS: u32 = 3;
-
-pub const UNSUPPORTED_TYPE: u32 = 4;
-
-pub const UNSUPPORTED_MODE: u32 = 5;
-
-pub const PROTOCOL_ERROR: u32 = 7;
-
-pub const UNSUPPORTED_IDENTIFIER: u32 = 8;
-
-pub const INVALID_VALUE: u32 = 17;
-
-pub const FIELD_ERROR: u32 = 18;
-
-pub const UNEXPECTED_PARAMETER: u32 = 19;
-
-pub const MISSING_PARAMETER: u32 = 22;
+impl From<Refusal> for u32 {
+    fn from(r: Refusal) -> u32
+        ensures { result ≡ number r }
+    {
+        match r {
+            Refusal::InvalidVersion => 1,
+            Refusal::UnsupportedClass => 3,
+            Refusal::UnsupportedType => 4,
+            Refusal::UnsupportedMode => 5,
+            Refusal::ProtocolError => 7,
+            Refusal::UnsupportedIdentifier => 8,
+            Refusal::InvalidValue => 17,
+            Refusal::FieldError => 18,
+            Refusal::UnexpectedParameter => 19,
+            Refusal::MissingParameter => 22,
+        }
+    }
+}
 
 // What stands at a position of a message: a parameter with the position after its padding, the end, or a
 // fault.
@@ -45,7 +59,7 @@ pub fn get16(s: &[u8], at: usize) -> u16
     requires { at + 2 ≤ length s.now }
     ensures { result ≡ be 2 s.now at }
 {
-    (s[at] as u16) * 256 + s[at + 1] as u16
+    u16::from_be_bytes([s[at], s[at + 1]])
 }
 
 // The 32-bit number at a position.
@@ -53,7 +67,7 @@ pub fn get32(s: &[u8], at: usize) -> u32
     requires { at + 4 ≤ length s.now }
     ensures { result ≡ be 4 s.now at }
 {
-    (get16(s, at) as u32) * 65536 + get16(s, at + 2) as u32
+    u32::from_be_bytes([s[at], s[at + 1], s[at + 2], s[at + 3]])
 }
 
 // What stands at a position.
@@ -72,7 +86,7 @@ pub fn step_at(s: &[u8], at: usize) -> Step
     if len < 4 {
         return Step::Fault;
     }
-    let size = ((len as usize) + 3) / 4 * 4;
+    let size = (usize::from(len) + 3) / 4 * 4;
     if size <= left {
         Step::Param {
             tag,
@@ -84,24 +98,19 @@ pub fn step_at(s: &[u8], at: usize) -> Step
     }
 }
 
-// The number of a reading: that of a fault, or 0.
-pub fn step_code(w: Step) -> u32
-    ensures { result ≡ step_code w }
+// What a reading refuses: a fault.
+pub fn step_code(w: Step) -> Result<(), Refusal>
+    ensures { code result ≡ step_code w }
 {
     match w {
-        Step::Fault => FIELD_ERROR,
-        Step::End => 0,
-        Step::Param {
-            tag: _,
-            len: _,
-            next: _,
-        } => 0,
+        Step::Fault => Err(Refusal::FieldError),
+        _ => Ok(()),
     }
 }
 
-// The walk from a position on: 0, or the number of the fault that ends it.
-pub fn walk_code(s: &[u8], from: usize) -> u32
-    ensures { result ≡ (walk s.now from).code }
+// The walk from a position on: the fault that ends it is refused.
+pub fn walk_code(s: &[u8], from: usize) -> Result<(), Refusal>
+    ensures { code result ≡ (walk s.now from).code }
 {
     let mut at = from;
     loop {

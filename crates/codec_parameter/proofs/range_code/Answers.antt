@@ -22,7 +22,7 @@ returns-then-v-ne0 c = search choices
 
 pub loop-k-init : goal.loop-k-init
 unfolding all_below
-loop-k-init c = (omega arith, refl)
+loop-k-init c = refl
 
 pub returns-then-stop-start : goal.returns-then-stop-start
 unfolding range_code
@@ -30,8 +30,8 @@ returns-then-stop-start c = let v = c.args.v.now in let k = c.loop-k.k in let e 
 
 pub loop-k-preserved : goal.loop-k-preserved
 unfolding range_code
-loop-k-preserved c = let v = c.args.v.now in let k = c.loop-k.k in (omega arith, all_next (ordered v) k c.loop-k.invariant.1 (le-leb (be 4 v (k * 8)) (be 4 v (k * 8 + 4)) (omega arith)))
+loop-k-preserved c = let v = c.args.v.now in let k = c.loop-k.k in all_next (ordered v) k c.loop-k.invariant (le-leb (be 4 v (k * 8)) (be 4 v (k * 8 + 4)) (omega arith))
 
 pub returns : goal.returns
 unfolding range_code
-returns c = let v = c.args.v.now in let n : c.loop-k.k ≡ length v / 8 = omega arith in let e : all_below (ordered v) (length v / 8) ≡ true = rw n at c.loop-k.invariant.1 in search choices
+returns c = let v = c.args.v.now in let n : c.loop-k.k ≡ length v / 8 = omega arith in let e : all_below (ordered v) (length v / 8) ≡ true = rw n at c.loop-k.invariant in search choices

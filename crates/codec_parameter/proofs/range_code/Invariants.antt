@@ -12,7 +12,4 @@ abbrev pub ordered : List ℕ → ℕ → Bool
 ordered v k = leb (be 4 v (k * 8)) (be 4 v (k * 8 + 4))
 
 abbrev pub invariant-loop-k : goal.invariant-loop-k
-invariant-loop-k l = (l.k ≤ l.n) × (all_below (ordered l.v) l.k ≡ true)
-
-abbrev pub decreases-loop-k : goal.decreases-loop-k
-decreases-loop-k l = l.n - l.k
+invariant-loop-k l = all_below (ordered l.v) l.k ≡ true

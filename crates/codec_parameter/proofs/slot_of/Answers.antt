@@ -5,7 +5,7 @@ use Rattle.codec_parameter.proofs.slot_of.Goals as goal
 
 pub returns-then-t-lt20 : goal.returns-then-t-lt20
 unfolding slot
-returns-then-t-lt20 c = (simp (lt-ltb c.args.t 20 (omega arith)), omega arith)
+returns-then-t-lt20 c = (rw c.from.ensures (simp (lt-ltb c.args.t 20 (omega arith))), omega arith)
 
 pub returns-then-t-lt768 : goal.returns-then-t-lt768
 unfolding slot
@@ -21,4 +21,4 @@ returns-then-t-eq769 c = let t = c.args.t in (simp (le-ltb t 20 (omega arith), l
 
 pub returns : goal.returns
 unfolding slot
-returns c = let t = c.args.t in (simp (le-ltb t 20 (omega arith), le-ltb t 0x300 (omega arith), le-ltb 0x308 t (omega arith), ne_eqb t 0x301 (omega arith)), omega arith)
+returns c = let t = c.args.t in (rw c.from-2.ensures (simp (le-ltb t 20 (omega arith), le-ltb t 0x300 (omega arith), le-ltb 0x308 t (omega arith), ne_eqb t 0x301 (omega arith))), omega arith)

@@ -1,6 +1,6 @@
 -- The reader keeps what it has seen of each tag in a small table; a tag's index there is its slot.
 -- Assumes nothing.
-use Rattle.std.specs.Prelude.{ℕ, ◌+◌, ◌-◌, ◌*◌, ◌/◌, ◌%◌, ◌^◌, get_or, Bool, true, false, cond, ◌&&◌, List, [], ◌∷◌, ltb, eqb}
+use Rattle.std.specs.Prelude.{ℕ, Option, Some, None, ◌+◌, ◌-◌, ◌*◌, ◌/◌, ◌%◌, ◌^◌, get_or, Bool, true, false, cond, ◌&&◌, List, [], ◌∷◌, ltb, eqb}
 use Rattle.codec_parameter.specs.Table.{Usage, forbidden, optional, mandatory, repeated, is_mandatory, Entry}
 use Rattle.codec_parameter.specs.declared.RowInfo.{RowInfo}
 
@@ -66,3 +66,12 @@ all_asked m met = (asked met (m % 32) && asked met (m / 32 % 32)) && asked met (
 -- the row of a type: four bits for each type are its place among the class's rows, 15 for none
 unfoldable pub row_bits : ℕ → ℕ → ℕ → ℕ
 row_bits rows base t = cond (ltb 15 t) 17 (cond (eqb (rows / 2 ^ (4 * t) % 16) 15) 17 (base + rows / 2 ^ (4 * t) % 16))
+
+-- a row's index; 17 stands for no row
+abbrev pub row_or_none : Option ℕ → ℕ
+row_or_none None = 17
+row_or_none (Some i) = i
+
+-- the row at an index, if there is one
+abbrev pub listed : ℕ → Option ℕ
+listed i = cond (eqb i 17) None (Some i)

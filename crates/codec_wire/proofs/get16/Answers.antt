@@ -1,20 +1,8 @@
 use native.Mathlib.Omega.{arith}
-use mathlib.Core.Path.{sym}
-use Prim.Native.Nat.{◌+◌}
-use Rattle.codec_wire.proofs.Number.{be_two}
+use native.Mathlib.Nat.{add-zero}
+use Rattle.codec_wire.specs.Number.{be}
 use Rattle.codec_wire.proofs.get16.Goals as goal
 
-pub overflow_cast-result : goal.overflow_cast-result
-overflow_cast-result c = omega (arith, c.type_inv.s c.args.at)
-
-pub overflow_mul-result : goal.overflow_mul-result
-overflow_mul-result c = omega (arith, c.type_inv.s c.args.at)
-
-pub overflow_cast-result-2 : goal.overflow_cast-result-2
-overflow_cast-result-2 c = omega (arith, c.type_inv.s (c.args.at + 1))
-
-pub overflow_add-result-2 : goal.overflow_add-result-2
-overflow_add-result-2 c = omega (arith, c.type_inv.s c.args.at, c.type_inv.s (c.args.at + 1))
-
 pub returns : goal.returns
-returns c = sym (be_two _ _)
+unfolding be
+returns c = rw add-zero (omega (arith, c.from_be_bytes.ensures))

@@ -1,6 +1,8 @@
 use native.Mathlib.Omega.{arith}
-use Rattle.codec_wire.proofs.Number.{be_four}
+use native.Mathlib.Nat.{add-zero}
+use Rattle.codec_wire.specs.Number.{be}
 use Rattle.codec_wire.proofs.get32.Goals as goal
 
 pub returns : goal.returns
-returns c = omega (arith, be_four c.args.s.now c.args.at)
+unfolding be
+returns c = rw add-zero (omega (arith, c.from_be_bytes.ensures))

@@ -13,7 +13,7 @@ pub returns-then-len-lt4 : goal.returns-then-len-lt4
 returns-then-len-lt4 c = sym (step_low _ _ (omega arith) (omega arith))
 
 pub returns-then-size-left : goal.returns-then-size-left
-returns-then-size-left c = sym (step_param _ _ _ _ (omega arith) (omega arith) (omega arith) (omega arith) (omega arith))
+returns-then-size-left c = rw c.from.ensures (sym (step_param _ _ _ _ (omega arith) (omega arith) (omega arith) (omega arith) (omega arith)))
 
 pub returns-else-size-left : goal.returns-else-size-left
 returns-else-size-left c = sym (step_over _ _ (omega arith) (omega arith) (omega arith))
