@@ -9,24 +9,26 @@ use lib.Dec.{eqb}
 use borrow.Author.Tests.{eqb-true}
 use Rattle.laws.specs.Below.{all_below}
 use Rattle.laws.specs.Inner.Below.{all_at, both_true}
-use Rattle.codec_parameter.specs.Table.{Usage, forbidden, optional, mandatory, repeated, is_mandatory, Entry, table, entries_in, use_in, usage}
+use Rattle.codec_parameter.specs.Table.{is_mandatory, Entry, table, entries_in, use_in, usage}
+use Rattle.codec_parameter.specs.declared.Usage.{Usage}
+use Rattle.codec_parameter.specs.declared.Usage.TheVariants.{Forbidden, Optional, Mandatory, Repeated}
 use Rattle.codec_parameter.specs.Inner.Slot.{slot, tag_at, info_of, use_bits, usage_of, packed_use, asked, all_asked, all_met}
 
 -- ---- how tags stand
 
 -- the number that a usage is packed as
 number : Usage → ℕ
-number forbidden = 0
-number optional = 1
-number mandatory = 2
-number repeated = 3
+number Forbidden = 0
+number Optional = 1
+number Mandatory = 2
+number Repeated = 3
 
 number_is : (u : Usage) → usage_of (number u) ≡ u
 unfolding usage_of number
-number_is forbidden = refl
-number_is optional = refl
-number_is mandatory = refl
-number_is repeated = refl
+number_is Forbidden = refl
+number_is Optional = refl
+number_is Mandatory = refl
+number_is Repeated = refl
 
 bits : ℕ → ℕ → Bool
 bits row k = eqb (use_bits (info_of row).uses k) (number (usage row (tag_at k)))

@@ -1,4 +1,3 @@
 pub mod Slots
 pub mod Rows
 pub mod Info
-pub mod Uses

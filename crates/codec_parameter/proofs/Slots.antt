@@ -9,7 +9,8 @@ use native.Mathlib.Decide.{dec_lt, ℕ_discrete}
 use lib.Dec.{ltb, leb, eqb}
 use borrow.Author.Tests.{lt-ltb, le-ltb, eq-eqb, ne_eqb, le-leb, lt-leb}
 use Rattle.laws.specs.Inner.Below.{both_true}
-use Rattle.codec_parameter.specs.Table.{Entry, Row, table, key, use_in, usage, entries_in, forbidden}
+use Rattle.codec_parameter.specs.Table.{Entry, Row, table, key, use_in, usage, entries_in}
+use Rattle.codec_parameter.specs.declared.Usage.TheVariants.{Forbidden}
 use Rattle.codec_parameter.specs.Inner.Slot.{slot, tag_at}
 
 -- where a tag lies: among the low ones, among the high ones, at 0x301, or beyond what any message has
@@ -48,9 +49,24 @@ slot_above : (t : ℕ) → 0x309 ≤ t → slot t ≡ 31
 unfolding slot
 slot_above t h = rw (le-ltb t 20 (omega arith), le-ltb t 0x300 (omega arith), lt-ltb 0x308 t (omega arith))
 
+twin_most : slot 0x301 < 32
+unfolding slot
+twin_most = omega arith
+
 slot_twin : slot 0x301 ≡ slot 0x300
 unfolding slot
 slot_twin = refl
+
+-- every tag has a slot
+pub slot_most : (t : ℕ) → slot t < 32
+slot_most t = go (lies t)
+  where
+    go : Lies t → slot t < 32
+    go (low a) = let e = slot_low t a in omega arith
+    go (high a b n) = let e = slot_high t a b n in omega arith
+    go (twin e) = rw e twin_most
+    go (between a b) = let e = slot_between t a b in omega arith
+    go (above a) = let e = slot_above t a in omega arith
 
 key_other : (t : ℕ) → (t ≡ 0x301 → ⊥) → key t ≡ t
 key_other t n = rw (ne_eqb t 0x301 n)
@@ -144,7 +160,7 @@ entries_near (r ∷ rs) (suc i) h = entries_near rs i (both_true (all_near r.ent
 pub row_near : (i : ℕ) → all_near (entries_in table i) ≡ true
 row_near i = entries_near table i table_near
 
-far : (es : List Entry) (t : ℕ) → all_near es ≡ true → near t ≡ false → use_in es t ≡ forbidden
+far : (es : List Entry) (t : ℕ) → all_near es ≡ true → near t ≡ false → use_in es t ≡ Forbidden
 unfolding use_in near all_near
 far [] t h n = refl
 far (e ∷ es) t h n =
@@ -154,7 +170,7 @@ far (e ∷ es) t h n =
     rw d (far es t b.1 n)
 
 -- no message has such a tag
-pub usage_far : (i t : ℕ) → near t ≡ false → usage i t ≡ forbidden
+pub usage_far : (i t : ℕ) → near t ≡ false → usage i t ≡ Forbidden
 unfolding usage
 usage_far i t n = far (entries_in table i) t (row_near i) n
 

@@ -2,16 +2,17 @@
 -- Assumes nothing.
 use Rattle.std.specs.Prelude.{ℕ, Bool, cond, List, eqb}
 use Rattle.laws.specs.Choice.{◌or_else◌}
-use Rattle.codec_parameter.specs.Table.{Usage, forbidden, optional, mandatory, repeated}
+use Rattle.codec_parameter.specs.declared.Usage.{Usage}
+use Rattle.codec_parameter.specs.declared.Usage.TheVariants.{Forbidden, Optional, Mandatory, Repeated}
 use Rattle.codec_parameter.specs.Value.{body_code}
 
 -- a text identifier (Rule 2.13), where identifiers stand in the message as said: among ids 8; in class 6, 8
 -- at the first place alone; else 19
 unfoldable pub text_code : Usage → Bool → ℕ
-text_code forbidden first = 19
-text_code optional first = 19
-text_code mandatory first = cond first 8 19
-text_code repeated first = 8
+text_code Forbidden first = 19
+text_code Optional first = 19
+text_code Mandatory first = cond first 8 19
+text_code Repeated first = 8
 
 -- a tag that comes once (Rule 2.14): `again` says that it was there before. 0x1 only as the first parameter
 -- (Rule 2.12)
@@ -20,10 +21,10 @@ once_code first again t = cond again 19 (cond (eqb t 0x1) (cond first 0 19) 0)
 
 -- a tag that the row has as said
 abbrev pub tag_code : Usage → Bool → Bool → ℕ → ℕ
-tag_code forbidden first again t = 19
-tag_code optional first again t = once_code first again t
-tag_code mandatory first again t = once_code first again t
-tag_code repeated first again t = 0
+tag_code Forbidden first again t = 19
+tag_code Optional first again t = once_code first again t
+tag_code Mandatory first again t = once_code first again t
+tag_code Repeated first again t = 0
 
 -- may it stand there? The row has 0x1 as u₁ says, and this tag as u says.
 unfoldable pub allowed_code : Usage → Usage → Bool → Bool → ℕ → ℕ

@@ -3,7 +3,8 @@
 use Rattle.std.specs.Prelude.{ℕ, ◌+◌, ◌-◌, ◌*◌, ◌/◌, ◌%◌, true, false, cond, not, List, length, ltb, leb, eqb}
 use Rattle.laws.specs.Below.{all_below}
 use Rattle.codec_wire.specs.Number.{be}
-use Rattle.codec_parameter.specs.Table.{Usage, forbidden, optional, mandatory, repeated}
+use Rattle.codec_parameter.specs.declared.Usage.{Usage}
+use Rattle.codec_parameter.specs.declared.Usage.TheVariants.{Forbidden, Optional, Mandatory, Repeated}
 use Rattle.codec_parameter.specs.declared.Limits.{Limits}
 
 -- The lengths are those of the length field, which counts tag and length too; the limits are those of the
@@ -56,10 +57,10 @@ one_id v = cond (eqb (length v) 4) 0 18
 
 -- 0x1, which stands in the message as said; among ids it has one identifier or more (Rule 2.11)
 unfoldable pub id_code : Usage → List ℕ → ℕ
-id_code forbidden v = one_id v
-id_code optional v = one_id v
-id_code mandatory v = one_id v
-id_code repeated v = cond (ltb (length v) 4) 18 (cond (eqb (length v % 4) 0) 0 18)
+id_code Forbidden v = one_id v
+id_code Optional v = one_id v
+id_code Mandatory v = one_id v
+id_code Repeated v = cond (ltb (length v) 4) 18 (cond (eqb (length v % 4) 0) 0 18)
 
 -- 0x8: one or more pairs, none of which stops below its start (Rules 2.11, 2.16)
 unfoldable pub range_code : List ℕ → ℕ

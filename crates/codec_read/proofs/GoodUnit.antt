@@ -11,7 +11,9 @@ use lib.Dec.{ltb, eqb}
 use borrow.Author.Tests.{ltb-false, eqb-true, eq-eqb, not-false}
 use Rattle.laws.specs.Inner.Below.{both_true}
 use Rattle.codec_wire.specs.Walk.{Par, padded, walk}
-use Rattle.codec_parameter.specs.Table.{Usage, forbidden, table, among, row_in, entries_in, key, usage}
+use Rattle.codec_parameter.specs.Table.{table, among, row_in, entries_in, key, usage}
+use Rattle.codec_parameter.specs.declared.Usage.{Usage}
+use Rattle.codec_parameter.specs.declared.Usage.TheVariants.{Forbidden}
 use Rattle.codec_parameter.specs.Value.{bytes_of, limits_of, plain_code, body_code}
 use Rattle.codec_parameter.specs.Check.{allowed_code, par_code}
 use Rattle.codec_parameter.proofs.Slots.{near}
@@ -21,7 +23,7 @@ use Rattle.codec_read.specs.Meaning.{unreadable, meaning, outcome, reading_of, b
 use Rattle.codec_read.specs.Inner.GoodUnit.{GoodUnit, tag_in}
 use Rattle.codec_read.specs.declared.Reading.{Reading}
 use Rattle.codec_read.specs.declared.Found.{Found}
-use Rattle.codec_read.proofs.Seen.{or_true, number_none}
+use Rattle.codec_read.proofs.Told.{or_true, number_none}
 use Rattle.codec_read.proofs.Places.{data_key, data_lies}
 use Rattle.codec_read.proofs.Accepted.{or_none, if_none, accepted}
 
@@ -51,10 +53,10 @@ tag_found at (p ∷ ps) = let n = at + padded (4 + length p.body) in rw (data_ke
 -- a tag u that counts as t, which the row may have, and a value v of it that was checked
 pub record Passed (i t u : ℕ) (v : List ℕ) : Type 0 where
   pub same_key : key u ≡ key t
-  pub allowed : eqb u 0x3 ≡ false → usage i u ≡ forbidden → ⊥
+  pub allowed : eqb u 0x3 ≡ false → usage i u ≡ Forbidden → ⊥
   pub no_fault : body_code (usage i u) u v ≡ 0
 
-may_stand : (u₁ u : Usage) (first again : Bool) (t : ℕ) → allowed_code u₁ u first again t ≡ 0 → eqb t 0x3 ≡ false → u ≡ forbidden → ⊥
+may_stand : (u₁ u : Usage) (first again : Bool) (t : ℕ) → allowed_code u₁ u first again t ≡ 0 → eqb t 0x3 ≡ false → u ≡ Forbidden → ⊥
 unfolding allowed_code
 may_stand u₁ u first again t e n f = let z : ◌≡◌ {A = ℕ} 19 0 = rw (n, f) at e in omega (arith, z)
 
@@ -68,7 +70,7 @@ first_passed i t before (p ∷ ps) e h =
     let b = or_none (allowed_code u₁ u (is_none before) (has p.tag before) p.tag) _ o.0 in
     go (eqb (key p.tag) (key t)) refl h (may_stand u₁ u (is_none before) (has p.tag before) p.tag b.0) b.1 (first_passed i t (before ++ (p ∷ [])) ps o.1)
   where
-    go : (b : Bool) → eqb (key p.tag) (key t) ≡ b → (b || has t ps) ≡ true → (eqb p.tag 0x3 ≡ false → usage i p.tag ≡ forbidden → ⊥) → body_code (usage i p.tag) p.tag p.body ≡ 0
+    go : (b : Bool) → eqb (key p.tag) (key t) ≡ b → (b || has t ps) ≡ true → (eqb p.tag 0x3 ≡ false → usage i p.tag ≡ Forbidden → ⊥) → body_code (usage i p.tag) p.tag p.body ≡ 0
         → (has t ps ≡ true → Passed i t (tag_in t ps) (body_in t ps)) → Passed i t (cond b p.tag (tag_in t ps)) (cond b p.body (body_in t ps))
     go true q a m z ih = record { same_key = eqb-true (key p.tag) (key t) q; allowed = m; no_fault = z }
     go false q a m z ih = ih a

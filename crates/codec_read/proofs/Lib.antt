@@ -1,4 +1,4 @@
-pub mod Seen
+pub mod Told
 pub mod Turns
 pub mod Order
 pub mod Samples

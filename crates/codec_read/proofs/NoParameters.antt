@@ -18,7 +18,7 @@ use Rattle.codec_wire.specs.Walk.{Walk, walk}
 use Rattle.codec_wire.proofs.Steps.{step_end, walk_step}
 use Rattle.codec_wire.specs.declared.Step.TheVariants.{End}
 use Rattle.codec_parameter.specs.Table.{table, has_class, among, row_in, entries_in}
-use Rattle.codec_parameter.specs.Inner.Slot.{info_of}
+use Rattle.codec_parameter.specs.Inner.Slot.{info_of, listed}
 use Rattle.codec_parameter.specs.declared.RowInfo.{RowInfo}
 use Rattle.laws.specs.Choice.{◌or_else◌}
 use Rattle.codec_read.specs.Verdict.{most, has, number, all_there, exactly, sequence_code, in_turn, pars_code, last_checks}
@@ -110,10 +110,10 @@ needs_free c t h = go (eqb c 3) (eqb c 4) (leb 1 t) (leb t 6) (leb t 4) refl ref
     go false true true m false ex ey el em en h = absurd (false≢true h)
 
 -- the checks 1 to 5 find nothing
-passed : (len v n i : ℕ) (listed : Bool) (x : Reading) → len ≡ 8 → v ≡ 1 → n ≡ 8 → listed ≡ true → i < 17
-    → cond (ltb len 8) (unreadable 7) (cond (ltb most len) (unreadable 7) (cond (eqb v 1) (cond (eqb (row_code listed i n len) 0) x (unreadable (row_code listed i n len))) (unreadable 1))) ≡ x
+passed : (len v n i : ℕ) (known : Bool) (x : Reading) → len ≡ 8 → v ≡ 1 → n ≡ 8 → known ≡ true → i < 17
+    → cond (ltb len 8) (unreadable 7) (cond (ltb most len) (unreadable 7) (cond (eqb v 1) (cond (eqb (row_code known (listed i) n len) 0) x (unreadable (row_code known (listed i) n len))) (unreadable 1))) ≡ x
 unfolding row_code
-passed len v n i listed x a b c d e = rw (a, b, c, d, ne_eqb i 17 (λ q. omega (arith, e, q)))
+passed len v n i known x a b c d e = rw (a, b, c, d, ne_eqb i 17 (λ q. omega (arith, e, q)))
 
 of_8 : (a b : Bool) → cond a b false ≡ true → (a ≡ true) × (b ≡ true)
 of_8 true b h = (refl, h)
@@ -133,13 +133,13 @@ bare_read s h =
     let e = bare_length s h in
     let x = (of_8 (eqb (length s) 8) ((v && n) && needs_none c t) h).1 in
     let vn = and_left (v && n) (needs_none c t) x in
-    let listed = has_class table c in
+    let known = has_class table c in
     let row = ltb (row_in table c t) 17 in
     let none = eqb (info_of (row_in table c t)).musts 0 in
     let f = needs_free c t (and_right (v && n) (needs_none c t) x) in
-    let g = and_right listed (row && none) f in
+    let g = and_right known (row && none) f in
     let i = ltb-true (row_in table c t) 17 (and_left row none g) in
     ap (λ (b : Bool). cond b (meaning c t []) (unreadable 22)) (sym (and_right row none g))
     ∙ bare_same s (info_of (row_in table c t)) e i refl
-    ∙ sym (passed (length s) (get_or s 0 0) (be 4 s 4) (row_in table c t) listed (outcome (last_checks s) s) e (eqb-true (get_or s 0 0) 1 (and_left v n vn)) (eqb-true (be 4 s 4) 8 (and_right v n vn)) (and_left listed (row && none) f) i)
+    ∙ sym (passed (length s) (get_or s 0 0) (be 4 s 4) (row_in table c t) known (outcome (last_checks s) s) e (eqb-true (get_or s 0 0) 1 (and_left v n vn)) (eqb-true (be 4 s 4) 8 (and_right v n vn)) (and_left known (row && none) f) i)
     ∙ order_same s

@@ -1,12 +1,14 @@
 -- The checks as the document lists them are those that the code asks, in its order.
 -- Assumes nothing.
 use mathlib.Core.Path.{◌≡◌, refl, sym, ap, ◌∙◌}
-use mathlib.Core.Bool.{Bool, true, false, cond, not, ◌||◌}
+use mathlib.Core.Bool.{Bool, true, false, cond, not, ◌||◌, false≢true}
 use mathlib.Core.List.{List}
 use Prim.Native.Nat.{ℕ, suc, ◌%◌, ◌<◌, ◌≤◌}
 use lib.ListN.{length, get_or}
 use lib.Dec.{ltb, eqb}
 use native.Mathlib.Omega.{arith}
+use Rattle.std.specs.Prelude.{Option, Some, None, is_none, is_some}
+use Rattle.codec_parameter.specs.Inner.Slot.{listed, row_or_none}
 use borrow.Author.Tests.{ne_eqb, eqb-false}
 use Rattle.codec_wire.specs.Number.{be}
 use Rattle.codec_parameter.specs.Table.{table, has_class, row_in}
@@ -41,6 +43,14 @@ in_turn_lem true false false whole s = refl
 in_turn_lem true false true false s = refl
 in_turn_lem true false true true s = refl
 
+-- the row at an index is there where the index is one
+none_listed : (i : ℕ) → is_none (listed i) ≡ eqb i 17
+none_listed i = go (eqb i 17)
+  where
+    go : (b : Bool) → is_none (cond b None (Some i)) ≡ b
+    go true = refl
+    go false = refl
+
 order_row : (s : List ℕ) → outcome (check3 (get_or s 2 0) or_else (check4 (row_in table (get_or s 2 0) (get_or s 3 0)) or_else (check5 s or_else last_checks s))) s ≡ kind_outcome s
 unfolding row_outcome row_code table
 order_row s =
@@ -51,6 +61,7 @@ order_row s =
     ∙ turned (eqb (be 4 s 4) (length s)) (unreadable 7) _
     ∙ ap (λ (x : Reading). cond (eqb (be 4 s 4) (length s)) x (unreadable 7)) (turned (eqb (length s % 4) 0) (unreadable 7) (outcome (last_checks s) s))))
     ∙ sym (in_turn_lem (has_class table (get_or s 2 0)) (eqb (row_in table (get_or s 2 0) (get_or s 3 0)) 17) (eqb (be 4 s 4) (length s)) (eqb (length s % 4) 0) s)
+    ∙ ap (λ (b : Bool). row_outcome (cond (not (has_class table (get_or s 2 0))) 3 (cond b 4 (cond (eqb (be 4 s 4) (length s)) (cond (eqb (length s % 4) 0) 0 7) 7))) s) (sym (none_listed (row_in table (get_or s 2 0) (get_or s 3 0))))
 
 pub order_same : (s : List ℕ) → checks_outcome s ≡ reading_of s
 unfolding checks_outcome reading_of verdict
@@ -62,12 +73,10 @@ order_same s =
     ∙ turned (eqb (get_or s 0 0) 1) (unreadable 1) _
     ∙ ap (λ (x : Reading). cond (eqb (get_or s 0 0) 1) x (unreadable 1)) (order_row s)))
 
--- where the checks 3 to 5 find nothing, there is a row
-pub row_known : (listed : Bool) (i n len : ℕ) → i ≤ 17 → row_code listed i n len ≡ 0 → i < 17
-unfolding row_code
-row_known listed i n len h e = go listed (eqb i 17) refl e
+-- a row that is there is one of the table
+pub row_known : (j i : ℕ) → j ≤ 17 → listed j ≡ Some i → (i ≡ j) × (j < 17)
+row_known j i h e = go (eqb j 17) refl e
   where
-    go : (a b : Bool) → eqb i 17 ≡ b → (let m : ℕ = cond (not a) 3 (cond b 4 (cond (eqb n len) (cond (eqb (len % 4) 0) 0 7) 7)) in m ≡ 0) → i < 17
-    go false b q z = omega arith
-    go true true q z = omega arith
-    go true false q z = let ne = eqb-false i 17 q in omega arith
+    go : (b : Bool) → eqb j 17 ≡ b → cond b None (Some j) ≡ Some i → (i ≡ j) × (j < 17)
+    go true q z = absurd (false≢true (ap is_some z))
+    go false q z = let ne = eqb-false j 17 q in let k : j ≡ i = ap (λ (o : Option ℕ). row_or_none o) z in (sym k, omega arith)

@@ -9,24 +9,26 @@ use lib.Dec.{ltb, eqb}
 use borrow.Author.Tests.{ltb-false, ne_eqb}
 use Rattle.codec_wire.specs.Number.{be}
 use Rattle.codec_wire.specs.Walk.{Par, walk}
-use Rattle.codec_parameter.specs.Table.{Usage, forbidden, optional, mandatory, repeated, Row, table, among, row_in, entries_in, key, use_in, usage}
+use Rattle.codec_parameter.specs.Table.{Row, table, among, row_in, entries_in, key, use_in, usage}
+use Rattle.codec_parameter.specs.declared.Usage.{Usage}
+use Rattle.codec_parameter.specs.declared.Usage.TheVariants.{Forbidden, Optional, Mandatory, Repeated}
 use Rattle.codec_parameter.specs.Value.{limits_of, word_code, plain_code, body_code}
 use Rattle.codec_parameter.proofs.Slots.{near}
 use Rattle.codec_read.specs.Verdict.{has, head, number, is_retrieval_request, is_retrieval_confirm, in_turn, pars_code, verdict}
 use Rattle.laws.specs.Below.{one}
 use Rattle.codec_read.specs.Meaning.{unreadable, meaning, outcome, reading_of, body_in, SequenceNumber, SequenceNumbers}
 use Rattle.codec_read.specs.Inner.GoodUnit.{tag_in}
-use Rattle.codec_read.proofs.Seen.{number_none}
+use Rattle.codec_read.proofs.Told.{number_none}
 use Rattle.codec_read.proofs.GoodUnit.{Passed, first_passed}
 use Rattle.codec_read.proofs.Accepted.{or_none, accepted}
 
 -- ---- who has one
 
 unfoldable is_allowed : Usage → Bool
-is_allowed forbidden = false
-is_allowed optional = true
-is_allowed mandatory = true
-is_allowed repeated = true
+is_allowed Forbidden = false
+is_allowed Optional = true
+is_allowed Mandatory = true
+is_allowed Repeated = true
 
 -- whether the row of a class and type has a tag, row by row
 unfoldable allows : List Row → ℕ → ℕ → ℕ → Bool
@@ -42,12 +44,12 @@ by_rows (r ∷ rs) c t x = go (eqb c r.class && among t r.types) (by_rows rs c t
     go true e = refl
     go false e = e
 
-is_allowed_lem : (u : Usage) → (u ≡ forbidden → ⊥) → is_allowed u ≡ true
+is_allowed_lem : (u : Usage) → (u ≡ Forbidden → ⊥) → is_allowed u ≡ true
 unfolding is_allowed
-is_allowed_lem forbidden n = absurd (n refl)
-is_allowed_lem optional n = refl
-is_allowed_lem mandatory n = refl
-is_allowed_lem repeated n = refl
+is_allowed_lem Forbidden n = absurd (n refl)
+is_allowed_lem Optional n = refl
+is_allowed_lem Mandatory n = refl
+is_allowed_lem Repeated n = refl
 
 skip : (b x : Bool) → cond b false x ≡ true → x ≡ true
 skip true x h = absurd (false≢true h)

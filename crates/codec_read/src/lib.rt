@@ -1,21 +1,19 @@
 // Reads M2UA messages: the verdict and the meaning of any bytes.
 #![tactic(auto)]
 
-ghost use Rattle.std.specs.Prelude.{◌≡◌, ◌+◌, ◌≤◌, ◌<◌, cond, not, true, false, [], length, get_or, eqb};
-ghost use Rattle.laws.specs.Choice.{◌or_else◌, ◌if◌};
+ghost use Rattle.std.specs.Prelude.{◌≡◌, ◌+◌, ◌≤◌, ◌<◌, cond, false, [], length, get_or, OnOk, IfOk};
+ghost use Rattle.laws.specs.Choice.{◌or_else◌};
+ghost use Rattle.codec_wire.specs.Refusal.{number, code};
 ghost use Rattle.codec_wire.specs.Walk.{walk};
 ghost use Rattle.codec_parameter.specs.Table.{table, row_in};
-ghost use Rattle.codec_parameter.specs.Inner.Slot.{slot, info_of};
+ghost use Rattle.codec_parameter.specs.Inner.Slot.{slot, info_of, packed_use};
+ghost use Rattle.codec_parameter.specs.Check.{par_code};
 ghost use Rattle.codec_read.specs.Verdict.{exactly, head, last_checks};
-ghost use Rattle.laws.specs.Below.{one};
 ghost use Rattle.codec_read.specs.Meaning.{unreadable, meaning, outcome, reading_of, found_in, data_tag, data_at, data_of};
-ghost use Rattle.codec_read.specs.Inner.Seen.{sequence_at, end_at, meaning_at, outcome_at, row_code, row_outcome, kind_outcome, checks_outcome, needs_none, is_bare};
+ghost use Rattle.codec_read.specs.Inner.Seen.{none, after, sequence_at, end_at, meaning_at, outcome_at, row_code, kind_outcome, checks_outcome, needs_none, is_bare};
 
-use codec_parameter::{NO_ROW, RowInfo};
-use codec_wire::{
-    HEADER, INVALID_VERSION, MISSING_PARAMETER, MOST, PROTOCOL_ERROR, Step, UNEXPECTED_PARAMETER,
-    UNSUPPORTED_CLASS, UNSUPPORTED_TYPE,
-};
+use codec_parameter::RowInfo;
+use codec_wire::{HEADER, MOST, Refusal, Step};
 
 // The slots of the tags that are asked for.
 const ID: usize = 1;
@@ -50,8 +48,9 @@ const GET_MESSAGES: u32 = 2;
 const DONE: u32 = 0;
 
 // What reading a message gives. A refused message has its number in `code`, and zeros.
+// Kept: the C interface (include/m2ua.h) has these columns, a flag beside its number and 0 for none.
 #[repr(C)]
-#[derive(Clone, Copy)]
+#[derive(Clone, Copy, Default)]
 pub struct Reading {
     // 0, or the number of the refusal
     pub code: u32,
@@ -78,53 +77,117 @@ pub struct Reading {
     pub sequence: u32,
 }
 
-fn unit(b: bool) -> u32
-    ensures { result ≡ one b }
-{
-    if b { 1 } else { 0 }
+// What is kept of the parameters passed. By slot: whether a tag of the slot was there, and the number of the
+// first.
+#[derive(Drop)]
+pub struct Seen {
+    pub met: [bool; 32],
+    pub words: [u32; 32],
+    // no parameter was passed
+    pub first: bool,
+}
+
+impl Seen {
+    // Before the first parameter.
+    pub fn none() -> Seen
+        ensures { result ≡ none }
+    {
+        Seen {
+            met: [false; 32],
+            words: [0; 32],
+            first: true,
+        }
+    }
+
+    // One parameter more, of a message of a row whose uses are packed: it is refused, or its tag and its number
+    // are kept.
+    pub fn pass(&mut self, uses: u64, t: u16, v: &[u8]) -> Result<(), Refusal>
+        ensures checked { code result ≡ par_code (packed_use uses 1) (packed_use uses (slot t)) self.old.first (get_or self.old.met (slot t) false) t v.now }
+        ensures kept { OnOk result (self.new ≡ after self.old t v.now) }
+    {
+        let k = codec_parameter::slot_of(t);
+        let again = self.met[k];
+        codec_parameter::par_at(uses, self.first, again, k, t, v)?;
+        self.words[k] = kept(again, self.words[k], v);
+        self.met[k] = true;
+        self.first = false;
+        Ok(())
+    }
+
+    // Check 8, of a row whose mandatory slots are packed: a missing mandatory parameter, then the sequence number
+    // rules.
+    #[tactic(auto, unfolding(crate::specs::Inner::Seen::end_at, codec_parameter::specs::Inner::Slot::slot))]
+    pub fn end_code(&self, musts: u32, c: u8, t: u8) -> Result<(), Refusal>
+        ensures { code result ≡ end_at musts c t self.now.met self.now.words }
+    {
+        if !codec_parameter::musts_met(musts, &self.met) {
+            return Err(Refusal::MissingParameter);
+        }
+        sequence_code(
+            c,
+            t,
+            self.words[ACTION],
+            self.words[RESULT],
+            self.met[SEQUENCE],
+        )
+    }
+
+    // The meaning of an accepted message. The state is read ahead of the branches (finish): read here, the compiler
+    // would load it together with the correlation id, across two stores, which takes 5 ns.
+    #[tactic(auto, unfolding(crate::specs::Inner::Seen::meaning_at, codec_parameter::specs::Inner::Slot::slot))]
+    fn meaning_at(&self, c: u8, t: u8, state: u32) -> Reading
+        requires { state ≡ get_or self.now.words (slot 0x302) 0 }
+        ensures { result ≡ meaning_at c t self.now.met self.now.words }
+    {
+        Reading {
+            code: 0,
+            class: u32::from(c),
+            msgtype: u32::from(t),
+            ids: u32::from(self.met[ID] | self.met[RANGE]),
+            id: self.words[ID],
+            mode: self.words[MODE],
+            identified: u32::from(self.met[ASP_ID]),
+            aspid: self.words[ASP_ID],
+            correlated: u32::from(self.met[CORRELATION]),
+            correlation: self.words[CORRELATION],
+            state,
+            retrieval: self.words[ACTION],
+            sequenced: u32::from(self.met[SEQUENCE]),
+            sequence: self.words[SEQUENCE],
+        }
+    }
 }
 
 // A refused message: its number alone.
-fn refused(code: u32) -> Reading
-    ensures { result ≡ unreadable code }
+fn refused(r: Refusal) -> Reading
+    ensures { result ≡ unreadable (number r) }
 {
     Reading {
-        code,
-        class: 0,
-        msgtype: 0,
-        ids: 0,
-        id: 0,
-        mode: 0,
-        identified: 0,
-        aspid: 0,
-        correlated: 0,
-        correlation: 0,
-        state: 0,
-        retrieval: 0,
-        sequenced: 0,
-        sequence: 0,
+        code: u32::from(r),
+        ..Reading::default()
     }
 }
 
 // A sequence number where one is wanted, and only there.
-fn exact(wanted: bool, given: bool) -> u32
-    ensures { result ≡ exactly wanted given }
+fn exact(wanted: bool, given: bool) -> Result<(), Refusal>
+    ensures { code result ≡ exactly wanted given }
 {
     if wanted {
         if given {
-            return 0;
+            return Ok(());
         }
-        return MISSING_PARAMETER;
+        return Err(Refusal::MissingParameter);
     }
     if given {
-        return UNEXPECTED_PARAMETER;
+        return Err(Refusal::UnexpectedParameter);
     }
-    0
+    Ok(())
 }
 
 // The sequence number rules.
-fn sequence_code(c: u8, t: u8, retrieval: u32, res: u32, given: bool) -> u32
-    ensures { result ≡ sequence_at c t retrieval res given }
+#[tactic(auto, unfolding(crate::specs::Inner::Seen::sequence_at))]
+fn sequence_code(c: u8, t: u8, retrieval: u32, res: u32, given: bool) -> Result<(), Refusal>
+    ensures { code result ≡ sequence_at c t retrieval res given }
 {
     if c == LINK_CLASS {
         if t == RETRIEVAL_REQUEST {
@@ -136,93 +199,13 @@ fn sequence_code(c: u8, t: u8, retrieval: u32, res: u32, given: bool) -> u32
             }
             return exact(false, given);
         }
-        return 0;
+        return Ok(());
     }
-    0
-}
-
-// The meaning of an accepted message, from the slots met and the numbers seen. The state is read ahead of the
-// branches (finish): read here, the compiler would load it together with the correlation id, across two
-// stores, which takes 5 ns.
-fn meaning_at(c: u8, t: u8, state: u32, met: &[bool; 32], words: &[u32; 32]) -> Reading
-    requires { state ≡ get_or words.now (slot 0x302) 0 }
-    ensures { result ≡ meaning_at c t met.now words.now }
-{
-    Reading {
-        code: 0,
-        class: c as u32,
-        msgtype: t as u32,
-        ids: unit(met[ID] | met[RANGE]),
-        id: words[ID],
-        mode: words[MODE],
-        identified: unit(met[ASP_ID]),
-        aspid: words[ASP_ID],
-        correlated: unit(met[CORRELATION]),
-        correlation: words[CORRELATION],
-        state,
-        retrieval: words[ACTION],
-        sequenced: unit(met[SEQUENCE]),
-        sequence: words[SEQUENCE],
-    }
-}
-
-// The first of two numbers that applies.
-fn first_of(a: u32, b: u32) -> u32
-    ensures { result ≡ a or_else b }
-{
-    if a == 0 {
-        return b;
-    }
-    a
-}
-
-// A missing mandatory parameter, then the sequence number rules.
-fn end_of(all: bool, sequence: u32) -> u32
-    ensures { result ≡ (22 if not all) or_else sequence }
-{
-    if all {
-        return sequence;
-    }
-    MISSING_PARAMETER
-}
-
-// Check 8, of a row whose mandatory slots are packed.
-pub fn end_code(musts: u32, c: u8, t: u8, met: &[bool; 32], words: &[u32; 32]) -> u32
-    ensures { result ≡ end_at musts c t met.now words.now }
-{
-    end_of(
-        codec_parameter::musts_met(musts, met),
-        sequence_code(c, t, words[ACTION], words[RESULT], met[SEQUENCE]),
-    )
-}
-
-// What a number hands back: the meaning, or the refusal.
-fn outcome_of(code: u32, c: u8, t: u8, state: u32, met: &[bool; 32], words: &[u32; 32]) -> Reading
-    requires { state ≡ get_or words.now (slot 0x302) 0 }
-    ensures { result ≡ outcome_at code c t met.now words.now }
-{
-    if code == 0 {
-        return meaning_at(c, t, state, met, words);
-    }
-    refused(code)
-}
-
-// The walk has ended, with the number `fault`.
-fn finish(fault: u32, musts: u32, c: u8, t: u8, met: &[bool; 32], words: &[u32; 32]) -> Reading
-    ensures { result ≡ outcome_at (fault or_else end_at musts c t met.now words.now) c t met.now words.now }
-{
-    let state = words[STATE];
-    outcome_of(
-        first_of(fault, end_code(musts, c, t, met, words)),
-        c,
-        t,
-        state,
-        met,
-        words,
-    )
+    Ok(())
 }
 
 // The number that a value of four bytes or more begins with.
+#[tactic(auto, unfolding(crate::specs::Verdict::head))]
 fn head_of(v: &[u8]) -> u32
     ensures { result ≡ head v.now }
 {
@@ -233,7 +216,7 @@ fn head_of(v: &[u8]) -> u32
 }
 
 // The number kept of a slot is that of its first parameter.
-pub fn kept(again: bool, old: u32, v: &[u8]) -> u32
+fn kept(again: bool, old: u32, v: &[u8]) -> u32
     ensures { result ≡ cond again old (head v.now) }
 {
     if again {
@@ -242,11 +225,25 @@ pub fn kept(again: bool, old: u32, v: &[u8]) -> u32
     head_of(v)
 }
 
-// A parameter was refused: a fault in the rest of the walk comes before it.
-fn refused_at(s: &[u8], next: usize, code: u32) -> Reading
-    ensures { result ≡ unreadable ((walk s.now next).code or_else code) }
+// The walk has ended, and what ended it may be a fault.
+fn finish(fault: Result<(), Refusal>, musts: u32, c: u8, t: u8, seen: &Seen) -> Reading
+    ensures { result ≡ outcome_at (code fault or_else end_at musts c t seen.now.met seen.now.words) c t seen.now.met seen.now.words }
 {
-    refused(first_of(codec_wire::walk_code(s, next), code))
+    let state = seen.words[STATE];
+    match fault.and(seen.end_code(musts, c, t)) {
+        Ok(()) => seen.meaning_at(c, t, state),
+        Err(r) => refused(r),
+    }
+}
+
+// A parameter was refused: a fault in the rest of the walk comes before it.
+fn refused_at(s: &[u8], next: usize, r: Refusal) -> Reading
+    ensures { result ≡ unreadable ((walk s.now next).code or_else number r) }
+{
+    match codec_wire::walk_code(s, next) {
+        Ok(()) => refused(r),
+        Err(fault) => refused(fault),
+    }
 }
 
 // The checks 6 to 8 in one walk, of a message whose row is known.
@@ -254,97 +251,76 @@ fn read_pars(s: &[u8], info: RowInfo) -> Reading
     requires { (8 ≤ length s.now) × ((row_in table (get_or s.now 2 0) (get_or s.now 3 0) < 17) × (info ≡ info_of (row_in table (get_or s.now 2 0) (get_or s.now 3 0)))) }
     ensures { result ≡ outcome (last_checks s.now) s.now }
 {
-    let mut met = [false; 32];
-    let mut words = [0u32; 32];
-    let mut first = true;
+    let mut seen = Seen::none();
     let mut at: usize = HEADER;
     loop {
         let w = codec_wire::step_at(s, at);
         let Step::Param { tag, len, next } = w else {
-            return finish(
-                codec_wire::step_code(w),
-                info.musts,
-                s[2],
-                s[3],
-                &met,
-                &words,
-            );
+            return finish(codec_wire::step_code(w), info.musts, s[2], s[3], &seen);
         };
-        let k = codec_parameter::slot_of(tag);
-        let again = met[k];
         let start = at + 4;
-        let stop = at + len as usize;
-        let code = codec_parameter::par_at(info.uses, first, again, k, tag, &s[start..stop]);
-        if code != 0 {
-            return refused_at(s, next, code);
+        let stop = at + usize::from(len);
+        if let Err(r) = seen.pass(info.uses, tag, &s[start..stop]) {
+            return refused_at(s, next, r);
         }
-        words[k] = kept(again, words[k], &s[start..stop]);
-        met[k] = true;
-        first = false;
         at = next;
     }
 }
 
-// The checks 3 to 5, of whether the class is listed, the row, the length field and the number of bytes.
-fn row_code(listed: bool, row: usize, n: u32, len: usize) -> u32
-    ensures { result ≡ row_code listed row n len }
+// The checks 3 to 5, of whether the class is listed, the row, the length field and the number of bytes: the row
+// of a message that passes.
+#[tactic(auto, unfolding(crate::specs::Inner::Seen::row_code))]
+fn row_code(listed: bool, row: Option<usize>, n: u32, len: usize) -> Result<usize, Refusal>
+    ensures number { code result ≡ row_code listed row n len }
+    ensures row { IfOk result (λ i. row ≡ Some i) }
 {
     if !listed {
-        return UNSUPPORTED_CLASS;
+        return Err(Refusal::UnsupportedClass);
     }
-    if row == NO_ROW {
-        return UNSUPPORTED_TYPE;
-    }
+    let Some(i) = row else {
+        return Err(Refusal::UnsupportedType);
+    };
     if n as usize != len {
-        return PROTOCOL_ERROR;
+        return Err(Refusal::ProtocolError);
     }
     if len % 4 != 0 {
-        return PROTOCOL_ERROR;
+        return Err(Refusal::ProtocolError);
     }
-    0
+    Ok(i)
 }
 
-// The checks 3 to 8, of what the checks 3 to 5 gave and the row. (One refusal for the three: so the message's
-// fields stay in registers.)
-fn read_row(code: u32, row: usize, s: &[u8]) -> Reading
-    requires { (8 ≤ length s.now) × ((code ≡ 0 → row < 17) × (row ≡ row_in table (get_or s.now 2 0) (get_or s.now 3 0))) }
-    ensures { result ≡ row_outcome code s.now }
-{
-    if code != 0 {
-        return refused(code);
-    }
-    read_pars(s, codec_parameter::row_info(row))
-}
-
-// The checks 3 to 8.
+// The checks 3 to 8. (One refusal for the checks 3 to 5: so the message's fields stay in registers.)
 fn read_kind(s: &[u8]) -> Reading
     requires { 8 ≤ length s.now }
     ensures { result ≡ kind_outcome s.now }
 {
     let c = s[2];
     let t = s[3];
-    let row = codec_parameter::row_of(c, t);
-    let code = row_code(
+    let row = row_code(
         codec_parameter::class_ok(c),
-        row,
+        codec_parameter::row_of(c, t),
         codec_wire::get32(s, 4),
         s.len(),
     );
-    read_row(code, row, s)
+    match row {
+        Ok(i) => read_pars(s, codec_parameter::row_info(i)),
+        Err(r) => refused(r),
+    }
 }
 
 // The checks in their order.
+#[tactic(auto, unfolding(crate::specs::Inner::Seen::checks_outcome))]
 fn read_checks(s: &[u8]) -> Reading
     ensures { result ≡ checks_outcome s.now }
 {
     if s.len() < HEADER {
-        return refused(PROTOCOL_ERROR);
+        return refused(Refusal::ProtocolError);
     }
     if MOST < s.len() {
-        return refused(PROTOCOL_ERROR);
+        return refused(Refusal::ProtocolError);
     }
     if s[0] != 1 {
-        return refused(INVALID_VERSION);
+        return refused(Refusal::InvalidVersion);
     }
     read_kind(s)
 }
@@ -367,13 +343,15 @@ fn is_bare(s: &[u8]) -> bool
 }
 
 // What it means.
+#[tactic(auto, unfolding(crate::specs::Meaning::meaning, crate::specs::Verdict::has, crate::specs::Verdict::number))]
 fn bare(c: u8, t: u8) -> Reading
     ensures { result ≡ meaning c t [] }
 {
-    let mut r = refused(0);
-    r.class = c as u32;
-    r.msgtype = t as u32;
-    r
+    Reading {
+        class: u32::from(c),
+        msgtype: u32::from(t),
+        ..Reading::default()
+    }
 }
 
 // Reads a message: its verdict, and of an accepted one what it means. Up, Down, Active and Beat often have no

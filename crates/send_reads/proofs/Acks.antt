@@ -11,7 +11,8 @@ use lib.Dec.{eqb}
 use lib.ListN.{length, length-append}
 use borrow.Author.Tests.{le-ltb, eqb-true, eqb-false}
 use Rattle.codec_wire.specs.Walk.{Par}
-use Rattle.codec_parameter.specs.Table.{repeated, table, among, has_class, row_in, entries_in, key, use_in, usage}
+use Rattle.codec_parameter.specs.Table.{table, among, has_class, row_in, entries_in, key, use_in, usage}
+use Rattle.codec_parameter.specs.declared.Usage.TheVariants.{Repeated}
 use Rattle.codec_parameter.specs.Value.{body_code}
 use Rattle.codec_parameter.specs.Check.{allowed_code, par_code}
 use Rattle.codec_read.specs.Verdict.{most, has, is_none, in_turn, all_there, sequence_code, pars_code}
@@ -34,7 +35,7 @@ use Rattle.send_reads.proofs.Part.{Anywhere, in_turn_part, length_pars, size_par
 other : (i t k : ℕ) → eqb k 0x3 ≡ false → eqb k 0x1 ≡ false → eqb t k ≡ true → Anywhere i t
 other i t k a b e = let z = eqb-true t k e in rw z (record { no_text = a; no_first = inl b })
 
-ids_free : (i t : ℕ) → usage i 0x1 ≡ repeated → is_ids t ≡ true → Anywhere i t
+ids_free : (i t : ℕ) → usage i 0x1 ≡ Repeated → is_ids t ≡ true → Anywhere i t
 ids_free i t u e = go (eqb t 0x1) refl e
   where
     go : (b : Bool) → eqb t 0x1 ≡ b → (b || eqb t 0x8) ≡ true → Anywhere i t
@@ -72,7 +73,7 @@ unfolding beat_ack_pars
 beat_turn i ps e = in_turn_part i (λ t. eqb t 0x9) (λ t z. other i t 0x9 refl refl z) ps [] [] (λ t a b. b) e
 
 -- where a mode may stand at any place, and identifiers as often as one likes
-module _ (i : ℕ) (u : usage i 0x1 ≡ repeated) (ps : List Par) (e : in_turn i [] ps ≡ 0) where
+module _ (i : ℕ) (u : usage i 0x1 ≡ Repeated) (ps : List Par) (e : in_turn i [] ps ≡ 0) where
   mode_turn : in_turn i [] (only is_mode ps) ≡ 0
   unfolding has
   mode_turn = in_turn_part i is_mode (λ t z. other i t 0xb refl refl z) ps [] [] (λ t a b. b) e

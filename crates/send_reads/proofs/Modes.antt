@@ -11,7 +11,9 @@ use borrow.Author.Tests.{eqb-true, ltb-false}
 use Rattle.laws.specs.Inner.Every.{clash}
 use Rattle.codec_wire.specs.Number.{be}
 use Rattle.codec_wire.specs.Walk.{Par}
-use Rattle.codec_parameter.specs.Table.{Usage, forbidden, optional, mandatory, repeated, table, among, row_in, entries_in, use_in, usage}
+use Rattle.codec_parameter.specs.Table.{table, among, row_in, entries_in, use_in, usage}
+use Rattle.codec_parameter.specs.declared.Usage.{Usage}
+use Rattle.codec_parameter.specs.declared.Usage.TheVariants.{Forbidden, Optional, Mandatory, Repeated}
 use Rattle.codec_parameter.specs.Value.{limits_of, word_code, plain_code, body_code}
 use Rattle.codec_parameter.specs.Check.{once_code, tag_code, allowed_code, par_code}
 use Rattle.codec_read.specs.Verdict.{has, is_none, in_turn}
@@ -36,20 +38,20 @@ four v e = go (ltb (length v) 4) (ltb 4 (length v)) refl e
 
 -- where a tag may not come as often as one likes, it was not there before
 abbrev often : Usage → Bool
-often forbidden = false
-often optional = false
-often mandatory = false
-often repeated = true
+often Forbidden = false
+often Optional = false
+often Mandatory = false
+often Repeated = true
 
 seldom : (first again : Bool) (t : ℕ) → once_code first again t ≡ 0 → again ≡ false
 seldom first true t e = let y : ⊥ = omega (arith, e) in absurd y
 seldom first false t e = refl
 
 once : (u : Usage) (first again : Bool) (t : ℕ) → often u ≡ false → tag_code u first again t ≡ 0 → again ≡ false
-once forbidden first again t n e = let y : ⊥ = omega (arith, e) in absurd y
-once optional first again t n e = seldom first again t e
-once mandatory first again t n e = seldom first again t e
-once repeated first again t n e = clash true n refl
+once Forbidden first again t n e = let y : ⊥ = omega (arith, e) in absurd y
+once Optional first again t n e = seldom first again t e
+once Mandatory first again t n e = seldom first again t e
+once Repeated first again t n e = clash true n refl
 
 or_last : (u v : Bool) → v ≡ true → (u || v) ≡ true
 or_last true v e = refl

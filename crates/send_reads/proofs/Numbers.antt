@@ -11,7 +11,7 @@ use borrow.Author.Tests.{le-ltb, eq-eqb}
 use Rattle.laws.specs.Below.{concat_below}
 use Rattle.laws.specs.Columns.{number_at}
 use Rattle.codec_wire.specs.Walk.{Par}
-use Rattle.codec_parameter.specs.Table.{repeated}
+use Rattle.codec_parameter.specs.declared.Usage.TheVariants.{Repeated}
 use Rattle.codec_parameter.specs.Value.{bytes_of, limits_of, plain_code, id_code}
 use Rattle.codec_put.specs.Bytes.{bytes32}
 use Rattle.state_tables.specs.declared.Gateway.{Gateway}
@@ -58,7 +58,7 @@ unfolding good_ids
 good_fours g p ps = chosen_fours g.iid (is_named_good g p ps) g.links
 
 -- one or more of them
-pub ids_code : (n : ℕ) (v : List ℕ) → Fours n v → (length v ≡ 0 → ⊥) → id_code repeated v ≡ 0
+pub ids_code : (n : ℕ) (v : List ℕ) → Fours n v → (length v ≡ 0 → ⊥) → id_code Repeated v ≡ 0
 unfolding id_code
 ids_code n v h ne =
     let m = h.multiple in

@@ -10,7 +10,9 @@ use native.Mathlib.Omega.{arith}
 use lib.Dec.{eqb}
 use lib.ListN.{length, length-append}
 use Rattle.codec_wire.specs.Walk.{Par}
-use Rattle.codec_parameter.specs.Table.{Usage, forbidden, optional, mandatory, repeated, key, usage}
+use Rattle.codec_parameter.specs.Table.{key, usage}
+use Rattle.codec_parameter.specs.declared.Usage.{Usage}
+use Rattle.codec_parameter.specs.declared.Usage.TheVariants.{Forbidden, Optional, Mandatory, Repeated}
 use Rattle.codec_parameter.specs.Value.{body_code}
 use Rattle.codec_parameter.specs.Check.{once_code, tag_code, allowed_code, par_code}
 use Rattle.codec_read.specs.Verdict.{has, is_none, in_turn}
@@ -23,7 +25,7 @@ use Rattle.codec_select.specs.Only.{only}
 -- a tag that may stand at any place of the messages of a row
 pub record Anywhere (i t : ℕ) : Type 0 where
   pub no_text : eqb t 0x3 ≡ false
-  pub no_first : (eqb t 0x1 ≡ false) ⊎ (usage i t ≡ repeated)
+  pub no_first : (eqb t 0x1 ≡ false) ⊎ (usage i t ≡ Repeated)
 
 once_again : (t : ℕ) (first again first' again' : Bool) → eqb t 0x1 ≡ false → (again' ≡ true → again ≡ true) → once_code first again t ≡ 0 → once_code first' again' t ≡ 0
 once_again t first again first' false z m e = rw z
@@ -31,13 +33,13 @@ once_again t first true first' true z m e = let y : ⊥ = omega (arith, e) in ab
 once_again t first false first' true z m e = absurd (false≢true (m refl))
 
 -- it may stand there again where it stood before less often
-tag_again : (u : Usage) (t : ℕ) (first again first' again' : Bool) → (eqb t 0x1 ≡ false) ⊎ (u ≡ repeated) → (again' ≡ true → again ≡ true)
+tag_again : (u : Usage) (t : ℕ) (first again first' again' : Bool) → (eqb t 0x1 ≡ false) ⊎ (u ≡ Repeated) → (again' ≡ true → again ≡ true)
     → tag_code u first again t ≡ 0 → tag_code u first' again' t ≡ 0
 tag_again u t first again first' again' (inr z) m e = rw z
-tag_again forbidden t first again first' again' (inl z) m e = e
-tag_again optional t first again first' again' (inl z) m e = once_again t first again first' again' z m e
-tag_again mandatory t first again first' again' (inl z) m e = once_again t first again first' again' z m e
-tag_again repeated t first again first' again' (inl z) m e = e
+tag_again Forbidden t first again first' again' (inl z) m e = e
+tag_again Optional t first again first' again' (inl z) m e = once_again t first again first' again' z m e
+tag_again Mandatory t first again first' again' (inl z) m e = once_again t first again first' again' z m e
+tag_again Repeated t first again first' again' (inl z) m e = e
 
 par_again : (i t : ℕ) (v : List ℕ) (first again first' again' : Bool) → Anywhere i t → (again' ≡ true → again ≡ true)
     → par_code (usage i 0x1) (usage i t) first again t v ≡ 0 → par_code (usage i 0x1) (usage i t) first' again' t v ≡ 0

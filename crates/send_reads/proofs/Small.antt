@@ -10,7 +10,8 @@ use Rattle.laws.specs.Choice.{◌or_else◌}
 use Rattle.codec_wire.specs.Walk.{Par, walk, walk_f, on_step, step_at}
 use Rattle.codec_wire.specs.declared.Step.{Step}
 use Rattle.codec_wire.specs.declared.Step.TheVariants.{Param, End, Fault}
-use Rattle.codec_parameter.specs.Table.{Usage, forbidden, optional, mandatory, repeated}
+use Rattle.codec_parameter.specs.declared.Usage.{Usage}
+use Rattle.codec_parameter.specs.declared.Usage.TheVariants.{Forbidden, Optional, Mandatory, Repeated}
 use Rattle.codec_parameter.specs.declared.Limits.{Limits}
 use Rattle.codec_parameter.specs.Value.{word_code, plain_code, id_code, range_code, body_code}
 use Rattle.codec_parameter.specs.Check.{text_code, tag_code, allowed_code, par_code}
@@ -40,23 +41,23 @@ ruleset smalls = (by_cond, by_or, number)
 
 text : (u : Usage) (first : Bool) → Small (text_code u first)
 unfolding text_code
-text forbidden first = number _ refl
-text optional first = number _ refl
-text mandatory first = search smalls
-text repeated first = number _ refl
+text Forbidden first = number _ refl
+text Optional first = number _ refl
+text Mandatory first = search smalls
+text Repeated first = number _ refl
 
 tag : (u : Usage) (first again : Bool) (t : ℕ) → Small (tag_code u first again t)
-tag forbidden first again t = number _ refl
-tag optional first again t = search smalls depth 8
-tag mandatory first again t = search smalls depth 8
-tag repeated first again t = number _ refl
+tag Forbidden first again t = number _ refl
+tag Optional first again t = search smalls depth 8
+tag Mandatory first again t = search smalls depth 8
+tag Repeated first again t = number _ refl
 
 id : (u : Usage) (v : List ℕ) → Small (id_code u v)
 unfolding id_code
-id forbidden v = search smalls
-id optional v = search smalls
-id mandatory v = search smalls
-id repeated v = search smalls
+id Forbidden v = search smalls
+id Optional v = search smalls
+id Mandatory v = search smalls
+id Repeated v = search smalls
 
 range : (v : List ℕ) → Small (range_code v)
 unfolding range_code

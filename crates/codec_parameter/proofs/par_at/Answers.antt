@@ -1,8 +1,7 @@
-use mathlib.Core.Path.{◌≡◌, sym, ◌∙◌}
-use Rattle.codec_wire.specs.Refusal.{number, code}
-use Rattle.codec_wire.proofs.Refusals.{number_some, passed_on}
+use mathlib.Core.Path.{sym}
+use Rattle.codec_wire.proofs.Refusals.{passed_on}
 use Rattle.codec_parameter.specs.Check.{par_code}
-use Rattle.laws.specs.Inner.Choice.{or_none, or_not}
+use Rattle.laws.specs.Inner.Choice.{or_none}
 use Rattle.codec_parameter.proofs.par_at.Goals as goal
 
 pub returns-in_err-allowed_code : goal.returns-in_err-allowed_code

@@ -2,7 +2,7 @@ use Rattle.laws.specs.Below.{all_below}
 use Rattle.codec_wire.specs.Number.{be}
 use lib.Dec.{leb}
 use mathlib.Core.List.{List}
-use Prim.Native.Nat.{ℕ, ◌≤◌, ◌-◌, ◌+◌, ◌*◌}
+use Prim.Native.Nat.{ℕ, ◌+◌, ◌*◌}
 use mathlib.Core.Bool.{Bool, true}
 use mathlib.Core.Path.{◌≡◌}
 use Rattle.codec_parameter.proofs.range_code.Given as goal

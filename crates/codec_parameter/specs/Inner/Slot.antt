@@ -1,7 +1,9 @@
 -- The reader keeps what it has seen of each tag in a small table; a tag's index there is its slot.
 -- Assumes nothing.
 use Rattle.std.specs.Prelude.{ℕ, Option, Some, None, ◌+◌, ◌-◌, ◌*◌, ◌/◌, ◌%◌, ◌^◌, get_or, Bool, true, false, cond, ◌&&◌, List, [], ◌∷◌, ltb, eqb}
-use Rattle.codec_parameter.specs.Table.{Usage, forbidden, optional, mandatory, repeated, is_mandatory, Entry}
+use Rattle.codec_parameter.specs.Table.{is_mandatory, Entry}
+use Rattle.codec_parameter.specs.declared.Usage.{Usage}
+use Rattle.codec_parameter.specs.declared.Usage.TheVariants.{Forbidden, Optional, Mandatory, Repeated}
 use Rattle.codec_parameter.specs.declared.RowInfo.{RowInfo}
 
 -- a slot for each tag that some message has; 0x300 and 0x301 share one. A tag that no message has is at 31.
@@ -44,7 +46,7 @@ use_bits uses k = uses / 2 ^ (2 * k) % 4
 
 -- the usage that they stand for
 unfoldable pub usage_of : ℕ → Usage
-usage_of n = cond (eqb n 0) forbidden (cond (eqb n 2) mandatory (cond (eqb n 3) repeated optional))
+usage_of n = cond (eqb n 0) Forbidden (cond (eqb n 2) Mandatory (cond (eqb n 3) Repeated Optional))
 
 -- how the tag of a slot stands in the messages of a row
 abbrev pub packed_use : ℕ → ℕ → Usage

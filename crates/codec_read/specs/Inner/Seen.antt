@@ -1,16 +1,17 @@
 -- What the reader keeps of the parameters passed: by slot, whether a tag of the slot is there, and the number
 -- of the first. The checks and the meaning, asked of that.
 -- Assumes nothing.
-use Rattle.std.specs.Prelude.{◌≡◌, ℕ, ◌%◌, ◌<◌, Bool, false, cond, not, ◌&&◌, ◌||◌, List, [], ◌∷◌, length, get_or, ltb, leb, eqb}
+use Rattle.std.specs.Prelude.{◌≡◌, ℕ, Option, is_none, ◌%◌, ◌<◌, Bool, true, false, cond, not, ◌&&◌, ◌||◌, List, [], ◌∷◌, length, get_or, set, replicate, ltb, leb, eqb}
 use Rattle.laws.specs.Choice.{◌or_else◌, ◌if◌}
 use Rattle.codec_wire.specs.Number.{be}
 use Rattle.codec_wire.specs.Walk.{Par}
 use Rattle.codec_parameter.specs.Table.{table, has_class, row_in}
-use Rattle.codec_parameter.specs.Inner.Slot.{slot, all_asked}
+use Rattle.codec_parameter.specs.Inner.Slot.{slot, all_asked, listed}
 use Rattle.codec_read.specs.Verdict.{head, exactly, get_bsn, get_messages, most, last_checks}
 use Rattle.laws.specs.Below.{one}
 use Rattle.codec_read.specs.Meaning.{unreadable, outcome}
 use Rattle.codec_read.specs.declared.Reading.{Reading}
+use Rattle.codec_read.specs.declared.Seen.{Seen}
 
 -- a tag of the slot is there
 unfoldable pub there : ℕ → List Par → Bool
@@ -23,9 +24,22 @@ word k [] = 0
 word k (p ∷ ps) = cond (eqb (slot p.tag) k) (head p.body) (word k ps)
 
 -- the two tables say so of the parameters
-pub record Seen (met : List Bool) (words : List ℕ) (ps : List Par) : Type 0 where
+pub record Tells (met : List Bool) (words : List ℕ) (ps : List Par) : Type 0 where
   pub met_is : (k : ℕ) → k < 32 → get_or met k false ≡ there k ps
   pub words_is : (k : ℕ) → k < 32 → get_or words k 0 ≡ word k ps
+
+-- what is kept before the first parameter
+abbrev pub none : Seen
+none = record { met = replicate 32 false; words = replicate 32 0; first = true }
+
+-- and after one parameter more, of a tag and a value
+abbrev pub after : Seen → ℕ → List ℕ → Seen
+after z t v =
+    record {
+      met = set z.met (slot t) true;
+      words = set z.words (slot t) (cond (get_or z.met (slot t) false) (get_or z.words (slot t) 0) (head v));
+      first = false;
+    }
 
 -- the sequence number rules, of an action, a result, and whether there is a sequence number
 unfoldable pub sequence_at : ℕ → ℕ → ℕ → ℕ → Bool → ℕ
@@ -67,15 +81,15 @@ outcome_at n c t met words = cond (eqb n 0) (meaning_at c t met words) (unreadab
 
 -- The checks in the order in which the code asks: 3 to 5, of whether the class is listed, the row, the length
 -- field and the number of bytes
-unfoldable pub row_code : Bool → ℕ → ℕ → ℕ → ℕ
-row_code listed i n len = cond (not listed) 3 (cond (eqb i 17) 4 (cond (eqb n len) (cond (eqb (len % 4) 0) 0 7) 7))
+unfoldable pub row_code : Bool → Option ℕ → ℕ → ℕ → ℕ
+row_code listed row n len = cond (not listed) 3 (cond (is_none row) 4 (cond (eqb n len) (cond (eqb (len % 4) 0) 0 7) 7))
 
 -- 3 to 8, of what they gave
 unfoldable pub row_outcome : ℕ → List ℕ → Reading
 row_outcome n s = cond (eqb n 0) (outcome (last_checks s) s) (unreadable n)
 
 abbrev pub kind_outcome : List ℕ → Reading
-kind_outcome s = row_outcome (row_code (has_class table (get_or s 2 0)) (row_in table (get_or s 2 0) (get_or s 3 0)) (be 4 s 4) (length s)) s
+kind_outcome s = row_outcome (row_code (has_class table (get_or s 2 0)) (listed (row_in table (get_or s 2 0) (get_or s 3 0))) (be 4 s 4) (length s)) s
 
 -- and all of them
 unfoldable pub checks_outcome : List ℕ → Reading

@@ -12,7 +12,9 @@ use lib.Dec.{eqb}
 use borrow.Author.Tests.{eq-eqb, ne_eqb}
 use Rattle.laws.specs.Inner.Below.{both_true}
 use Rattle.codec_wire.specs.Walk.{Par}
-use Rattle.codec_parameter.specs.Table.{Usage, forbidden, Entry, table, entries_in, usage}
+use Rattle.codec_parameter.specs.Table.{Entry, table, entries_in, usage}
+use Rattle.codec_parameter.specs.declared.Usage.{Usage}
+use Rattle.codec_parameter.specs.declared.Usage.TheVariants.{Forbidden}
 use Rattle.codec_parameter.specs.Inner.Slot.{slot, tag_at, info_of, packed_use, all_met}
 use Rattle.codec_parameter.specs.Check.{allowed_code, par_code}
 use Rattle.codec_parameter.specs.Value.{body_code}
@@ -21,7 +23,7 @@ use Rattle.laws.specs.Choice.{◌or_else◌}
 use Rattle.codec_parameter.proofs.Info.{musts_row, use_bits_lem}
 use Rattle.codec_read.specs.Verdict.{has, number, head, all_there, exactly, sequence_code, check8}
 use Rattle.codec_read.specs.Meaning.{meaning}
-use Rattle.codec_read.specs.Inner.Seen.{there, word, Seen, sequence_at, end_at, meaning_at}
+use Rattle.codec_read.specs.Inner.Seen.{there, word, Tells, sequence_at, end_at, meaning_at}
 
 -- ---- by tag and by slot
 
@@ -40,7 +42,7 @@ pub packed_uses : (i t k : ℕ) → i < 17 → k ≡ slot t → k < 32 → (pack
 packed_uses i t k hi ek hk =
     (use_bits_lem i 1 hi (omega arith) ∙ ap (usage i) tag_one, use_bits_lem i k hi hk ∙ ap (λ (j : ℕ). usage i (tag_at j)) ek ∙ usage_slot i t)
 
-forbidden_again : (u₁ u : Usage) (first a b : Bool) (t : ℕ) → u ≡ forbidden → allowed_code u₁ u first a t ≡ allowed_code u₁ u first b t
+forbidden_again : (u₁ u : Usage) (first a b : Bool) (t : ℕ) → u ≡ Forbidden → allowed_code u₁ u first a t ≡ allowed_code u₁ u first b t
 unfolding allowed_code
 forbidden_again u₁ u first a b t e = rw e refl
 
@@ -119,13 +121,13 @@ module _ (ps : List Par) (p : Par) (k : ℕ) where
       go false e = sym (word_none k ps e)
 
 -- the tables before the first parameter
-pub seen_none : Seen (replicate 32 false) (replicate 32 0) []
+pub seen_none : Tells (replicate 32 false) (replicate 32 0) []
 unfolding there word
 seen_none = record { met_is = λ k h. get_or-replicate 32 k false false h; words_is = λ k h. get_or-replicate 32 k 0 0 h }
 
 -- and after one parameter more
 pub seen_more : {met : List Bool} {words : List ℕ} {ps : List Par} (p : Par) (k : ℕ) → k ≡ slot p.tag → k < length met → k < length words → k < 32
-    → Seen met words ps → Seen (set met k true) (set words k (cond (get_or met k false) (get_or words k 0) (head p.body))) (ps ++ (p ∷ []))
+    → Tells met words ps → Tells (set met k true) (set words k (cond (get_or met k false) (get_or words k 0) (head p.body))) (ps ++ (p ∷ []))
 seen_more {met} {words} {ps} p k e hm hw h s =
     record { met_is = λ j b. mets j b (ℕ_discrete j k); words_is = λ j b. wds j b (ℕ_discrete j k) }
   where
@@ -163,7 +165,7 @@ own t h = near_slot 0 t h
 pub number_none : (t : ℕ) → near t ≡ true → (ps : List Par) → has t ps ≡ false → number t ps ≡ 0
 number_none t h ps e = number_word t (own t h) ps ∙ word_none (slot t) ps (sym (has_there t (own t h) ps) ∙ e)
 
-module _ {met : List Bool} {words : List ℕ} {ps : List Par} (s : Seen met words ps) where
+module _ {met : List Bool} {words : List ℕ} {ps : List Par} (s : Tells met words ps) where
   all_there_lem : (es : List Entry) → all_near es ≡ true → all_met es met ≡ all_there es ps
   unfolding all_met all_there all_near
   all_there_lem [] h = refl
