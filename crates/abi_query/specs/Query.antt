@@ -1,7 +1,7 @@
 -- What a host asks beside the events: a parameter of a message, the state of an AS, the place of a link, and
 -- which recovery times to start and to stop.
 -- Assumes nothing.
-use Rattle.std.specs.Prelude.{ℕ, cond, not, ◌&&◌, List, ltb}
+use Rattle.std.specs.Prelude.{ℕ, Option, Some, None, cond, not, ◌&&◌, List, ltb}
 use Rattle.laws.specs.Below.{one}
 use Rattle.laws.specs.Columns.{is_set, tabulate}
 use Rattle.codec_wire.specs.Walk.{walk}
@@ -15,11 +15,14 @@ use Rattle.abi_query.specs.declared.ParamAt.{ParamAt}
 use Rattle.abi_query.specs.declared.Answer.{Answer}
 use Rattle.abi_query.specs.declared.Waits.{Waits}
 
+-- a parameter that was found, as hosts are told of it: 1, or zeros where there is none
+abbrev pub told : Option Found → ParamAt
+told None = record { found = 0; start = 0; length = 0 }
+told (Some p) = record { found = 1; start = p.start; length = p.length }
+
 -- the first parameter that has the tag: that there is one, and where its value lies (Rule 1.8)
 unfoldable pub param_at : ℕ → List ℕ → ParamAt
-param_at t s =
-    let p : Found = found_in t t 8 (walk s 8).pars in
-    record { found = p.found; start = p.start; length = p.length }
+param_at t s = told (found_in t t 8 (walk s 8).pars)
 
 -- an answer, and a refused question
 abbrev pub answered : ℕ → Answer

@@ -62,11 +62,17 @@ pub fn m2ua_data(msg: &[u8]) -> DataAt
 pub fn m2ua_parameter(msg: &[u8], tag: u16) -> ParamAt
     ensures { result ≡ param_at tag msg.now }
 {
-    let p = codec_read::find(msg, HEADER, tag, tag);
-    ParamAt {
-        found: p.found,
-        start: p.start,
-        length: p.length,
+    match codec_read::find(msg, HEADER, tag, tag) {
+        Some(p) => ParamAt {
+            found: 1,
+            start: p.start,
+            length: p.length,
+        },
+        None => ParamAt {
+            found: 0,
+            start: 0,
+            length: 0,
+        },
     }
 }
 

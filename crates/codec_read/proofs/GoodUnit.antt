@@ -19,10 +19,11 @@ use Rattle.codec_parameter.specs.Check.{allowed_code, par_code}
 use Rattle.codec_parameter.proofs.Slots.{near}
 use Rattle.codec_read.specs.Verdict.{has, number, is_none, in_turn, all_there, pars_code, verdict}
 use Rattle.laws.specs.Below.{one}
-use Rattle.codec_read.specs.Meaning.{unreadable, meaning, outcome, reading_of, body_in, found_in, data_of, data_tag, data_at}
+use Rattle.codec_read.specs.Meaning.{unreadable, meaning, outcome, reading_of, body_in, found_in, or_zeros, data_of, data_tag, data_at}
 use Rattle.codec_read.specs.Inner.GoodUnit.{GoodUnit, tag_in}
 use Rattle.codec_read.specs.declared.Reading.{Reading}
 use Rattle.codec_read.specs.declared.Found.{Found}
+use Rattle.std.specs.Prelude.{Option, Some}
 use Rattle.codec_read.proofs.Told.{or_true, number_none}
 use Rattle.codec_read.proofs.Places.{data_key, data_lies}
 use Rattle.codec_read.proofs.Accepted.{or_none, if_none, accepted}
@@ -30,23 +31,23 @@ use Rattle.codec_read.proofs.Accepted.{or_none, if_none, accepted}
 -- ---- the first parameter of a tag
 
 -- of protocol data: its value stands behind its tag and length field
-place_behind : (at : ℕ) (ps : List Par) → has 0x300 ps ≡ true → 4 ≤ (found_in 0x300 0x301 at ps).start
+place_behind : (at : ℕ) (ps : List Par) → has 0x300 ps ≡ true → 4 ≤ (or_zeros (found_in 0x300 0x301 at ps)).start
 unfolding has found_in
 place_behind at [] h = absurd (false≢true h)
 place_behind at (p ∷ ps) h = let n = at + padded (4 + length p.body) in go (eqb p.tag 0x300 || eqb p.tag 0x301) (rw (data_key p.tag) at h) (found_in 0x300 0x301 n ps) (place_behind n ps)
   where
-    go : (b : Bool) → (b || has 0x300 ps) ≡ true → (d : Found) → (has 0x300 ps ≡ true → 4 ≤ d.start)
-        → 4 ≤ (cond b (record { found = 1; tag = p.tag; start = at + 4; length = length p.body }) d).start
+    go : (b : Bool) → (b || has 0x300 ps) ≡ true → (d : Option Found) → (has 0x300 ps ≡ true → 4 ≤ (or_zeros d).start)
+        → 4 ≤ (or_zeros (cond b (Some (record { tag = p.tag; start = at + 4; length = length p.body })) d)).start
     go true e d ih = omega arith
     go false e d ih = ih e
 
 -- and its tag
-tag_found : (at : ℕ) (ps : List Par) → (found_in 0x300 0x301 at ps).tag ≡ tag_in 0x300 ps
+tag_found : (at : ℕ) (ps : List Par) → (or_zeros (found_in 0x300 0x301 at ps)).tag ≡ tag_in 0x300 ps
 unfolding found_in tag_in
 tag_found at [] = refl
 tag_found at (p ∷ ps) = let n = at + padded (4 + length p.body) in rw (data_key p.tag) (go (eqb p.tag 0x300 || eqb p.tag 0x301) (found_in 0x300 0x301 n ps) (tag_found n ps))
   where
-    go : (b : Bool) (d : Found) → d.tag ≡ tag_in 0x300 ps → (cond b (record { found = 1; tag = p.tag; start = at + 4; length = length p.body }) d).tag ≡ cond b p.tag (tag_in 0x300 ps)
+    go : (b : Bool) (d : Option Found) → (or_zeros d).tag ≡ tag_in 0x300 ps → (or_zeros (cond b (Some (record { tag = p.tag; start = at + 4; length = length p.body })) d)).tag ≡ cond b p.tag (tag_in 0x300 ps)
     go true d ih = refl
     go false d ih = ih
 

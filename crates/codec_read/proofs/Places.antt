@@ -7,13 +7,14 @@ use Prim.Native.Nat.{ℕ, zero, suc, ◌+◌, ◌-◌, ◌<◌, ◌≤◌}
 use native.Mathlib.Omega.{arith}
 use lib.ListN.{length, take, drop, length-take, length-drop}
 use lib.Dec.{eqb}
+use Rattle.std.specs.Prelude.{Option, Some, None}
 use Rattle.codec_wire.specs.Walk.{padded, walk, step_at}
 use Rattle.codec_wire.specs.declared.Step.{Step}
 use Rattle.codec_wire.specs.declared.Step.TheVariants.{Param, End, Fault}
 use Rattle.codec_wire.proofs.Steps.{step_next, Next, pars_next, pars_stop, walk_step}
 use Rattle.codec_parameter.specs.Table.{key}
 use Rattle.codec_read.specs.declared.Found.{Found}
-use Rattle.codec_read.specs.Meaning.{body_in, found_in, place_of, data_of, data_at, LiesAt, DataLies}
+use Rattle.codec_read.specs.Meaning.{body_in, found_in, or_zeros, place_of, data_of, data_at, LiesAt, DataLies}
 
 -- a tag counts as 0x300: it is one of the two
 pub data_key : (u : ℕ) → eqb (key u) 0x300 ≡ (eqb u 0x300 || eqb u 0x301)
@@ -33,7 +34,7 @@ module _ (s : List ℕ) (at t l n : ℕ) (e : step_at s at ≡ Param t l n) wher
   next_is : at + padded (4 + (at + l - (at + 4))) ≡ n
   next_is = let k = step_next s at t l n e in let m : 4 + (at + l - (at + 4)) ≡ l = omega arith in ap (λ (x : ℕ). at + padded x) m ∙ sym k.place
 
-  pub found_next : (x y : ℕ) → found_in x y at (walk s at).pars ≡ cond (eqb t x || eqb t y) (record { found = 1; tag = t; start = at + 4; length = at + l - (at + 4) }) (found_in x y n (walk s n).pars)
+  pub found_next : (x y : ℕ) → found_in x y at (walk s at).pars ≡ cond (eqb t x || eqb t y) (Some (record { tag = t; start = at + 4; length = at + l - (at + 4) })) (found_in x y n (walk s n).pars)
   unfolding found_in
   found_next x y = rw (pars_next s at t l n e, body_length, next_is)
 
@@ -42,31 +43,31 @@ module _ (s : List ℕ) (at t l n : ℕ) (e : step_at s at ≡ Param t l n) wher
 
 -- the parameters end there
 pub found_stop : (s : List ℕ) (at x y : ℕ) (w : Step) → step_at s at ≡ w → ((t' l n : ℕ) → w ≡ Param t' l n → ⊥)
-    → found_in x y at (walk s at).pars ≡ record { found = 0; tag = 0; start = 0; length = 0 }
+    → found_in x y at (walk s at).pars ≡ None
 unfolding found_in
 found_stop s at x y w e h = ap (found_in x y at) (pars_stop s at w e h)
 
-either : {s v v' : List ℕ} (d d' : Found) (b : Bool) → LiesAt s (place_of d) v → LiesAt s (place_of d') v' → LiesAt s (place_of (cond b d d')) (cond b v v')
+either : {s v v' : List ℕ} (d d' : Option Found) (b : Bool) → LiesAt s (place_of (or_zeros d)) v → LiesAt s (place_of (or_zeros d')) v' → LiesAt s (place_of (or_zeros (cond b d d'))) (cond b v v')
 either d d' true h k = h
 either d d' false h k = k
 
 -- protocol data lies where the walk says
-lies : (s : List ℕ) (at : ℕ) → LiesAt s (place_of (found_in 0x300 0x301 at (walk s at).pars)) (body_in 0x300 (walk s at).pars)
+lies : (s : List ℕ) (at : ℕ) → LiesAt s (place_of (or_zeros (found_in 0x300 0x301 at (walk s at).pars))) (body_in 0x300 (walk s at).pars)
 unfolding found_in body_in
 lies s at = go (suc (length s - at)) at (omega arith)
   where
     nothing : LiesAt s (record { start = 0; length = 0 }) []
     nothing = record { bytes = refl; within = omega arith }
 
-    on : (at : ℕ) (w : Step) → step_at s at ≡ w → ((n : ℕ) → at < n → n ≤ length s → LiesAt s (place_of (found_in 0x300 0x301 n (walk s n).pars)) (body_in 0x300 (walk s n).pars))
-        → LiesAt s (place_of (found_in 0x300 0x301 at (walk s at).pars)) (body_in 0x300 (walk s at).pars)
+    on : (at : ℕ) (w : Step) → step_at s at ≡ w → ((n : ℕ) → at < n → n ≤ length s → LiesAt s (place_of (or_zeros (found_in 0x300 0x301 n (walk s n).pars))) (body_in 0x300 (walk s n).pars))
+        → LiesAt s (place_of (or_zeros (found_in 0x300 0x301 at (walk s at).pars))) (body_in 0x300 (walk s at).pars)
     on at (Param u l n) e ih =
         let k : Next s at l n = step_next s at u l n e in
         rw (pars_next s at u l n e, body_length s at u l n e, next_is s at u l n e, data_key u) (either _ _ (eqb u 0x300 || eqb u 0x301) (found_lies s at u l n e) (ih n (omega arith) (omega arith)))
     on at End e ih = rw (walk_step s at End e) nothing
     on at Fault e ih = rw (walk_step s at Fault e) nothing
 
-    go : (f at : ℕ) → length s - at < f → LiesAt s (place_of (found_in 0x300 0x301 at (walk s at).pars)) (body_in 0x300 (walk s at).pars)
+    go : (f at : ℕ) → length s - at < f → LiesAt s (place_of (or_zeros (found_in 0x300 0x301 at (walk s at).pars))) (body_in 0x300 (walk s at).pars)
     go zero at h = absurd (omega arith)
     go (suc f) at h = on at (step_at s at) refl (λ n a b. go f n (omega arith))
 

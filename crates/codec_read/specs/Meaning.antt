@@ -1,6 +1,6 @@
 -- What reading a message gives (Rule 2.18), and where its protocol data lies (Rule 1.7).
 -- Assumes nothing.
-use Rattle.std.specs.Prelude.{◌≡◌, ℕ, ◌+◌, ◌≤◌, true, cond, ◌||◌, List, [], ◌∷◌, length, get_or, take, drop, eqb}
+use Rattle.std.specs.Prelude.{◌≡◌, ℕ, Option, Some, None, ◌+◌, ◌≤◌, true, cond, ◌||◌, List, [], ◌∷◌, length, get_or, take, drop, eqb}
 use Rattle.laws.specs.Below.{one}
 use Rattle.codec_wire.specs.Walk.{Par, padded, walk}
 use Rattle.codec_parameter.specs.Table.{key}
@@ -73,13 +73,18 @@ unfoldable pub body_in : ℕ → List Par → List ℕ
 body_in t [] = []
 body_in t (p ∷ ps) = cond (eqb (key p.tag) (key t)) p.body (body_in t ps)
 
--- the first parameter that has one of two tags, if the first of all stands at a position: that there is one,
--- its tag, and where its value lies
-unfoldable pub found_in : ℕ → ℕ → ℕ → List Par → Found
-found_in t u at [] = record { found = 0; tag = 0; start = 0; length = 0 }
+-- the first parameter that has one of two tags, if the first of all stands at a position: its tag, and where
+-- its value lies
+unfoldable pub found_in : ℕ → ℕ → ℕ → List Par → Option Found
+found_in t u at [] = None
 found_in t u at (p ∷ ps) =
-    cond (eqb p.tag t || eqb p.tag u) (record { found = 1; tag = p.tag; start = at + 4; length = length p.body })
+    cond (eqb p.tag t || eqb p.tag u) (Some (record { tag = p.tag; start = at + 4; length = length p.body }))
     (found_in t u (at + padded (4 + length p.body)) ps)
+
+-- a parameter that was found; zeros where there is none
+abbrev pub or_zeros : Option Found → Found
+or_zeros None = record { tag = 0; start = 0; length = 0 }
+or_zeros (Some f) = f
 
 abbrev pub place_of : Found → DataAt
 place_of f = record { start = f.start; length = f.length }
@@ -89,10 +94,10 @@ unfoldable pub data_of : List ℕ → List ℕ
 data_of s = body_in 0x300 (walk s 8).pars
 
 unfoldable pub data_tag : List ℕ → ℕ
-data_tag s = (found_in 0x300 0x301 8 (walk s 8).pars).tag
+data_tag s = (or_zeros (found_in 0x300 0x301 8 (walk s 8).pars)).tag
 
 unfoldable pub data_at : List ℕ → DataAt
-data_at s = place_of (found_in 0x300 0x301 8 (walk s 8).pars)
+data_at s = place_of (or_zeros (found_in 0x300 0x301 8 (walk s 8).pars))
 
 -- bytes are those that lie in a message at a place
 pub record LiesAt (s : List ℕ) (d : DataAt) (v : List ℕ) : Type 0 where

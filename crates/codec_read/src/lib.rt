@@ -9,7 +9,7 @@ ghost use Rattle.codec_parameter.specs.Table.{table, row_in};
 ghost use Rattle.codec_parameter.specs.Inner.Slot.{slot, info_of, packed_use};
 ghost use Rattle.codec_parameter.specs.Check.{par_code};
 ghost use Rattle.codec_read.specs.Verdict.{exactly, head, last_checks};
-ghost use Rattle.codec_read.specs.Meaning.{unreadable, meaning, outcome, reading_of, found_in, data_tag, data_at, data_of};
+ghost use Rattle.codec_read.specs.Meaning.{unreadable, meaning, outcome, reading_of, found_in, data_at, data_of};
 ghost use Rattle.codec_read.specs.Inner.Seen.{none, after, sequence_at, end_at, meaning_at, outcome_at, row_code, kind_outcome, checks_outcome, needs_none, is_bare};
 
 use codec_parameter::RowInfo;
@@ -240,10 +240,7 @@ fn finish(fault: Result<(), Refusal>, musts: u32, c: u8, t: u8, seen: &Seen) -> 
 fn refused_at(s: &[u8], next: usize, r: Refusal) -> Reading
     ensures { result ≡ unreadable ((walk s.now next).code or_else number r) }
 {
-    match codec_wire::walk_code(s, next) {
-        Ok(()) => refused(r),
-        Err(fault) => refused(fault),
-    }
+    refused(codec_wire::walk_code(s, next).err().unwrap_or(r))
 }
 
 // The checks 6 to 8 in one walk, of a message whose row is known.
@@ -367,6 +364,7 @@ pub fn read(s: &[u8]) -> Reading
 
 // Where the protocol data of a message lies: its first byte and the number of its bytes; both 0 where there
 // is none.
+// Kept: the C interface (include/m2ua.h) has these columns.
 #[repr(C)]
 #[derive(Drop)]
 pub struct DataAt {
@@ -374,40 +372,32 @@ pub struct DataAt {
     pub length: usize,
 }
 
-// A parameter of a message: whether there is one, its tag, and where its value lies; all 0 where there is
-// none.
-#[derive(Drop)]
+// A parameter of a message: its tag, and where its value lies.
+#[derive(Clone, Copy)]
 pub struct Found {
-    pub found: u32,
     pub tag: u16,
     pub start: usize,
     pub length: usize,
 }
 
 // The first parameter that has one of two tags, from a position on.
-pub fn find(s: &[u8], from: usize, t: u16, u: u16) -> Found
+pub fn find(s: &[u8], from: usize, t: u16, u: u16) -> Option<Found>
     ensures { result ≡ found_in t u from (walk s.now from).pars }
 {
     let mut at = from;
     loop {
         let w = codec_wire::reading_at(s, at);
         let Step::Param { tag, len, next } = w else {
-            return Found {
-                found: 0,
-                tag: 0,
-                start: 0,
-                length: 0,
-            };
+            return None;
         };
         if (tag == t) | (tag == u) {
             let start = at + 4;
-            let stop = at + len as usize;
-            return Found {
-                found: 1,
+            let stop = at + usize::from(len);
+            return Some(Found {
                 tag,
                 start,
                 length: stop - start,
-            };
+            });
         }
         at = next;
     }
@@ -415,8 +405,8 @@ pub fn find(s: &[u8], from: usize, t: u16, u: u16) -> Found
 
 // The protocol data of a message, the SS7 signalling unit: the value of the first 0x300 or 0x301 (Rule 1.7),
 // and which of the two it is.
-pub fn data_unit(s: &[u8]) -> Found
-    ensures { (result.tag ≡ data_tag s.now) × (result.start ≡ (data_at s.now).start) × (result.length ≡ (data_at s.now).length) }
+pub fn data_unit(s: &[u8]) -> Option<Found>
+    ensures { result ≡ found_in 0x300 0x301 8 (walk s.now 8).pars }
 {
     find(s, HEADER, 0x300, 0x301)
 }
@@ -425,10 +415,15 @@ pub fn data_unit(s: &[u8]) -> Found
 pub fn data_at(s: &[u8]) -> DataAt
     ensures { result ≡ data_at s.now }
 {
-    let u = data_unit(s);
-    DataAt {
-        start: u.start,
-        length: u.length,
+    match data_unit(s) {
+        Some(u) => DataAt {
+            start: u.start,
+            length: u.length,
+        },
+        None => DataAt {
+            start: 0,
+            length: 0,
+        },
     }
 }
 

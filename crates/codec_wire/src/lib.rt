@@ -14,34 +14,23 @@ pub const MOST: usize = 2048;
 // Why a message is refused: RFC 3331's error codes.
 #[derive(Clone, Copy, PartialEq, Eq, Debug)]
 pub enum Refusal {
-    InvalidVersion,
-    UnsupportedClass,
-    UnsupportedType,
-    UnsupportedMode,
-    ProtocolError,
-    UnsupportedIdentifier,
-    InvalidValue,
-    FieldError,
-    UnexpectedParameter,
-    MissingParameter,
+    InvalidVersion = 1,
+    UnsupportedClass = 3,
+    UnsupportedType = 4,
+    UnsupportedMode = 5,
+    ProtocolError = 7,
+    UnsupportedIdentifier = 8,
+    InvalidValue = 17,
+    FieldError = 18,
+    UnexpectedParameter = 19,
+    MissingParameter = 22,
 }
 
 impl From<Refusal> for u32 {
     fn from(r: Refusal) -> u32
         ensures { result ≡ number r }
     {
-        match r {
-            Refusal::InvalidVersion => 1,
-            Refusal::UnsupportedClass => 3,
-            Refusal::UnsupportedType => 4,
-            Refusal::UnsupportedMode => 5,
-            Refusal::ProtocolError => 7,
-            Refusal::UnsupportedIdentifier => 8,
-            Refusal::InvalidValue => 17,
-            Refusal::FieldError => 18,
-            Refusal::UnexpectedParameter => 19,
-            Refusal::MissingParameter => 22,
-        }
+        r as u32
     }
 }
 

@@ -23,6 +23,13 @@ use state_tables::Gateway;
 // The largest sequence number of a plain link (Rule 5.23).
 const PLAIN_MOST: u32 = 127;
 
+// The protocol data of a message that has none.
+const NO_DATA: Found = Found {
+    tag: 0,
+    start: 0,
+    length: 0,
+};
+
 // ---- records (Rule 5.27)
 
 // The link at l of a whole state, for who does not hold it for an event. (Who does reads the places itself: a
@@ -299,7 +306,8 @@ fn hold_work(msg: &[u8], a: usize, o: Owner, r: Reading) -> Decision
     ensures { Decides result (hold_effect msg.now r a o) }
 {
     if o.held < 8 {
-        return take_in(a, codec_read::data_unit(msg), r);
+        let d = codec_read::data_unit(msg).unwrap_or(NO_DATA);
+        return take_in(a, d, r);
     }
     event_decision::nothing()
 }

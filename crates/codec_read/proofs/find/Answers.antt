@@ -15,9 +15,6 @@ returns-in_default c = sym (found_stop _ _ _ _ _ (sym c.reading_at-w.ensures) c.
 pub overflow_add-start : goal.overflow_add-start
 overflow_add-start c = let k = step_next _ _ _ _ _ (sym c.reading_at-w.ensures ∙ c.in-Param.is) in omega arith
 
-pub overflow_cast-stop : goal.overflow_cast-stop
-overflow_cast-stop c = let k = step_next _ _ _ _ _ (sym c.reading_at-w.ensures ∙ c.in-Param.is) in omega arith
-
 pub overflow_add-stop : goal.overflow_add-stop
 overflow_add-stop c = let k = step_next _ _ _ _ _ (sym c.reading_at-w.ensures ∙ c.in-Param.is) in omega arith
 
@@ -26,7 +23,8 @@ overflow_sub-result c = let k = step_next _ _ _ _ _ (sym c.reading_at-w.ensures 
 
 pub returns-then-tag-t : goal.returns-then-tag-t
 returns-then-tag-t c =
-    at_yes _ _ _ c.if-tag-t.true refl ∙ sym (found_next _ _ _ _ _ (sym c.reading_at-w.ensures ∙ c.in-Param.is) _ _) ∙ c.loop-tag.invariant
+    rw c.from.ensures
+    (at_yes _ _ _ c.if-tag-t.true refl ∙ sym (found_next _ _ _ _ _ (sym c.reading_at-w.ensures ∙ c.in-Param.is) _ _) ∙ c.loop-tag.invariant)
 
 pub loop-tag-smaller : goal.loop-tag-smaller
 loop-tag-smaller c = let k = step_next _ _ _ _ _ (sym c.reading_at-w.ensures ∙ c.in-Param.is) in omega arith
