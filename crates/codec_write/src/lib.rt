@@ -1,5 +1,5 @@
 // Writes M2UA messages from a lent list of tags and values.
-#![tactic(auto)]
+#![tactic(auto, unfolding(crate::specs::Inner::Write::kind_code))]
 
 ghost use Rattle.std.specs.Prelude.{◌≡◌, ◌≤◌, ◌<◌, length, IfOk};
 ghost use Rattle.codec_wire.specs.Refusal.{number, code};
@@ -29,8 +29,8 @@ pub struct Written {
 }
 
 // Why nothing is written: what the reader would refuse, or a buffer that is short.
-#[derive(Clone, Copy, PartialEq, Eq, Debug)]
-pub enum WriteRefusal {
+#[derive(Clone, Copy)]
+enum WriteRefusal {
     Reader(Refusal),
     ShortBuffer,
 }
@@ -128,7 +128,6 @@ impl<'a> Whole<'a> {
     }
 
     // What the reader would say of its class, type and parameters.
-    #[tactic(auto, unfolding(crate::specs::Inner::Write::kind_code))]
     fn kind_check(self) -> Result<(), Refusal>
         ensures { code result ≡ kind_code self.entry.message.class self.entry.message.msgtype (pars_of self.entry.message) }
     {
