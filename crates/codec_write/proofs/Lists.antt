@@ -103,3 +103,6 @@ pub size_none : (ts ns vs : List ℕ) (n : ℕ) → Sized ts ns vs n → 0 ≡ s
 unfolding size_code
 size_none ts ns vs n s =
     rw (eq-eqb (length ns) (length ts) s.lent.lengths, le-ltb most (8 + sizes ns) (let h = s.small in let e = s.size_is in omega arith), eq-eqb (total ns) (length vs) s.lent.values)
+
+-- what Message::whole asks of its loop
+pub ruleset size_turns = (total_next, sizes_next, total_none, sizes_none, size_other, size_over, size_total, size_none)

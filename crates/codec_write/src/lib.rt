@@ -70,6 +70,7 @@ impl From<Result<usize, WriteRefusal>> for Written {
 
 impl<'a> Message<'a> {
     // It with its length, where the list is whole and the length at most 2,048 bytes.
+    #[tactic(auto, using(crate::proofs::Lists::size_turns))]
     fn whole(self) -> Result<Whole<'a>, Refusal>
         ensures size { code result ≡ size_code self.entry.tags.now self.entry.lens.now self.entry.values.now }
         ensures same { IfOk result (λ w. w.message ≡ self.entry) }
