@@ -18,6 +18,9 @@ mod message;
 
 use message::{Message, Whole};
 
+// The refusal of a buffer that is short.
+const SHORT_BUFFER: u32 = 103;
+
 // What a write did. A refused list has its number in `code`, and length 0.
 #[repr(C)]
 #[derive(Drop)]
@@ -49,7 +52,7 @@ impl From<WriteRefusal> for u32 {
     {
         match r {
             WriteRefusal::Reader(r) => u32::from(r),
-            WriteRefusal::ShortBuffer => 103,
+            WriteRefusal::ShortBuffer => SHORT_BUFFER,
         }
     }
 }
