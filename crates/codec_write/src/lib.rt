@@ -22,6 +22,7 @@ use message::{Message, Whole};
 const SHORT_BUFFER: u32 = 103;
 
 // What a write did. A refused list has its number in `code`, and length 0.
+// Kept: the C interface (include/m2ua.h) has these two numbers, where the code within has a Result.
 #[repr(C)]
 #[derive(Drop)]
 pub struct Written {
@@ -176,6 +177,7 @@ impl<'a> Whole<'a> {
 
 // Writes the message of a class, a type and a list of tags and values at the start of a buffer. The list is
 // lent as the tags, the lengths of the values, and the values one after the other.
+// Kept: the C interface (include/m2ua.h) has these columns; behind it they are one struct, Message.
 pub fn write(
     class: u8,
     msgtype: u8,
