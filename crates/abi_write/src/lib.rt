@@ -8,6 +8,7 @@ use codec_write::Written;
 
 // Writes the message of a class, a type and a list of tags and values: the tags, the lengths of the values,
 // and the values one after the other.
+// Kept: abi_write_c::m2ua_write is its twin: a crate is a library or a static library, not both.
 pub fn m2ua_write(
     class: u8,
     msgtype: u8,

@@ -9,6 +9,7 @@ use codec_write::Written;
 
 // Writes the message of a class, a type and a list of tags and values: the tags, the lengths of the values,
 // and the values one after the other.
+// Kept: the C interface (include/m2ua.h) has this entry, apart from its twin abi_write::m2ua_write.
 #[unsafe(no_mangle)]
 pub extern "C" fn m2ua_write(
     class: u8,

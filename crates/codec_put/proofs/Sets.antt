@@ -1,13 +1,14 @@
 -- Writing one run of bytes after another is writing both.
 -- Assumes nothing.
 use mathlib.Core.Path.{◌≡◌, refl, sym, ap, ◌∙◌}
-use mathlib.Core.List.{List, [], ◌∷◌, ◌++◌}
+use mathlib.Core.List.{List, [], ◌∷◌, ◌++◌, append_assoc}
 use Prim.Native.Nat.{ℕ, suc, ◌+◌, ◌<◌, ◌≤◌}
 use native.Mathlib.Nat.{add-zero, zero-add}
 use native.Mathlib.Omega.{arith}
 use native.Mathlib.Numerals.{add-one}
 use lib.ListN.{length, get_or, take, drop, set}
-use lib.Seq.{take-suc, length-take-le, length-sets, sets-eq, take_at, get_or-take}
+use lib.Seq.{drop-drop, take-suc, length-take-le, length-sets, sets-eq, take_at, get_or-take}
+use borrow.Rule.Slice.PartMut.{put_mid}
 use Rattle.codec_put.specs.Bytes.{overlay}
 
 pub over_append : (l xs ys : List ℕ) (i : ℕ) → overlay (overlay l i xs) (i + length xs) ys ≡ overlay l i (xs ++ ys)
@@ -30,6 +31,11 @@ first_more l v k h = rw (zero-add k) at (over_more l v 0 k h)
 pub over_two : (l xs ys l₁ l₂ : List ℕ) (i j : ℕ) → l₁ ≡ overlay l i xs → j ≡ i + length xs → l₂ ≡ overlay l₁ j ys → l₂ ≡ overlay l i (xs ++ ys)
 over_two l xs ys l₁ l₂ i j e₁ ej e₂ = rw (e₂, e₁, ej) (over_append l xs ys i)
 
+-- a part of a list that now has the bytes v
+pub over_part : (l v ys : List ℕ) (i k : ℕ) → ys ≡ v → k ≡ length v → i + length v ≤ length l → put_mid i k l ys ≡ overlay l i v
+unfolding overlay
+over_part l v ys i k e ek h = rw (e, ek, drop-drop (length v) i l, sets-eq v l i h) (sym (append_assoc (take i l) v _))
+
 pub length_over : (l : List ℕ) (i : ℕ) (vs : List ℕ) → length (overlay l i vs) ≡ length l
 unfolding overlay
 length_over l i vs = length-sets l i vs
@@ -43,24 +49,11 @@ take_over l vs h = rw (sets-eq vs l 0 (omega arith)) (take_at vs (drop (0 + leng
 pub begins_at : (l v : List ℕ) (k : ℕ) → take (length v) l ≡ v → k < length v → get_or l k 0 ≡ get_or v k 0
 begins_at l v k e h = sym (get_or-take (length v) l k 0 h) ∙ ap (λ x. get_or x k 0) e
 
--- four bytes at a position, and what follows them
-pub over_four : (l ys l₂ : List ℕ) (i a b c d : ℕ) → l₂ ≡ overlay (set (set (set (set l i a) (i + 1) b) (i + 2) c) (i + 3) d) (i + 4) ys → l₂ ≡ overlay l i (a ∷ b ∷ c ∷ d ∷ ys)
-unfolding overlay
-over_four l ys l₂ i a b c d e =
-    let e₂ : i + 2 ≡ suc (suc i) = omega arith in
-    let e₃ : i + 3 ≡ suc (suc (suc i)) = omega arith in
-    let e₄ : i + 4 ≡ suc (suc (suc (suc i))) = omega arith in
-    rw (add-one i, e₂, e₃, e₄) at e
-
--- four bytes at a position
-pub over_each : (l v : List ℕ) (i : ℕ) → length v ≡ 4 → set (set (set (set l i (get_or v 0 0)) (i + 1) (get_or v 1 0)) (i + 2) (get_or v 2 0)) (i + 3) (get_or v 3 0) ≡ overlay l i v
-unfolding overlay
-over_each l (a ∷ b ∷ c ∷ d ∷ []) i h =
-    let e₂ : i + 2 ≡ suc (suc i) = omega arith in
-    let e₃ : i + 3 ≡ suc (suc (suc i)) = omega arith in
-    rw (add-one i, e₂, e₃)
-over_each l [] i h = absurd (omega arith)
-over_each l (a ∷ []) i h = absurd (omega arith)
-over_each l (a ∷ b ∷ []) i h = absurd (omega arith)
-over_each l (a ∷ b ∷ c ∷ []) i h = absurd (omega arith)
-over_each l (a ∷ b ∷ c ∷ d ∷ e ∷ v) i h = absurd (omega arith)
+-- four bytes
+pub four : (v : List ℕ) → length v ≡ 4 → get_or v 0 0 ∷ get_or v 1 0 ∷ get_or v 2 0 ∷ get_or v 3 0 ∷ [] ≡ v
+four (a ∷ b ∷ c ∷ d ∷ []) h = refl
+four [] h = absurd (omega arith)
+four (a ∷ []) h = absurd (omega arith)
+four (a ∷ b ∷ []) h = absurd (omega arith)
+four (a ∷ b ∷ c ∷ []) h = absurd (omega arith)
+four (a ∷ b ∷ c ∷ d ∷ e ∷ v) h = absurd (omega arith)

@@ -13,7 +13,7 @@ use Rattle.codec_wire.proofs.Steps.{pars_next, pars_stop, step_next, Next}
 use Rattle.codec_put.specs.Bytes.{par, par_size, par_bytes, pars_bytes}
 use Rattle.codec_put.proofs.Round.{length_par}
 use Rattle.codec_select.specs.Only.{only}
-use Rattle.codec_select.specs.Inner.Picks.{only_yes, only_no, only_end}
+use Rattle.codec_select.specs.Inner.Picks.{only_yes, only_no, only_end, none_size}
 
 -- the parameters picked from a position on
 abbrev pub left : (ℕ → Bool) → List ℕ → ℕ → List Par
@@ -56,3 +56,6 @@ module _ (f : ℕ → Bool) (s : List ℕ) (at t l n : ℕ) (e : step_at s at �
 
   pub size_no : f t ≡ false → left_size f s at ≡ left_size f s n
   size_no y = ap (λ (x : List Par). length (pars_bytes x)) (left_no y)
+
+-- what `picked_size` asks of a turn
+pub ruleset size_turns = (step_next, size_stop, size_yes, size_no, none_size)

@@ -8,7 +8,7 @@ use native.Mathlib.Nat.{div-add-mod'}
 use native.Mathlib.Omega.{arith}
 use lib.ListN.{length, get_or}
 use lib.Dec.{ltb, eqb}
-use borrow.Author.Tests.{le-ltb, eq-eqb, eqb-true, ne_eqb}
+use borrow.Author.Tests.{le-ltb, eq-eqb, eqb-true}
 use Rattle.codec_wire.specs.Number.{be}
 use Rattle.codec_wire.specs.Walk.{Par, Walk, walk}
 use Rattle.codec_wire.proofs.Number.{be_four}
@@ -18,7 +18,7 @@ use Rattle.codec_read.specs.Verdict.{most, check1, check2, check3, check4, check
 use Rattle.codec_put.specs.Bytes.{head_bytes, pars_bytes}
 use Rattle.codec_put.proofs.Round.{be_two_in, walk_written, pars_multiple}
 use Rattle.codec_write.specs.Encode.{size_of, encode, total, pars_in, whole}
-use Rattle.codec_write.specs.Inner.Write.{sizes, size_if, row_code, list_verdict}
+use Rattle.codec_write.specs.Inner.Write.{sizes, size_code, row_code, kind_code}
 use Rattle.codec_write.proofs.Lists.{length_list}
 
 -- a check that applies decides
@@ -91,30 +91,25 @@ list_sized : (c t : ℕ) (ps : List Par) (n : ℕ) → size_of ps ≡ n
 unfolding list_code
 list_sized c t ps n e = rw e
 
--- the code's tests in its order give the number of the promise
-pub list_verdict_lem : (c t : ℕ) (ts ns vs : List ℕ)
-    → list_verdict (size_if (length ts) ns (length vs)) (has_class table c) (row_in table c t) c t (pars_in ts ns vs)
-    ≡ (7 if not (whole ts ns vs)) or_else verdict (encode c t (pars_in ts ns vs))
-unfolding list_verdict size_if whole row_code pars_code
-list_verdict_lem c t ts ns vs = go (eqb (length ns) (length ts)) (eqb (total ns) (length vs)) refl refl
+-- the code's checks in its order give the number of the promise
+pub code_lem : (c t : ℕ) (ts ns vs : List ℕ)
+    → (size_code ts ns vs or_else kind_code c t (pars_in ts ns vs)) ≡ (7 if not (whole ts ns vs)) or_else verdict (encode c t (pars_in ts ns vs))
+unfolding size_code kind_code whole row_code pars_code
+code_lem c t ts ns vs = go (eqb (length ns) (length ts)) (eqb (total ns) (length vs)) refl refl
   where
-    ps : List Par
-    ps = pars_in ts ns vs
-
     rest : ℕ
     rest = cond (not (has_class table c)) 3 (cond (eqb (row_in table c t) 17) 4 (pars_code c t (pars_in ts ns vs)))
 
-    none : (b : Bool) → cond (eqb (cond b 0 0) 0) 7 rest ≡ 7
+    none : (b : Bool) → (cond b 7 7 or_else rest) ≡ 7
     none true = refl
     none false = refl
 
-    some : (b : Bool) → cond (eqb (cond b 0 (8 + sizes ns)) 0) 7 rest ≡ cond b 7 rest
+    some : (b : Bool) → (cond b 7 0 or_else rest) ≡ cond b 7 rest
     some true = refl
-    some false = rw (ne_eqb (8 + sizes ns) 0 (λ e. omega arith))
+    some false = refl
 
     go : (a d : Bool) → eqb (length ns) (length ts) ≡ a → eqb (total ns) (length vs) ≡ d
-        → cond (eqb (cond a (cond (ltb most (8 + sizes ns)) 0 (cond d (8 + sizes ns) 0)) 0) 0) 7 rest
-        ≡ (7 if not (a && d)) or_else verdict (encode c t (pars_in ts ns vs))
+        → (cond a (cond (ltb most (8 + sizes ns)) 7 (cond d 0 7)) 7 or_else rest) ≡ (7 if not (a && d)) or_else verdict (encode c t (pars_in ts ns vs))
     go false d ea ed = refl
     go true false ea ed = none (ltb most (8 + sizes ns))
     go true true ea ed =

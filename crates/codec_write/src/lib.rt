@@ -1,21 +1,28 @@
 // Writes M2UA messages from a lent list of tags and values.
-#![tactic(auto)]
+#![tactic(auto, unfolding(crate::specs::Inner::Write::kind_code))]
 
-ghost use Rattle.std.specs.Prelude.{◌≡◌, ◌+◌, ◌≤◌, ◌<◌, length};
+ghost use Rattle.std.specs.Prelude.{◌≡◌, ◌≤◌, ◌<◌, length, IfOk};
+ghost use Rattle.codec_wire.specs.Refusal.{number, code};
 ghost use Rattle.codec_parameter.specs.Table.{table, has_class, row_in};
-ghost use Rattle.codec_parameter.specs.Inner.Slot.{info_of};
 ghost use Rattle.codec_put.specs.Bytes.{overlay, pars_bytes};
-ghost use Rattle.codec_write.specs.Encode.{encode, pars_in};
+ghost use Rattle.codec_write.specs.Encode.{encode};
 ghost use Rattle.codec_write.specs.Write.{Writes};
-ghost use Rattle.codec_write.specs.Inner.Write.{size_if, Lent, Fits, row_code, list_verdict, room_code, Emits};
+ghost use Rattle.codec_write.specs.declared.WriteRefusal.TheVariants.{Reader};
+ghost use Rattle.codec_write.specs.Inner.Write.{size_code, kind_code, row_code};
+ghost use Rattle.codec_write.specs.Inner.Message.{pars_of, write_number, written_of};
 
-use codec_parameter::{NO_ROW, RowInfo};
-use codec_wire::{HEADER, MOST, PROTOCOL_ERROR, UNSUPPORTED_CLASS, UNSUPPORTED_TYPE};
+use codec_read::Seen;
+use codec_wire::{HEADER, MOST, Refusal};
+
+mod message;
+
+use message::{Message, Whole};
 
 // The refusal of a buffer that is short.
 const SHORT_BUFFER: u32 = 103;
 
 // What a write did. A refused list has its number in `code`, and length 0.
+// Kept: the C interface (include/m2ua.h) has these two numbers, where the code within has a Result.
 #[repr(C)]
 #[derive(Drop)]
 pub struct Written {
@@ -25,192 +32,152 @@ pub struct Written {
     pub length: usize,
 }
 
-// The length of the message of a whole list; 0 where the list is not whole or the message is over 2,048
-// bytes.
-fn size_of(tags: usize, lens: &[u32], values: usize) -> usize
-    ensures { result ≡ size_if tags lens.now values }
-{
-    if lens.len() != tags {
-        return 0;
+// Why nothing is written: what the reader would refuse, or a buffer that is short.
+#[derive(Clone, Copy)]
+enum WriteRefusal {
+    Reader(Refusal),
+    ShortBuffer,
+}
+
+impl From<Refusal> for WriteRefusal {
+    ghost from_gives = { λ r e. e ≡ Reader r };
+
+    fn from(r: Refusal) -> WriteRefusal {
+        WriteRefusal::Reader(r)
     }
-    let mut size: usize = HEADER;
-    let mut sum: usize = 0;
-    let mut i: usize = 0;
-    while i < lens.len() {
-        let n = lens[i] as usize;
-        size += (4 + n + 3) / 4 * 4;
-        if MOST < size {
-            return 0;
+}
+
+impl From<WriteRefusal> for u32 {
+    fn from(r: WriteRefusal) -> u32
+        ensures { result ≡ write_number r }
+    {
+        match r {
+            WriteRefusal::Reader(r) => u32::from(r),
+            WriteRefusal::ShortBuffer => SHORT_BUFFER,
         }
-        sum += n;
-        i += 1;
     }
-    if sum != values {
-        return 0;
-    }
-    size
 }
 
-// The checks 7 and 8 of a whole list: the value of each tag in turn is as many bytes of values as lens says.
-fn list_code(
-    info: RowInfo,
-    class: u8,
-    msgtype: u8,
-    tags: &[u16],
-    lens: &[u32],
-    values: &[u8],
-) -> u32
-    requires { (row_in table class msgtype < 17) × (info ≡ info_of (row_in table class msgtype)) × Lent tags.now lens.now values.now }
-    ensures { result ≡ row_code (row_in table class msgtype) class msgtype (pars_in tags.now lens.now values.now) }
-{
-    let mut met = [false; 32];
-    let mut words = [0u32; 32];
-    let mut first = true;
-    let mut i: usize = 0;
-    let mut at: usize = 0;
-    while i < tags.len() {
-        let tag = tags[i];
-        let stop = at + lens[i] as usize;
-        let k = codec_parameter::slot_of(tag);
-        let again = met[k];
-        let code = codec_parameter::par_at(info.uses, first, again, k, tag, &values[at..stop]);
-        if code != 0 {
-            return code;
+impl From<Result<usize, WriteRefusal>> for Written {
+    fn from(r: Result<usize, WriteRefusal>) -> Written
+        ensures { result ≡ written_of r }
+    {
+        match r {
+            Ok(length) => Written { code: 0, length },
+            Err(r) => Written {
+                code: u32::from(r),
+                length: 0,
+            },
         }
-        words[k] = codec_read::kept(again, words[k], &values[at..stop]);
-        met[k] = true;
-        first = false;
-        at = stop;
-        i += 1;
-    }
-    codec_read::end_code(info.musts, class, msgtype, &met, &words)
-}
-
-// The verdict on the message of a list, of its length, whether the class is listed, and the row.
-fn verdict_of(
-    size: usize,
-    listed: bool,
-    row: usize,
-    class: u8,
-    msgtype: u8,
-    tags: &[u16],
-    lens: &[u32],
-    values: &[u8],
-) -> u32
-    requires { (row ≤ 17) × (row ≡ row_in table class msgtype) × (size ≡ size_if (length tags.now) lens.now (length values.now)) }
-    ensures { result ≡ list_verdict size listed row class msgtype (pars_in tags.now lens.now values.now) }
-{
-    if size == 0 {
-        return PROTOCOL_ERROR;
-    }
-    if !listed {
-        return UNSUPPORTED_CLASS;
-    }
-    if row == NO_ROW {
-        return UNSUPPORTED_TYPE;
-    }
-    list_code(
-        codec_parameter::row_info(row),
-        class,
-        msgtype,
-        tags,
-        lens,
-        values,
-    )
-}
-
-// The reader's number, then 103 where a buffer of so many bytes is short.
-fn with_room(verdict: u32, size: usize, room: usize) -> u32
-    ensures { result ≡ room_code verdict size room }
-{
-    if verdict != 0 {
-        return verdict;
-    }
-    if room < size {
-        return SHORT_BUFFER;
-    }
-    0
-}
-
-// The parameters of a list, written behind the header.
-fn put_pars(out: &mut [u8], size: usize, tags: &[u16], lens: &[u32], values: &[u8])
-    requires { Fits tags.now lens.now values.now size out.old }
-    ensures { out.new ≡ overlay out.old 8 (pars_bytes (pars_in tags.now lens.now values.now)) }
-{
-    let mut at: usize = HEADER;
-    let mut i: usize = 0;
-    let mut pos: usize = 0;
-    while i < tags.len() {
-        let stop = pos + lens[i] as usize;
-        at = codec_put::put_param(out, at, tags[i], &values[pos..stop]);
-        pos = stop;
-        i += 1;
     }
 }
 
-// The message of a list that was accepted.
-fn put_message(
-    out: &mut [u8],
-    size: usize,
-    class: u8,
-    msgtype: u8,
-    tags: &[u16],
-    lens: &[u32],
-    values: &[u8],
-)
-    requires { Fits tags.now lens.now values.now size out.old }
-    ensures { out.new ≡ overlay out.old 0 (encode class msgtype (pars_in tags.now lens.now values.now)) }
-{
-    codec_put::put_header(out, 0, class, msgtype, size as u32);
-    put_pars(out, size, tags, lens, values);
+impl<'a> Message<'a> {
+    // It with its length, where the list is whole and the length at most 2,048 bytes.
+    #[tactic(auto, using(crate::proofs::Lists::size_turns))]
+    fn whole(self) -> Result<Whole<'a>, Refusal>
+        ensures size { code result ≡ size_code self.entry.tags.now self.entry.lens.now self.entry.values.now }
+        ensures same { IfOk result (λ w. w.message ≡ self.entry) }
+    {
+        if self.lens.len() != self.tags.len() {
+            return Err(Refusal::ProtocolError);
+        }
+        let mut length = HEADER;
+        let mut sum: usize = 0;
+        for len in self.lens {
+            let n = *len as usize;
+            length += (4 + n + 3) / 4 * 4;
+            if MOST < length {
+                return Err(Refusal::ProtocolError);
+            }
+            sum += n;
+        }
+        if sum != self.values.len() {
+            return Err(Refusal::ProtocolError);
+        }
+        Ok(Whole {
+            message: self,
+            length,
+        })
+    }
+
+    // The message, written at the start of a buffer: its length.
+    fn write_into(self, out: &mut [u8]) -> Result<usize, WriteRefusal>
+        ensures { Writes self.entry.class self.entry.msgtype self.entry.tags.now self.entry.lens.now self.entry.values.now out.old (written_of result) out.new }
+    {
+        let whole = self.whole()?;
+        whole.kind_check()?;
+        if out.len() < whole.length {
+            return Err(WriteRefusal::ShortBuffer);
+        }
+        whole.put(out);
+        Ok(whole.length)
+    }
 }
 
-// Nothing where the number is a refusal, else the message.
-fn emit(
-    refusal: u32,
-    size: usize,
-    class: u8,
-    msgtype: u8,
-    tags: &[u16],
-    lens: &[u32],
-    values: &[u8],
-    out: &mut [u8],
-) -> Written
-    requires { refusal ≡ 0 → Fits tags.now lens.now values.now size out.old }
-    ensures { Emits refusal size class msgtype (pars_in tags.now lens.now values.now) out.old result out.new }
-{
-    if refusal != 0 {
-        return Written {
-            code: refusal,
-            length: 0,
+impl<'a> Whole<'a> {
+    // The checks 7 and 8, of its row.
+    fn row_check(self, row: usize) -> Result<(), Refusal>
+        requires { (row < 17) × (row ≡ row_in table self.message.class self.message.msgtype) }
+        ensures { code result ≡ row_code row self.entry.message.class self.entry.message.msgtype (pars_of self.entry.message) }
+    {
+        let info = codec_parameter::row_info(row);
+        let mut seen = Seen::none();
+        let mut rest = self.message.values;
+        for (tag, len) in self.message.tags.iter().zip(self.message.lens) {
+            let (value, behind) = rest.split_at(*len as usize);
+            seen.pass(info.uses, *tag, value)?;
+            rest = behind;
+        }
+        seen.end_code(info.musts, self.message.class, self.message.msgtype)
+    }
+
+    // What the reader would say of its class, type and parameters.
+    fn kind_check(self) -> Result<(), Refusal>
+        ensures { code result ≡ kind_code self.entry.message.class self.entry.message.msgtype (pars_of self.entry.message) }
+    {
+        if !codec_parameter::class_ok(self.message.class) {
+            return Err(Refusal::UnsupportedClass);
+        }
+        let Some(row) = codec_parameter::row_of(self.message.class, self.message.msgtype) else {
+            return Err(Refusal::UnsupportedType);
         };
+        self.row_check(row)
     }
-    put_message(out, size, class, msgtype, tags, lens, values);
-    Written {
-        code: refusal,
-        length: size,
-    }
-}
 
-// The number of a list: the reader's.
-fn code_of(size: usize, class: u8, msgtype: u8, tags: &[u16], lens: &[u32], values: &[u8]) -> u32
-    requires { size ≡ size_if (length tags.now) lens.now (length values.now) }
-    ensures { result ≡ list_verdict size (has_class table class) (row_in table class msgtype) class msgtype (pars_in tags.now lens.now values.now) }
-{
-    verdict_of(
-        size,
-        codec_parameter::class_ok(class),
-        codec_parameter::row_of(class, msgtype),
-        class,
-        msgtype,
-        tags,
-        lens,
-        values,
-    )
+    // Its parameters, written behind the header.
+    fn put_pars(self, out: &mut [u8])
+        requires { self.length ≤ length out.old }
+        ensures { out.new ≡ overlay out.old 8 (pars_bytes (pars_of self.entry.message)) }
+    {
+        let mut at = HEADER;
+        let mut rest = self.message.values;
+        for (tag, len) in self.message.tags.iter().zip(self.message.lens) {
+            let (value, behind) = rest.split_at(*len as usize);
+            at = codec_put::put_param(out, at, *tag, value);
+            rest = behind;
+        }
+    }
+
+    // The message, written at the start of a buffer.
+    fn put(self, out: &mut [u8])
+        requires { self.length ≤ length out.old }
+        ensures { out.new ≡ overlay out.old 0 (encode self.entry.message.class self.entry.message.msgtype (pars_of self.entry.message)) }
+    {
+        codec_put::put_header(
+            out,
+            0,
+            self.message.class,
+            self.message.msgtype,
+            self.length as u32,
+        );
+        self.put_pars(out);
+    }
 }
 
 // Writes the message of a class, a type and a list of tags and values at the start of a buffer. The list is
 // lent as the tags, the lengths of the values, and the values one after the other.
+// Kept: the C interface (include/m2ua.h) has these columns; behind it they are one struct, Message.
 pub fn write(
     class: u8,
     msgtype: u8,
@@ -221,8 +188,12 @@ pub fn write(
 ) -> Written
     ensures { Writes class msgtype tags.now lens.now values.now out.old result out.new }
 {
-    let size = size_of(tags.len(), lens, values.len());
-    let code = code_of(size, class, msgtype, tags, lens, values);
-    let code = with_room(code, size, out.len());
-    emit(code, size, class, msgtype, tags, lens, values, out)
+    let message = Message {
+        class,
+        msgtype,
+        tags,
+        lens,
+        values,
+    };
+    Written::from(message.write_into(out))
 }

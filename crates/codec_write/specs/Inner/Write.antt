@@ -1,23 +1,17 @@
--- Laws of specs/Write.antt, and definitions that only code and proofs use.
+-- Whole lists, and the code's checks, as definitions that only code and proofs use.
 -- Assumes nothing.
-use Rattle.std.specs.Prelude.{◌≡◌, ℕ, ◌+◌, ◌≤◌, Bool, cond, not, List, [], ◌∷◌, length, ltb, eqb}
-use Rattle.codec_wire.specs.Walk.{Par}
+use Rattle.std.specs.Prelude.{◌≡◌, ℕ, ◌+◌, ◌≤◌, cond, not, List, [], ◌∷◌, length, ltb, eqb}
 use Rattle.laws.specs.Choice.{◌or_else◌}
+use Rattle.codec_wire.specs.Walk.{Par}
+use Rattle.codec_parameter.specs.Table.{table, has_class, row_in}
 use Rattle.codec_read.specs.Verdict.{most, check7, check8}
-use Rattle.codec_put.specs.Bytes.{overlay, par_size}
-use Rattle.codec_write.specs.Encode.{encode, total}
-use Rattle.codec_write.specs.declared.Written.{Written}
-
--- ---- in the order in which the code asks
+use Rattle.codec_put.specs.Bytes.{par_size}
+use Rattle.codec_write.specs.Encode.{total}
 
 -- the bytes of parameters whose values have these lengths
 unfoldable pub sizes : List ℕ → ℕ
 sizes [] = 0
 sizes (n ∷ ns) = par_size n + sizes ns
-
--- the length of the message of a whole list; 0 where the list is not whole or the message is over 2,048 bytes
-unfoldable pub size_if : ℕ → List ℕ → ℕ → ℕ
-size_if n ns m = cond (eqb (length ns) n) (cond (ltb most (8 + sizes ns)) 0 (cond (eqb (total ns) m) (8 + sizes ns) 0)) 0
 
 -- a whole list, by facts
 pub record Lent (ts ns vs : List ℕ) : Type 0 where
@@ -30,25 +24,16 @@ pub record Sized (ts ns vs : List ℕ) (n : ℕ) : Type 0 where
   pub size_is : n ≡ 8 + sizes ns
   pub small : n ≤ most
 
--- and a buffer that has room for it
-pub record Fits (ts ns vs : List ℕ) (n : ℕ) (out : List ℕ) : Type 0 where
-  pub sized : Sized ts ns vs n
-  pub fits : n ≤ length out
+-- ---- in the order in which the code asks
+
+-- a list that is not whole, or whose message is over 2,048 bytes
+unfoldable pub size_code : List ℕ → List ℕ → List ℕ → ℕ
+size_code ts ns vs = cond (eqb (length ns) (length ts)) (cond (ltb most (8 + sizes ns)) 7 (cond (eqb (total ns) (length vs)) 0 7)) 7
 
 -- the checks 7 and 8 of a row
 unfoldable pub row_code : ℕ → ℕ → ℕ → List Par → ℕ
 row_code i c t ps = check7 i ps or_else check8 i c t ps
 
--- the verdict on the message of a list: its length, as above, whether the class is listed, and the row
-unfoldable pub list_verdict : ℕ → Bool → ℕ → ℕ → ℕ → List Par → ℕ
-list_verdict n listed i c t ps = cond (eqb n 0) 7 (cond (not listed) 3 (cond (eqb i 17) 4 (row_code i c t ps)))
-
--- the number, then 103 where a buffer of m bytes is short for n
-unfoldable pub room_code : ℕ → ℕ → ℕ → ℕ
-room_code code n m = cond (eqb code 0) (cond (ltb m n) 103 0) code
-
--- what is written where the number is known
-pub record Emits (code n c t : ℕ) (ps : List Par) (out : List ℕ) (r : Written) (out' : List ℕ) : Type 0 where
-  pub code_is : r.code ≡ code
-  pub length_is : r.length ≡ cond (eqb code 0) n 0
-  pub bytes_are : out' ≡ cond (eqb code 0) (overlay out 0 (encode c t ps)) out
+-- the checks 3, 4, 7 and 8 of a class, a type and parameters
+unfoldable pub kind_code : ℕ → ℕ → List Par → ℕ
+kind_code c t ps = cond (not (has_class table c)) 3 (cond (eqb (row_in table c t) 17) 4 (row_code (row_in table c t) c t ps))

@@ -1,0 +1,13 @@
+use Rattle.std.specs.Slice.Iter.{iter_rest}
+use Rattle.std.specs.Iterator.Adapters.{zip_first, zip_second}
+use Rattle.codec_put.proofs.Puts.{Puts}
+use Rattle.codec_write.specs.Encode.{pars_in}
+use Rattle.codec_write.specs.Inner.Write.{Lent}
+use Rattle.codec_write.specs.Inner.Message.{pars_of}
+use Rattle.codec_write.proofs.message.Whole.put_pars.Given as goal
+
+abbrev pub invariant-loop-tag : goal.invariant-loop-tag
+invariant-loop-tag l =
+    let ts = iter_rest (zip_first l.tag-iterator) in
+    let ns = iter_rest (zip_second l.tag-iterator) in
+    Lent ts ns l.rest × Puts (pars_of l.fn.self.message) l.initial.out 8 l.out l.at (pars_in ts ns l.rest)
