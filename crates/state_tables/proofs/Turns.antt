@@ -6,6 +6,8 @@ use mathlib.Core.Bool.{Bool, true, false, ◌&&◌}
 use mathlib.Core.List.{List}
 use lib.Dec.{eqb}
 use borrow.Author.Tests.{lt-ltb, le-ltb}
+use mir.Val.{bool_byte}
+use Rattle.laws.specs.Below.{one}
 use Rattle.laws.specs.Inner.Below.{all_more, all_of}
 use Rattle.laws.specs.Columns.{number_at}
 use Rattle.state_tables.specs.Sound.{blank_from}
@@ -35,3 +37,8 @@ both_blank_none c d n = rw (blank_none c n, blank_none d n)
 pub both_blank_more : (c d : List ℕ) (n i : ℕ) → n ≤ i → both_blank c d n (i + 1) ≡ (both_blank c d n i && (eqb (number_at c i) 0 && eqb (number_at d i) 0))
 unfolding both_blank
 both_blank_more c d n i h = rw (blank_more c n i h, blank_more d n i h) (sym (two_more (blank_from c n i) (blank_from d n i) (eqb (number_at c i) 0) (eqb (number_at d i) 0)))
+
+-- a flag as the library makes a number of it
+pub one_byte : (t : Bool) → bool_byte t ≡ one t
+one_byte true = refl
+one_byte false = refl

@@ -6,10 +6,10 @@ use Rattle.state_tables.proofs.marks_ok.Goals as goal
 
 pub loop-a-init : goal.loop-a-init
 unfolding sound_marks
-loop-a-init c = (sym (all_none _), search rules, search rules)
+loop-a-init c = (sym (all_none _), search rules)
 
 pub loop-a-preserved : goal.loop-a-preserved
-loop-a-preserved c = let i = c.loop-a.invariant in (marks_turn _ _ _ _ _ _ _ _ _ _ c.loop-a-test.true i.2 i.0 c.mode_ok-traffic.ensures c.waiting_ok-wait.ensures c.override_ok-alone.ensures, search rules, i.2)
+loop-a-preserved c = let i = c.loop-a.invariant in (marks_turn _ _ _ _ _ _ _ _ _ _ c.loop-a-test.true c.args.place.now.each i.0 c.mode_ok-traffic.ensures c.waiting_ok-wait.ensures c.override_ok-alone.ensures, search rules)
 
 pub returns : goal.returns
 returns c = at_end (sound_marks _ _ _ _) c.loop-a.invariant.0 c.loop-a-test.false c.loop-a.invariant.1
