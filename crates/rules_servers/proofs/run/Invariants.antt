@@ -1,10 +1,5 @@
 use Prim.Native.Nat.{◌≤◌, ◌-◌}
-use native.Mathlib.Omega.{arith}
-use borrow.Author.Rules.{rules}
-use Rattle.rules_action.specs.Inner.Words.{emit_bound, written_length}
 use Rattle.rules_server.specs.Record.{record_from}
-use Rattle.rules_servers.proofs.Turn.{run_end, run_none, run_turn}
-use Rattle.rules_servers.specs.Inner.Changed.{actions_at_short}
 use Rattle.rules_servers.specs.Inner.Run.{Running}
 use Rattle.rules_servers.proofs.run.Given as goal
 

@@ -2,7 +2,6 @@ use mathlib.Core.Path.{ap}
 use mathlib.Core.Bool.{not}
 use mathlib.Core.Path.{◌∙◌}
 use native.Mathlib.Omega.{arith}
-use borrow.Author.Rules.{rules}
 use Rattle.rules_action.specs.Inner.Words.{written_length}
 use Rattle.rules_servers.proofs.Turn.{out_room, stepped_not, stepped_on}
 use Rattle.rules_servers.proofs.step.Goals as goal
