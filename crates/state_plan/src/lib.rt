@@ -1,13 +1,11 @@
 // The plan file: a fresh state of the gateway (Rule 4.6), or a refusal (Rules 4.4, 4.5, 4.7).
 #![tactic(auto)]
 
-ghost use Rattle.std.specs.Prelude.{◌≡◌, true, ◌&&◌, ◌+◌, ◌*◌, ◌<◌, ◌≤◌, leb, ltb, eqb, length};
+ghost use Rattle.std.specs.Prelude.{◌≡◌, ℕ, true, ◌&&◌, ◌+◌, ◌*◌, ◌<◌, ◌≤◌, leb, ltb, eqb, length};
 ghost use Rattle.laws.specs.Below.{all_below};
-ghost use Rattle.laws.specs.Columns.{number_at};
-ghost use Rattle.laws.specs.Inner.Columns.{HalfCol};
 ghost use Rattle.state_plan.specs.Plan.{offset, count, layout_ok, column, bit, bits_from, high, low, members, link_kinds, list_rules, load_of};
 ghost use Rattle.state_plan.specs.Inner.Layout.{Inside, places_of, rows_at, state_at, AllBytes, code_of, taken_of, made};
-ghost use Rattle.state_plan.specs.Inner.Tables.{word_of, byte_of, RowsIn, AllIn, floor_of};
+ghost use Rattle.state_plan.specs.Inner.Tables.{Read, word_of, byte_of, RowsIn, AllIn, floor_of};
 
 use state_tables::{Gateway, Units};
 
@@ -76,42 +74,32 @@ fn laid_out(s: &[u8]) -> bool
 
 // ---- the rows, as tables with zeros beyond them
 
-// One word of each of n rows: the first at a position, every next one a row further on.
-fn fill(s: &[u8], at: usize, row: usize, n: usize, out: &mut [u32])
-    requires { (n ≤ length out.old) × RowsIn (length s.now) at row n }
-    ensures { HalfCol (word_of s.now at row) (number_at out.old) (length out.old) n out.new }
+// What is read of each of n rows, and zeros beyond them.
+fn column<T: Copy, const N: usize, F: Fn(usize) -> T>(zero: T, n: usize, read: F) -> [T; N]
+    requires { (n ≤ N) × ((i : ℕ) → i < n → F.pre read i) }
+    ensures { Read (F.post read) zero N n result }
 {
+    let mut r = [zero; N];
     for i in 0..n {
-        out[i] = codec_wire::get32(s, at + row * i);
+        r[i] = read(i);
     }
-}
-
-fn words_16(s: &[u8], at: usize, row: usize, n: usize) -> [u32; 16]
-    requires { (n ≤ 16) × RowsIn (length s.now) at row n }
-    ensures { result ≡ column 16 n (word_of s.now at row) }
-{
-    let mut r = [0u32; 16];
-    fill(s, at, row, n, &mut r);
     r
 }
 
-fn words_128(s: &[u8], at: usize, row: usize, n: usize) -> [u32; 128]
-    requires { (n ≤ 128) × RowsIn (length s.now) at row n }
-    ensures { result ≡ column 128 n (word_of s.now at row) }
+// One word of each of n rows: the first at a position, every next one a row further on.
+fn words<const N: usize>(s: &[u8], at: usize, row: usize, n: usize) -> [u32; N]
+    requires { (n ≤ N) × RowsIn (length s.now) at row n }
+    ensures { result ≡ column N n (word_of s.now at row) }
 {
-    let mut r = [0u32; 128];
-    fill(s, at, row, n, &mut r);
-    r
+    column(0, n, |i| codec_wire::get32(s, at + row * i))
 }
 
 // The same for one byte of each row: modes, rules for lists, owners and kinds are below 256.
-fn fill_bytes(s: &[u8], at: usize, row: usize, n: usize, out: &mut [u8])
-    requires { (n ≤ length out.old) × AllIn (λ i. at + row * i) n (length s.now) }
-    ensures { HalfCol (byte_of s.now at row) (number_at out.old) (length out.old) n out.new }
+fn bytes<const N: usize>(s: &[u8], at: usize, row: usize, n: usize) -> [u8; N]
+    requires { (n ≤ N) × AllIn (λ i. at + row * i) n (length s.now) }
+    ensures { result ≡ column N n (byte_of s.now at row) }
 {
-    for i in 0..n {
-        out[i] = s[at + row * i];
-    }
+    column(0, n, |i| s[at + row * i])
 }
 
 // ---- the conditions on rows (Rule 4.5), asked of the file's words: a refused file needs no table
@@ -141,12 +129,6 @@ fn masks_ok(s: &[u8], at: usize, asps: usize, ases: u32) -> bool
     ok
 }
 
-fn long(x: u32) -> u64
-    ensures { (result ≡ x) × (result < 4294967296) }
-{
-    x as u64
-}
-
 // Identifiers that ascend, each at least one more than the one before it, owners and kinds: all of a row in
 // one pass. The kinds are below 2 where their bits together are: tested one by one, they would take 0.4 ns
 // more for a link.
@@ -158,7 +140,7 @@ fn links_ok(s: &[u8], at: usize, links: usize, ases: u32) -> bool
     let mut least: u64 = 0;
     let mut bits: u32 = 0;
     for l in 0..links {
-        let id = long(codec_wire::get32(s, at + LINK_ROW * l));
+        let id = u64::from(codec_wire::get32(s, at + LINK_ROW * l));
         let x = codec_wire::get32(s, at + 4 + LINK_ROW * l);
         bits = bits | x;
         ok = ok & ((least <= id) & (x % 65536 < ases));
@@ -185,7 +167,7 @@ fn rows_ok(s: &[u8], t: Places) -> bool
     let m = t.ases as u32;
     let traffic = modes_ok(s, t.y, t.ases);
     let masked = masks_ok(s, t.x + 4, t.asps, m);
-    let aspid = words_16(s, t.x, ASP_ROW, t.asps);
+    let aspid = words(s, t.x, ASP_ROW, t.asps);
     let differ = state_tables::all_new(&aspid, t.asps);
     let linked = links_ok(s, t.z, t.links, m);
     (traffic & masked) & (differ & linked)
@@ -239,11 +221,7 @@ fn masks_of(s: &[u8], at: usize, n: usize) -> [u16; 16]
     requires { (n ≤ 16) × RowsIn (length s.now) at 8 n }
     ensures { result ≡ column 16 n (λ p. high (word_of s.now at 8 p)) }
 {
-    let mut r = [0u16; 16];
-    for p in 0..n {
-        r[p] = (codec_wire::get32(s, at + ASP_ROW * p) / 65536) as u16;
-    }
-    r
+    column(0, n, |p| (codec_wire::get32(s, at + ASP_ROW * p) / 65536) as u16)
 }
 
 fn members_of(mask: &[u16; 16]) -> [u8; 256]
@@ -285,16 +263,12 @@ fn build(s: &[u8], t: Places, code: u32) -> Loaded
     let mask = masks_of(s, t.x + 4, t.asps);
     let member = members_of(&mask);
     // the last byte of a mode's word, of an ASP's second word, and of each half of a link's
-    let mut modes = [0u8; 16];
-    fill_bytes(s, t.y + 3, AS_ROW, t.ases, &mut modes);
-    let mut lists = [0u8; 16];
-    fill_bytes(s, t.x + 7, ASP_ROW, t.asps, &mut lists);
-    let mut owners = [0u8; 128];
-    fill_bytes(s, t.z + 7, LINK_ROW, t.links, &mut owners);
-    let mut kinds = [0u8; 128];
-    fill_bytes(s, t.z + 5, LINK_ROW, t.links, &mut kinds);
-    let aspid = words_16(s, t.x, ASP_ROW, t.asps);
-    let iid = words_128(s, t.z, LINK_ROW, t.links);
+    let modes = bytes(s, t.y + 3, AS_ROW, t.ases);
+    let lists = bytes(s, t.x + 7, ASP_ROW, t.asps);
+    let owners = bytes(s, t.z + 7, LINK_ROW, t.links);
+    let kinds = bytes(s, t.z + 5, LINK_ROW, t.links);
+    let aspid = words(s, t.x, ASP_ROW, t.asps);
+    let iid = words(s, t.z, LINK_ROW, t.links);
     Loaded {
         code: code,
         gateway: Gateway {
