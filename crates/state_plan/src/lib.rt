@@ -4,7 +4,7 @@
 ghost use Rattle.std.specs.Prelude.{◌≡◌, ℕ, true, ◌&&◌, ◌+◌, ◌*◌, ◌<◌, ◌≤◌, leb, ltb, eqb, length};
 ghost use Rattle.laws.specs.Below.{all_below};
 ghost use Rattle.state_plan.specs.Plan.{offset, count, layout_ok, column, bit, bits_from, high, low, members, link_kinds, list_rules, load_of};
-ghost use Rattle.state_plan.specs.Inner.Layout.{Inside, places_of, rows_at, state_at, AllBytes, code_of, taken_of, made};
+ghost use Rattle.state_plan.specs.Inner.Layout.{Inside, places_of, rows_at, state_at, AllBytes, number, code_of, rows_in, made};
 ghost use Rattle.state_plan.specs.Inner.Tables.{Read, word_of, byte_of, RowsIn, AllIn, floor_of};
 
 use state_tables::{Gateway, Units};
@@ -22,6 +22,24 @@ const LINK_KINDS: u32 = 2;
 
 // The rules for an ASP's lists: 0 part may succeed, 1 whole or not at all.
 const LIST_RULES: u32 = 2;
+
+// Why a file is refused: its layout (Rule 4.4), or a row (Rule 4.5).
+#[derive(Clone, Copy, Debug, PartialEq, Eq)]
+pub enum PlanRefusal {
+    Layout,
+    Row,
+}
+
+impl From<PlanRefusal> for u32 {
+    fn from(refusal: PlanRefusal) -> u32
+        ensures { result ≡ number refusal }
+    {
+        match refusal {
+            PlanRefusal::Layout => 201,
+            PlanRefusal::Row => 202,
+        }
+    }
+}
 
 // The answer to a file: code 0 and a fresh state, or 201 or 202 and a state of zeros.
 #[repr(C)]
@@ -150,7 +168,7 @@ fn links_ok(s: &[u8], at: usize, links: usize, ases: u32) -> bool
 }
 
 // Where the bodies of a file start, and how many rows they have.
-#[derive(Drop)]
+#[derive(Clone, Copy)]
 pub struct Places {
     pub asps: usize,
     pub ases: usize,
@@ -159,6 +177,16 @@ pub struct Places {
     pub y: usize,
     pub z: usize,
 }
+
+// Of a refused file no row is taken over.
+const NOWHERE: Places = Places {
+    asps: 0,
+    ases: 0,
+    links: 0,
+    x: 0,
+    y: 0,
+    z: 0,
+};
 
 fn rows_ok(s: &[u8], t: Places) -> bool
     requires { Inside t (length s.now) }
@@ -177,33 +205,34 @@ fn places_of(s: &[u8]) -> Places
     requires { layout_ok s.now ≡ true }
     ensures { result ≡ places_of s.now }
 {
-    let n = count_of(s, 0);
-    let m = count_of(s, 1);
-    let k = count_of(s, 2);
+    let asps = count_of(s, 0);
+    let ases = count_of(s, 1);
+    let links = count_of(s, 2);
     let x = offset_of(s, 0);
     let y = offset_of(s, 1);
     let z = offset_of(s, 2);
     Places {
-        asps: n,
-        ases: m,
-        links: k,
-        x: x,
-        y: y,
-        z: z,
+        asps,
+        ases,
+        links,
+        x,
+        y,
+        z,
     }
 }
 
-fn code_of(s: &[u8]) -> u32
-    ensures { result ≡ code_of s.now }
+// The rows that a file has, or why it is refused: the layout is decided before any row is looked at.
+fn rows_in(s: &[u8]) -> Result<Places, PlanRefusal>
+    ensures { result ≡ rows_in s.now }
 {
     if !laid_out(s) {
-        return 201;
+        return Err(PlanRefusal::Layout);
     }
     let t = places_of(s);
     if !rows_ok(s, t) {
-        return 202;
+        return Err(PlanRefusal::Row);
     }
-    0
+    Ok(t)
 }
 
 // ---- the fresh state (Rule 4.6)
@@ -221,7 +250,11 @@ fn masks_of(s: &[u8], at: usize, n: usize) -> [u16; 16]
     requires { (n ≤ 16) × RowsIn (length s.now) at 8 n }
     ensures { result ≡ column 16 n (λ p. high (word_of s.now at 8 p)) }
 {
-    column(0, n, |p| (codec_wire::get32(s, at + ASP_ROW * p) / 65536) as u16)
+    column(
+        0,
+        n,
+        |p| (codec_wire::get32(s, at + ASP_ROW * p) / 65536) as u16,
+    )
 }
 
 fn members_of(mask: &[u16; 16]) -> [u8; 256]
@@ -230,28 +263,20 @@ fn members_of(mask: &[u16; 16]) -> [u8; 256]
     let mut r = [0u8; 256];
     for a in 0..16u16 {
         for q in 0..16usize {
-            r[(a as usize) * 16 + q] = bit_of(mask[q], a);
+            r[usize::from(a) * 16 + q] = bit_of(mask[q], a);
         }
     }
     r
 }
 
-// The rows that are taken over: of a refused file none, so that every table is zeros.
-fn taken(s: &[u8], code: u32) -> Places
-    requires { code ≡ 0 → layout_ok s.now ≡ true }
-    ensures { result ≡ taken_of s.now code }
+// The number of an answer: 0 for an accepted file.
+fn code_of(r: Result<Places, PlanRefusal>) -> u32
+    ensures { result ≡ code_of r }
 {
-    if code != 0 {
-        return Places {
-            asps: 0,
-            ases: 0,
-            links: 0,
-            x: 0,
-            y: 0,
-            z: 0,
-        };
+    match r {
+        Ok(_) => 0,
+        Err(refusal) => u32::from(refusal),
     }
-    places_of(s)
 }
 
 // One way for accepted and refused files: where two ways build a state, the compiler makes it in a place of
@@ -270,19 +295,19 @@ fn build(s: &[u8], t: Places, code: u32) -> Loaded
     let aspid = words(s, t.x, ASP_ROW, t.asps);
     let iid = words(s, t.z, LINK_ROW, t.links);
     Loaded {
-        code: code,
+        code,
         gateway: Gateway {
             asps: t.asps as u8,
             ases: t.ases as u8,
             links: t.links as u8,
             spare: 0,
-            aspid: aspid,
+            aspid,
             up: [0; 16],
-            member: member,
+            member,
             active: [0; 256],
             mode: modes,
             waiting: [0; 16],
-            iid: iid,
+            iid,
             owner: owners,
             state: [0; 128],
             highspeed: kinds,
@@ -295,7 +320,6 @@ fn build(s: &[u8], t: Places, code: u32) -> Loaded
 pub fn load(file: &[u8]) -> Loaded
     ensures { result ≡ load_of file.now }
 {
-    let code = code_of(file);
-    let t = taken(file, code);
-    build(file, t, code)
+    let rows = rows_in(file);
+    build(file, rows.unwrap_or(NOWHERE), code_of(rows))
 }

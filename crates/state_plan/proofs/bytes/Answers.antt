@@ -1,4 +1,3 @@
-use native.Mathlib.Omega.{arith}
 use borrow.Author.Rules.{rules}
 use Rattle.state_plan.specs.Inner.Tables.{column_read}
 use Rattle.state_plan.proofs.bytes.Goals as goal

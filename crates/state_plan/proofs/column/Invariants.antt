@@ -1,4 +1,4 @@
-use Prim.Native.Nat.{ℕ, ◌≤◌, ◌<◌, ◌-◌}
+use Prim.Native.Nat.{ℕ, ◌≤◌, ◌<◌}
 use Rattle.state_plan.specs.Inner.Tables.{Read}
 use Rattle.state_plan.proofs.column.Given as goal
 
