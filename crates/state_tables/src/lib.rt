@@ -2,8 +2,9 @@
 // columns by group of columns.
 #![tactic(auto)]
 
-ghost use Rattle.std.specs.Prelude.{◌≡◌, true, cond, ◌&&◌, ◌<◌, ◌≤◌, length, ltb};
+ghost use Rattle.std.specs.Prelude.{◌≡◌, ℕ, true, cond, ◌&&◌, ◌<◌, ◌≤◌, length, ltb};
 ghost use Rattle.laws.specs.Below.{one, all_below};
+ghost use Rattle.state_tables.specs.Inner.Every.{Every};
 ghost use Rattle.state_tables.specs.Inner.Limits.{limit, limits_to, flags_of, Flags};
 ghost use Rattle.state_tables.specs.Inner.Differ.{pad_with, lacks_from};
 ghost use Rattle.state_tables.specs.Inner.Rows.{row_fails, sound_marks};
@@ -87,34 +88,39 @@ fn places() -> Places {
     }
 }
 
+// Every number below n passes the test. All are asked, so that the loop has no branch: it becomes operations
+// on 16 bytes.
+pub fn every<F: Fn(usize) -> bool>(n: usize, test: F) -> bool
+    requires { (i : ℕ) → i < n → F.pre test i }
+    ensures { Every (F.post test) n result }
+{
+    let mut ok = true;
+    for i in 0..n {
+        ok = ok & test(i);
+    }
+    ok
+}
+
 pub fn counts_ok(asps: u8, ases: u8, links: u8) -> bool
     ensures { result ≡ counts_in asps ases links }
 {
     (((1 <= asps) & (asps <= 16)) & ((1 <= ases) & (ases <= 16))) & (links <= 128)
 }
 
-// The places of two columns from n up to an end are zero. Two columns in one loop: the places that are left
-// over by operations on 16 bytes are passed one by one, and so once.
-fn blank<'a>(c: &'a [u8], d: &'a [u8], n: usize, end: usize) -> bool
-    requires { (n ≤ end) × (end ≤ length c.now) × (end ≤ length d.now) }
-    ensures { result ≡ (blank_from c.now n end && blank_from d.now n end) }
-{
-    let mut ok = true;
-    for i in n..end {
-        ok = ok & ((c[i] == 0) & (d[i] == 0));
-    }
-    ok
-}
-
-fn blank_wide(c: &[u32], n: usize, end: usize) -> bool
+// The places of a column from n up to an end are zero; and of two columns, in one loop: the places that are
+// left over by operations on 16 bytes are passed one by one, and so once.
+fn blank(c: &[u32], n: usize, end: usize) -> bool
     requires { (n ≤ end) × (end ≤ length c.now) }
     ensures { result ≡ blank_from c.now n end }
 {
-    let mut ok = true;
-    for i in n..end {
-        ok = ok & (c[i] == 0);
-    }
-    ok
+    every(end - n, |k| c[n + k] == 0)
+}
+
+fn both_blank<'a>(c: &'a [u8], d: &'a [u8], n: usize, end: usize) -> bool
+    requires { (n ≤ end) × (end ≤ length c.now) × (end ≤ length d.now) }
+    ensures { result ≡ (blank_from c.now n end && blank_from d.now n end) }
+{
+    every(end - n, |k| (c[n + k] == 0) & (d[n + k] == 0))
 }
 
 // The identifier at p differs from those before it.
@@ -122,11 +128,7 @@ fn is_new(aspid: &[u32; 16], p: usize) -> bool
     requires { p < 16 }
     ensures { result ≡ differs aspid.now p }
 {
-    let mut ok = true;
-    for q in 0..p {
-        ok = ok & (aspid[q] != aspid[p]);
-    }
-    ok
+    every(p, |q| aspid[q] != aspid[p])
 }
 
 fn few_new(aspid: &[u32; 16], n: usize) -> bool
@@ -157,11 +159,7 @@ fn lacks(c: &[u32; 32], p: usize, x: u32) -> bool
     requires { p ≤ 16 }
     ensures { result ≡ lacks_from c.now p x 16 }
 {
-    let mut ok = true;
-    for q in 0..16usize {
-        ok = ok & (c[p + q] != x);
-    }
-    ok
+    every(16, |q| c[p + q] != x)
 }
 
 // Each identifier but the last differs from those before it and from the last, at 16 places at once.
@@ -194,11 +192,7 @@ fn under_within<'a>(place: &'a Places, c: &'a [u8], most: u8, n: u8, end: usize)
     requires { (end ≤ 128) × (end ≤ length c.now) }
     ensures { result ≡ sound_column c.now most n end }
 {
-    let mut ok = true;
-    for i in 0..end {
-        ok = ok & (c[i] < limit(place.index[i] < n, most));
-    }
-    ok
+    every(end, |i| c[i] < limit(place.index[i] < n, most))
 }
 
 // The groups of columns. Each answers for counts that are within the tables, and reads no place beyond them
@@ -208,7 +202,7 @@ fn asps_ok<'a>(place: &'a Places, asps: u8, aspid: &'a [u32; 16], up: &'a [u8; 1
 {
     let n = within(asps, 16);
     let differ = all_new(aspid, n);
-    let beyond = blank_wide(aspid, n, 16);
+    let beyond = blank(aspid, n, 16);
     let flags = under_within(place, up, 2, asps, 16);
     (differ & beyond) & flags
 }
@@ -302,15 +296,13 @@ fn marks_ok<'a>(
 ) -> bool
     ensures { result ≡ sound_marks count.now mode.now waiting.now ases 16 }
 {
-    let mut ok = true;
-    for a in 0..16usize {
+    every(16, |a| {
         let inside = place.index[a] < ases;
         let traffic = mode_ok(mode[a], inside);
         let wait = waiting_ok(waiting[a], count[a], inside);
         let alone = override_ok(mode[a], count[a]);
-        ok = ok & ((traffic & wait) & alone);
-    }
-    ok
+        (traffic & wait) & alone
+    })
 }
 
 // The rows of the plan's ASes, and zeros beyond them. A row that fails ends the loop: without that exit the
@@ -338,7 +330,7 @@ fn ases_ok<'a>(
         }
         count[a] = c as u8;
     }
-    let beyond = blank(member, active, m * 16, 256);
+    let beyond = both_blank(member, active, m * 16, 256);
     let marks = marks_ok(place, &count, mode, waiting, ases);
     beyond & marks
 }
@@ -347,11 +339,7 @@ pub fn ascending(iid: &[u32; 128], n: usize) -> bool
     requires { n ≤ 128 }
     ensures { result ≡ ascends iid.now n }
 {
-    let mut ok = true;
-    for l in 1..n {
-        ok = ok & (iid[l - 1] < iid[l]);
-    }
-    ok
+    every(n.saturating_sub(1), |l| iid[l] < iid[l + 1])
 }
 
 fn links_ok<'a>(
@@ -366,7 +354,7 @@ fn links_ok<'a>(
 {
     let n = within(links, 128);
     let order = ascending(iid, n);
-    let beyond = blank_wide(iid, n, 128);
+    let beyond = blank(iid, n, 128);
     let owned = under_within(place, owner, ases, links, 128);
     let known = under_within(place, state, 4, links, 128);
     (order & beyond) & (owned & known)

@@ -33,5 +33,5 @@ loop-a-preserved c =
 pub returns : goal.returns
 returns c h =
     let e : c.loop-a.a ≡ c.within-m.result = omega arith in
-    rw (c.marks_ok-marks.ensures, c.blank-beyond.ensures, ← c.within-m.ensures.1 h)
+    rw (c.marks_ok-marks.ensures, c.both_blank-beyond.ensures, ← c.within-m.ensures.1 h)
     (rows_whole c.args.up.now c.args.member.now c.args.active.now c.args.mode.now c.args.waiting.now c.args.asps c.within-m.result c.loop-a.count (half_at e c.loop-a.invariant.1) c.within-m.ensures.0 (rw e at c.loop-a.invariant.0))
