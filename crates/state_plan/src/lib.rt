@@ -126,12 +126,10 @@ fn modes_ok(s: &[u8], at: usize, ases: usize) -> bool
     requires { RowsIn (length s.now) at 4 ases }
     ensures { result ≡ all_below (λ a. leb 1 (word_of s.now at 4 a) && leb (word_of s.now at 4 a) 3) ases }
 {
-    let mut ok = true;
-    for a in 0..ases {
+    state_tables::every(ases, |a| {
         let x = codec_wire::get32(s, at + AS_ROW * a);
-        ok = ok & ((1 <= x) & (x <= 3));
-    }
-    ok
+        (1 <= x) & (x <= 3)
+    })
 }
 
 // The second word of an ASP's row: its mask, then the rule for its lists.
@@ -139,12 +137,10 @@ fn masks_ok(s: &[u8], at: usize, asps: usize, ases: u32) -> bool
     requires { RowsIn (length s.now) at 8 asps × (ases ≤ 16) }
     ensures { result ≡ all_below (λ p. eqb (bits_from (high (word_of s.now at 8 p)) ases) 0 && ltb (low (word_of s.now at 8 p)) list_rules) asps }
 {
-    let mut ok = true;
-    for p in 0..asps {
+    state_tables::every(asps, |p| {
         let x = codec_wire::get32(s, at + ASP_ROW * p);
-        ok = ok & (((x / 65536) >> ases == 0) & (x % 65536 < LIST_RULES));
-    }
-    ok
+        ((x / 65536) >> ases == 0) & (x % 65536 < LIST_RULES)
+    })
 }
 
 // Identifiers that ascend, each at least one more than the one before it, owners and kinds: all of a row in
