@@ -42,6 +42,7 @@ impl From<PlanRefusal> for u32 {
 }
 
 // The answer to a file: code 0 and a fresh state, or 201 or 202 and a state of zeros.
+// Kept: the C interface (include/m2ua.h) has this struct.
 #[repr(C)]
 #[derive(Drop)]
 pub struct Loaded {

@@ -376,6 +376,7 @@ fn columns_ok<'a>(
 }
 
 // The tables of lent columns, for callers that hold the state and would copy it by a call.
+// Kept: the C interface (include/m2ua.h) has these columns.
 pub fn tables_ok<'a>(
     asps: u8,
     ases: u8,
