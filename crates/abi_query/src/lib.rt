@@ -3,8 +3,6 @@
 #![tactic(auto)]
 
 ghost use Rattle.std.specs.Prelude.{◌≡◌, ◌&&◌, not};
-ghost use Rattle.laws.specs.Below.{one};
-ghost use Rattle.laws.specs.Columns.{is_set};
 ghost use Rattle.codec_read.specs.Meaning.{data_at};
 ghost use Rattle.state_tables.specs.State.{gateway_of, units_of};
 ghost use Rattle.abi_query.specs.Query.{param_at, as_state_at, link_place, new_in, waits};
@@ -28,6 +26,7 @@ pub struct ParamAt {
 }
 
 // 0 and what was asked for, or the number of the refusal and 0.
+// Kept: the C interface (include/m2ua.h) has this struct.
 #[repr(C)]
 #[derive(Drop)]
 pub struct Answer {
@@ -77,6 +76,7 @@ pub fn m2ua_parameter(msg: &[u8], tag: u16) -> ParamAt
 }
 
 // The state of AS a (Rule 5.17): 0 down, 2 inactive, 3 active, 4 pending. The state's columns are lent.
+// Kept: the C interface (include/m2ua.h) has these columns.
 pub fn m2ua_as_state_at<'a>(
     asps: u8,
     ases: u8,
@@ -132,7 +132,8 @@ pub fn m2ua_as_state_at<'a>(
             value: 0,
         };
     }
-    if a < state_tables::wide(ases) {
+    let n = usize::from(ases);
+    if a < n {
         let now = state_lookup::as_state(up, member, active, waiting, a);
         return Answer {
             code: 0,
@@ -201,7 +202,7 @@ pub fn m2ua_link_place_at<'a>(
             value: 0,
         };
     }
-    let n = state_tables::wide(links);
+    let n = usize::from(links);
     let l = state_lookup::index_of(iid, n, wanted);
     if l < n {
         return Answer {
@@ -215,19 +216,13 @@ pub fn m2ua_link_place_at<'a>(
     }
 }
 
-fn unit(t: bool) -> u8
-    ensures { result ≡ one t }
-{
-    if t { 1 } else { 0 }
-}
-
 // The ASes that wait in x and not in y.
 fn new_in(x: &[u8; 16], y: &[u8; 16]) -> [u8; 16]
     ensures { result ≡ new_in x.now y.now }
 {
     let mut r = [0u8; 16];
     for a in 0..16usize {
-        r[a] = unit((x[a] == 1) & !(y[a] == 1));
+        r[a] = u8::from((x[a] == 1) & (y[a] != 1));
     }
     r
 }
@@ -239,8 +234,5 @@ pub fn m2ua_waits_at<'a>(before: &'a [u8; 16], after: &'a [u8; 16]) -> Waits
 {
     let began = new_in(after, before);
     let ended = new_in(before, after);
-    Waits {
-        began: began,
-        ended: ended,
-    }
+    Waits { began, ended }
 }

@@ -36,6 +36,7 @@ pub extern "C" fn m2ua_parameter(msg: &[u8], tag: u16) -> ParamAt
 }
 
 // The state of AS a (Rule 5.17): 0 down, 2 inactive, 3 active, 4 pending. The state's columns are lent.
+// Kept: the C interface (include/m2ua.h) has these columns.
 #[unsafe(no_mangle)]
 pub extern "C" fn m2ua_as_state_at<'a>(
     asps: u8,

@@ -14,12 +14,6 @@ ghost use Rattle.state_tables.specs.State.{gateway_of, units_of};
 use codec_read::Reading;
 use state_plan::Loaded;
 
-fn flag(b: bool) -> u32
-    ensures { result ≡ cond b 1 0 }
-{
-    if b { 1 } else { 0 }
-}
-
 // Reads a message: its verdict, and of an accepted one what it means.
 pub fn m2ua_read(msg: &[u8]) -> Reading
     ensures { result ≡ reading_of msg.now }
@@ -35,6 +29,7 @@ pub fn m2ua_load(file: &[u8]) -> Loaded
 }
 
 // 1 where the state is sound (Rule 5.4), else 0. Its columns are lent, and only read.
+// Kept: the C interface (include/m2ua.h) has these columns.
 pub fn m2ua_is_sound_at<'a>(
     asps: u8,
     ases: u8,
@@ -83,5 +78,5 @@ pub fn m2ua_is_sound_at<'a>(
         id,
         correlation,
     );
-    flag(sound)
+    u32::from(sound)
 }

@@ -28,6 +28,7 @@ pub extern "C" fn m2ua_load(file: &[u8]) -> Loaded
 }
 
 // 1 where the state is sound (Rule 5.4), else 0. Its columns are lent, and only read.
+// Kept: the C interface (include/m2ua.h) has these columns.
 #[unsafe(no_mangle)]
 pub extern "C" fn m2ua_is_sound_at<'a>(
     asps: u8,

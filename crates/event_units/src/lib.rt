@@ -5,6 +5,7 @@
 ghost use Rattle.std.specs.Prelude.{◌≡◌, cond, ◌&&◌, ◌/◌, ◌<◌, eqb, set};
 ghost use Rattle.laws.specs.Columns.{flag_at};
 ghost use Rattle.rules_servers.specs.Changed.{cleared};
+ghost use Rattle.rules_servers.specs.Inner.Units.{emptied};
 ghost use Rattle.event_units.specs.Inner.Going.{going};
 
 // ---- units let go
@@ -48,65 +49,67 @@ pub fn clear_counts(c: &mut [u8; 16], go: [bool; 16])
 }
 
 // The row of AS a, where it lets them go.
-fn clear_half_row(c: &mut [u16; 128], a: usize, go: bool)
+fn clear_row<T: Copy>(c: &mut [T; 128], zero: T, a: usize, go: bool)
     requires { a < 16 }
-    ensures { c.new ≡ cleared (λ i. go && eqb (i / 8) a) c.old }
+    ensures { c.new ≡ emptied zero (λ i. go && eqb (i / 8) a) c.old }
 {
     if !go {
         return;
     }
     for k in 0..8usize {
-        c[a * 8 + k] = 0;
+        c[a * 8 + k] = zero;
     }
 }
 
-pub fn clear_halves(c: &mut [u16; 128], go: [bool; 16])
-    ensures { c.new ≡ cleared (λ i. flag_at go (i / 8)) c.old }
+// The rows of the ASes that let their units go.
+pub fn clear_rows<T: Copy>(c: &mut [T; 128], zero: T, go: [bool; 16])
+    ensures { c.new ≡ emptied zero (λ i. flag_at go (i / 8)) c.old }
 {
     for a in 0..16usize {
-        clear_half_row(c, a, go[a]);
-    }
-}
-
-fn clear_word_row(c: &mut [u32; 128], a: usize, go: bool)
-    requires { a < 16 }
-    ensures { c.new ≡ cleared (λ i. go && eqb (i / 8) a) c.old }
-{
-    if !go {
-        return;
-    }
-    for k in 0..8usize {
-        c[a * 8 + k] = 0;
-    }
-}
-
-pub fn clear_words(c: &mut [u32; 128], go: [bool; 16])
-    ensures { c.new ≡ cleared (λ i. flag_at go (i / 8)) c.old }
-{
-    for a in 0..16usize {
-        clear_word_row(c, a, go[a]);
+        clear_row(c, zero, a, go[a]);
     }
 }
 
 // ---- one unit more
 
+pub fn put<T: Copy, const N: usize>(c: &mut [T; N], i: usize, x: T)
+    requires { i < N }
+    ensures { c.new ≡ set c.old i x }
+{
+    c[i] = x;
+}
+
+// ---- the names that crate event_run calls
+
+pub fn clear_halves(c: &mut [u16; 128], go: [bool; 16])
+    ensures { c.new ≡ cleared (λ i. flag_at go (i / 8)) c.old }
+{
+    clear_rows(c, 0, go);
+}
+
+pub fn clear_words(c: &mut [u32; 128], go: [bool; 16])
+    ensures { c.new ≡ cleared (λ i. flag_at go (i / 8)) c.old }
+{
+    clear_rows(c, 0, go);
+}
+
 pub fn put_count(c: &mut [u8; 16], a: usize, n: u8)
     requires { a < 16 }
     ensures { c.new ≡ set c.old a n }
 {
-    c[a] = n;
+    put(c, a, n);
 }
 
 pub fn put_half(c: &mut [u16; 128], i: usize, x: u16)
     requires { i < 128 }
     ensures { c.new ≡ set c.old i x }
 {
-    c[i] = x;
+    put(c, i, x);
 }
 
 pub fn put_word(c: &mut [u32; 128], i: usize, x: u32)
     requires { i < 128 }
     ensures { c.new ≡ set c.old i x }
 {
-    c[i] = x;
+    put(c, i, x);
 }

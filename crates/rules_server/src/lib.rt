@@ -16,6 +16,10 @@ ghost use Rattle.rules_server.specs.Units.{units_out, let_out};
 
 use rules_action::Action;
 
+mod moved;
+
+pub use moved::Moved;
+
 // Its members that are up, those active in it, whether it waits, its traffic mode.
 #[derive(Clone, Copy)]
 pub struct AsRecord {
@@ -41,7 +45,7 @@ pub enum Change {
 pub fn bit(t: bool) -> u8
     ensures { (result ≡ one t) × (result ≤ 1) }
 {
-    if t { 1 } else { 0 }
+    u8::from(t)
 }
 
 // Whether some flag is set.
@@ -107,19 +111,19 @@ pub fn record_of(
     let ups = members_up(up, member, a);
     let acts = row_of(active, a);
     AsRecord {
-        ups: ups,
-        acts: acts,
+        ups,
+        acts,
         waiting: waiting[a] == 1,
         mode: mode[a],
     }
 }
 
 pub fn put_row(column: &mut [u8; 256], a: usize, x: [bool; 16])
-    requires { (a < 16) × (length column.old ≡ 256) }
+    requires { a < 16 }
     ensures { column.new ≡ with_row column.old a x }
 {
     for q in 0..16usize {
-        column[a * 16 + q] = bit(x[q]);
+        column[a * 16 + q] = u8::from(x[q]);
     }
 }
 
@@ -147,6 +151,16 @@ pub fn flag_of(k: Change) -> [bool; 16]
         Change::Deactivate(p) => alone(p),
         Change::Activate(p) => alone(p),
         Change::Recover => [false; 16],
+    }
+}
+
+impl Moved {
+    pub fn by(change: Change) -> Moved
+        requires { fits change ≡ true }
+        ensures { result.change ≡ change }
+    {
+        let me = flag_of(change);
+        Moved { change, me }
     }
 }
 
@@ -200,27 +214,27 @@ fn settled(s: AsRecord, ups: [bool; 16], acts: [bool; 16]) -> AsRecord
     let was = has_some(before);
     let now = has_some(acts);
     AsRecord {
-        ups: ups,
-        acts: acts,
+        ups,
+        acts,
         waiting: !now & (was | s.waiting),
         mode: s.mode,
     }
 }
 
-pub fn changed(s: AsRecord, k: Change, me: [bool; 16]) -> AsRecord
-    requires { me ≡ flag_of k }
-    ensures { result ≡ after k s }
+pub fn changed(s: AsRecord, k: Moved) -> AsRecord
+    ensures { result ≡ after k.change s }
 {
     let ups = s.ups;
     let acts = s.acts;
-    match k {
+    let me = k.me;
+    match k.change {
         Change::AspUp(_) => settled(s, plus(ups, me), minus(acts, me)),
         Change::AspDown(_) => settled(s, minus(ups, me), minus(acts, me)),
         Change::Deactivate(_) => settled(s, ups, minus(acts, me)),
         Change::Activate(_) => settled(s, ups, turn_on(acts, s.mode, me)),
         Change::Recover => AsRecord {
-            ups: ups,
-            acts: acts,
+            ups,
+            acts,
             waiting: false,
             mode: s.mode,
         },
@@ -228,13 +242,12 @@ pub fn changed(s: AsRecord, k: Change, me: [bool; 16]) -> AsRecord
 }
 
 // Those whom the change overtakes.
-pub fn overtaken_in(s: AsRecord, k: Change, me: [bool; 16]) -> [bool; 16]
-    requires { me ≡ flag_of k }
-    ensures { result ≡ overtaken_in k s }
+pub fn overtaken_in(s: AsRecord, k: Moved) -> [bool; 16]
+    ensures { result ≡ overtaken_in k.change s }
 {
     let acts = s.acts;
-    match k {
-        Change::Activate(_) => overtake(acts, s.mode, me),
+    match k.change {
+        Change::Activate(_) => overtake(acts, s.mode, k.me),
         Change::AspUp(_) => [false; 16],
         Change::AspDown(_) => [false; 16],
         Change::Deactivate(_) => [false; 16],
@@ -319,7 +332,7 @@ fn units_out(p: usize, n: u8, id: &[u32; 128], a: usize, words: &mut [u32], m: u
     requires { (p < 16) × (a < 16) × (m * 4 + 32 ≤ length words.old) }
     ensures { Written words.old m (units_out p n id.now a) words.new result }
 {
-    let held = state_tables::wide(n);
+    let held = usize::from(n);
     let mut at = m;
     for k in 0..8usize {
         at = rules_action::put_if(
@@ -340,17 +353,17 @@ fn units_out(p: usize, n: u8, id: &[u32; 128], a: usize, words: &mut [u32], m: u
 
 // The units of AS a go out to the ASP that becomes active.
 pub fn let_out(
-    k: Change,
+    k: Moved,
     count: &[u8; 16],
     id: &[u32; 128],
     a: usize,
     words: &mut [u32],
     n: usize,
 ) -> usize
-    requires { (a < 16) × (n * 4 + 32 ≤ length words.old) × (fits k ≡ true) }
-    ensures { Written words.old n (let_out k (number_at count.now a) id.now a) words.new result }
+    requires { (a < 16) × (n * 4 + 32 ≤ length words.old) }
+    ensures { Written words.old n (let_out k.change (number_at count.now a) id.now a) words.new result }
 {
-    match k {
+    match k.change {
         Change::Activate(p) => units_out(p, count[a], id, a, words, n),
         Change::AspUp(_) => n,
         Change::AspDown(_) => n,

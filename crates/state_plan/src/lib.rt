@@ -1,13 +1,11 @@
 // The plan file: a fresh state of the gateway (Rule 4.6), or a refusal (Rules 4.4, 4.5, 4.7).
 #![tactic(auto)]
 
-ghost use Rattle.std.specs.Prelude.{◌≡◌, true, ◌&&◌, ◌+◌, ◌*◌, ◌<◌, ◌≤◌, leb, ltb, eqb, length};
+ghost use Rattle.std.specs.Prelude.{◌≡◌, ℕ, true, ◌&&◌, ◌+◌, ◌*◌, ◌<◌, ◌≤◌, leb, ltb, eqb, length};
 ghost use Rattle.laws.specs.Below.{all_below};
-ghost use Rattle.laws.specs.Columns.{number_at};
-ghost use Rattle.laws.specs.Inner.Columns.{HalfCol};
 ghost use Rattle.state_plan.specs.Plan.{offset, count, layout_ok, column, bit, bits_from, high, low, members, link_kinds, list_rules, load_of};
-ghost use Rattle.state_plan.specs.Inner.Layout.{Inside, places_of, rows_at, state_at, AllBytes, code_of, taken_of, made};
-ghost use Rattle.state_plan.specs.Inner.Tables.{word_of, byte_of, RowsIn, AllIn, floor_of};
+ghost use Rattle.state_plan.specs.Inner.Layout.{Inside, places_of, rows_at, state_at, AllBytes, number, code_of, rows_in, made};
+ghost use Rattle.state_plan.specs.Inner.Tables.{Read, word_of, byte_of, RowsIn, AllIn, floor_of};
 
 use state_tables::{Gateway, Units};
 
@@ -25,7 +23,26 @@ const LINK_KINDS: u32 = 2;
 // The rules for an ASP's lists: 0 part may succeed, 1 whole or not at all.
 const LIST_RULES: u32 = 2;
 
+// Why a file is refused: its layout (Rule 4.4), or a row (Rule 4.5).
+#[derive(Clone, Copy, Debug, PartialEq, Eq)]
+pub enum PlanRefusal {
+    Layout,
+    Row,
+}
+
+impl From<PlanRefusal> for u32 {
+    fn from(refusal: PlanRefusal) -> u32
+        ensures { result ≡ number refusal }
+    {
+        match refusal {
+            PlanRefusal::Layout => 201,
+            PlanRefusal::Row => 202,
+        }
+    }
+}
+
 // The answer to a file: code 0 and a fresh state, or 201 or 202 and a state of zeros.
+// Kept: the C interface (include/m2ua.h) has this struct.
 #[repr(C)]
 #[derive(Drop)]
 pub struct Loaded {
@@ -76,42 +93,32 @@ fn laid_out(s: &[u8]) -> bool
 
 // ---- the rows, as tables with zeros beyond them
 
-// One word of each of n rows: the first at a position, every next one a row further on.
-fn fill(s: &[u8], at: usize, row: usize, n: usize, out: &mut [u32])
-    requires { (n ≤ length out.old) × RowsIn (length s.now) at row n }
-    ensures { HalfCol (word_of s.now at row) (number_at out.old) (length out.old) n out.new }
+// What is read of each of n rows, and zeros beyond them.
+fn column<T: Copy, const N: usize, F: Fn(usize) -> T>(zero: T, n: usize, read: F) -> [T; N]
+    requires { (n ≤ N) × ((i : ℕ) → i < n → F.pre read i) }
+    ensures { Read (F.post read) zero N n result }
 {
+    let mut r = [zero; N];
     for i in 0..n {
-        out[i] = codec_wire::get32(s, at + row * i);
+        r[i] = read(i);
     }
-}
-
-fn words_16(s: &[u8], at: usize, row: usize, n: usize) -> [u32; 16]
-    requires { (n ≤ 16) × RowsIn (length s.now) at row n }
-    ensures { result ≡ column 16 n (word_of s.now at row) }
-{
-    let mut r = [0u32; 16];
-    fill(s, at, row, n, &mut r);
     r
 }
 
-fn words_128(s: &[u8], at: usize, row: usize, n: usize) -> [u32; 128]
-    requires { (n ≤ 128) × RowsIn (length s.now) at row n }
-    ensures { result ≡ column 128 n (word_of s.now at row) }
+// One word of each of n rows: the first at a position, every next one a row further on.
+fn words<const N: usize>(s: &[u8], at: usize, row: usize, n: usize) -> [u32; N]
+    requires { (n ≤ N) × RowsIn (length s.now) at row n }
+    ensures { result ≡ column N n (word_of s.now at row) }
 {
-    let mut r = [0u32; 128];
-    fill(s, at, row, n, &mut r);
-    r
+    column(0, n, |i| codec_wire::get32(s, at + row * i))
 }
 
 // The same for one byte of each row: modes, rules for lists, owners and kinds are below 256.
-fn fill_bytes(s: &[u8], at: usize, row: usize, n: usize, out: &mut [u8])
-    requires { (n ≤ length out.old) × AllIn (λ i. at + row * i) n (length s.now) }
-    ensures { HalfCol (byte_of s.now at row) (number_at out.old) (length out.old) n out.new }
+fn bytes<const N: usize>(s: &[u8], at: usize, row: usize, n: usize) -> [u8; N]
+    requires { (n ≤ N) × AllIn (λ i. at + row * i) n (length s.now) }
+    ensures { result ≡ column N n (byte_of s.now at row) }
 {
-    for i in 0..n {
-        out[i] = s[at + row * i];
-    }
+    column(0, n, |i| s[at + row * i])
 }
 
 // ---- the conditions on rows (Rule 4.5), asked of the file's words: a refused file needs no table
@@ -120,12 +127,10 @@ fn modes_ok(s: &[u8], at: usize, ases: usize) -> bool
     requires { RowsIn (length s.now) at 4 ases }
     ensures { result ≡ all_below (λ a. leb 1 (word_of s.now at 4 a) && leb (word_of s.now at 4 a) 3) ases }
 {
-    let mut ok = true;
-    for a in 0..ases {
+    state_tables::every(ases, |a| {
         let x = codec_wire::get32(s, at + AS_ROW * a);
-        ok = ok & ((1 <= x) & (x <= 3));
-    }
-    ok
+        (1 <= x) & (x <= 3)
+    })
 }
 
 // The second word of an ASP's row: its mask, then the rule for its lists.
@@ -133,18 +138,10 @@ fn masks_ok(s: &[u8], at: usize, asps: usize, ases: u32) -> bool
     requires { RowsIn (length s.now) at 8 asps × (ases ≤ 16) }
     ensures { result ≡ all_below (λ p. eqb (bits_from (high (word_of s.now at 8 p)) ases) 0 && ltb (low (word_of s.now at 8 p)) list_rules) asps }
 {
-    let mut ok = true;
-    for p in 0..asps {
+    state_tables::every(asps, |p| {
         let x = codec_wire::get32(s, at + ASP_ROW * p);
-        ok = ok & (((x / 65536) >> ases == 0) & (x % 65536 < LIST_RULES));
-    }
-    ok
-}
-
-fn long(x: u32) -> u64
-    ensures { (result ≡ x) × (result < 4294967296) }
-{
-    x as u64
+        ((x / 65536) >> ases == 0) & (x % 65536 < LIST_RULES)
+    })
 }
 
 // Identifiers that ascend, each at least one more than the one before it, owners and kinds: all of a row in
@@ -158,7 +155,7 @@ fn links_ok(s: &[u8], at: usize, links: usize, ases: u32) -> bool
     let mut least: u64 = 0;
     let mut bits: u32 = 0;
     for l in 0..links {
-        let id = long(codec_wire::get32(s, at + LINK_ROW * l));
+        let id = u64::from(codec_wire::get32(s, at + LINK_ROW * l));
         let x = codec_wire::get32(s, at + 4 + LINK_ROW * l);
         bits = bits | x;
         ok = ok & ((least <= id) & (x % 65536 < ases));
@@ -168,7 +165,7 @@ fn links_ok(s: &[u8], at: usize, links: usize, ases: u32) -> bool
 }
 
 // Where the bodies of a file start, and how many rows they have.
-#[derive(Drop)]
+#[derive(Clone, Copy)]
 pub struct Places {
     pub asps: usize,
     pub ases: usize,
@@ -178,6 +175,16 @@ pub struct Places {
     pub z: usize,
 }
 
+// Of a refused file no row is taken over.
+const NOWHERE: Places = Places {
+    asps: 0,
+    ases: 0,
+    links: 0,
+    x: 0,
+    y: 0,
+    z: 0,
+};
+
 fn rows_ok(s: &[u8], t: Places) -> bool
     requires { Inside t (length s.now) }
     ensures { result ≡ rows_at s.now t }
@@ -185,7 +192,7 @@ fn rows_ok(s: &[u8], t: Places) -> bool
     let m = t.ases as u32;
     let traffic = modes_ok(s, t.y, t.ases);
     let masked = masks_ok(s, t.x + 4, t.asps, m);
-    let aspid = words_16(s, t.x, ASP_ROW, t.asps);
+    let aspid = words(s, t.x, ASP_ROW, t.asps);
     let differ = state_tables::all_new(&aspid, t.asps);
     let linked = links_ok(s, t.z, t.links, m);
     (traffic & masked) & (differ & linked)
@@ -195,33 +202,34 @@ fn places_of(s: &[u8]) -> Places
     requires { layout_ok s.now ≡ true }
     ensures { result ≡ places_of s.now }
 {
-    let n = count_of(s, 0);
-    let m = count_of(s, 1);
-    let k = count_of(s, 2);
+    let asps = count_of(s, 0);
+    let ases = count_of(s, 1);
+    let links = count_of(s, 2);
     let x = offset_of(s, 0);
     let y = offset_of(s, 1);
     let z = offset_of(s, 2);
     Places {
-        asps: n,
-        ases: m,
-        links: k,
-        x: x,
-        y: y,
-        z: z,
+        asps,
+        ases,
+        links,
+        x,
+        y,
+        z,
     }
 }
 
-fn code_of(s: &[u8]) -> u32
-    ensures { result ≡ code_of s.now }
+// The rows that a file has, or why it is refused: the layout is decided before any row is looked at.
+fn rows_in(s: &[u8]) -> Result<Places, PlanRefusal>
+    ensures { result ≡ rows_in s.now }
 {
     if !laid_out(s) {
-        return 201;
+        return Err(PlanRefusal::Layout);
     }
     let t = places_of(s);
     if !rows_ok(s, t) {
-        return 202;
+        return Err(PlanRefusal::Row);
     }
-    0
+    Ok(t)
 }
 
 // ---- the fresh state (Rule 4.6)
@@ -239,11 +247,11 @@ fn masks_of(s: &[u8], at: usize, n: usize) -> [u16; 16]
     requires { (n ≤ 16) × RowsIn (length s.now) at 8 n }
     ensures { result ≡ column 16 n (λ p. high (word_of s.now at 8 p)) }
 {
-    let mut r = [0u16; 16];
-    for p in 0..n {
-        r[p] = (codec_wire::get32(s, at + ASP_ROW * p) / 65536) as u16;
-    }
-    r
+    column(
+        0,
+        n,
+        |p| (codec_wire::get32(s, at + ASP_ROW * p) / 65536) as u16,
+    )
 }
 
 fn members_of(mask: &[u16; 16]) -> [u8; 256]
@@ -252,28 +260,20 @@ fn members_of(mask: &[u16; 16]) -> [u8; 256]
     let mut r = [0u8; 256];
     for a in 0..16u16 {
         for q in 0..16usize {
-            r[(a as usize) * 16 + q] = bit_of(mask[q], a);
+            r[usize::from(a) * 16 + q] = bit_of(mask[q], a);
         }
     }
     r
 }
 
-// The rows that are taken over: of a refused file none, so that every table is zeros.
-fn taken(s: &[u8], code: u32) -> Places
-    requires { code ≡ 0 → layout_ok s.now ≡ true }
-    ensures { result ≡ taken_of s.now code }
+// The number of an answer: 0 for an accepted file.
+fn code_of(r: Result<Places, PlanRefusal>) -> u32
+    ensures { result ≡ code_of r }
 {
-    if code != 0 {
-        return Places {
-            asps: 0,
-            ases: 0,
-            links: 0,
-            x: 0,
-            y: 0,
-            z: 0,
-        };
+    match r {
+        Ok(_) => 0,
+        Err(refusal) => u32::from(refusal),
     }
-    places_of(s)
 }
 
 // One way for accepted and refused files: where two ways build a state, the compiler makes it in a place of
@@ -285,30 +285,26 @@ fn build(s: &[u8], t: Places, code: u32) -> Loaded
     let mask = masks_of(s, t.x + 4, t.asps);
     let member = members_of(&mask);
     // the last byte of a mode's word, of an ASP's second word, and of each half of a link's
-    let mut modes = [0u8; 16];
-    fill_bytes(s, t.y + 3, AS_ROW, t.ases, &mut modes);
-    let mut lists = [0u8; 16];
-    fill_bytes(s, t.x + 7, ASP_ROW, t.asps, &mut lists);
-    let mut owners = [0u8; 128];
-    fill_bytes(s, t.z + 7, LINK_ROW, t.links, &mut owners);
-    let mut kinds = [0u8; 128];
-    fill_bytes(s, t.z + 5, LINK_ROW, t.links, &mut kinds);
-    let aspid = words_16(s, t.x, ASP_ROW, t.asps);
-    let iid = words_128(s, t.z, LINK_ROW, t.links);
+    let modes = bytes(s, t.y + 3, AS_ROW, t.ases);
+    let lists = bytes(s, t.x + 7, ASP_ROW, t.asps);
+    let owners = bytes(s, t.z + 7, LINK_ROW, t.links);
+    let kinds = bytes(s, t.z + 5, LINK_ROW, t.links);
+    let aspid = words(s, t.x, ASP_ROW, t.asps);
+    let iid = words(s, t.z, LINK_ROW, t.links);
     Loaded {
-        code: code,
+        code,
         gateway: Gateway {
             asps: t.asps as u8,
             ases: t.ases as u8,
             links: t.links as u8,
             spare: 0,
-            aspid: aspid,
+            aspid,
             up: [0; 16],
-            member: member,
+            member,
             active: [0; 256],
             mode: modes,
             waiting: [0; 16],
-            iid: iid,
+            iid,
             owner: owners,
             state: [0; 128],
             highspeed: kinds,
@@ -321,7 +317,6 @@ fn build(s: &[u8], t: Places, code: u32) -> Loaded
 pub fn load(file: &[u8]) -> Loaded
     ensures { result ≡ load_of file.now }
 {
-    let code = code_of(file);
-    let t = taken(file, code);
-    build(file, t, code)
+    let rows = rows_in(file);
+    build(file, rows.unwrap_or(NOWHERE), code_of(rows))
 }

@@ -17,7 +17,6 @@ use Rattle.laws.specs.Columns.{number_at, is_set}
 use Rattle.state_tables.specs.declared.Gateway.{Gateway}
 use Rattle.state_tables.specs.declared.Units.{Units}
 use Rattle.state_tables.specs.Sound.{all_under, counts_in, sound_asps, sound_ases, sound_links, sound_columns, sound_tables, is_link_of, unit_at, blank_at, units_ok, sized, all_units, sound_units, is_sound}
-use Rattle.state_tables.specs.State.{units_of}
 use Rattle.state_tables.specs.Inner.Sound.{sound_tables_of}
 use Rattle.state_tables.specs.Inner.Laws.{limits, links_parts}
 use Rattle.state_tables.specs.Inner.Column.{column_all, under_wider}
@@ -126,10 +125,10 @@ seen_fits {id} {iid} {owner} {seen} {links} h a n b m =
     let e : (a * 8 + k) / 8 ≡ a = omega arith in
     rw (h.at (a * 8 + k) (omega arith), e) (one_is (is_link_of iid owner links a (number_at id (a * 8 + k)))))
 
-pub row_seen_lem : (tag length marked id correlation iid owner : List ℕ) (links : ℕ) {seen : List ℕ} → Seen id iid owner links seen → (n a : ℕ) → a < 16 → n ≤ 8
-    → row_seen tag length marked id correlation seen n a ≡ row_fit tag length marked id correlation iid owner links n a
+pub row_seen_lem : (u : Units) (iid owner : List ℕ) (links : ℕ) {seen : List ℕ} → Seen u.id iid owner links seen → (n a : ℕ) → a < 16 → n ≤ 8
+    → row_seen u seen n a ≡ row_fit u iid owner links n a
 unfolding row_seen row_fit
-row_seen_lem tag length marked id correlation iid owner links h n a b m = rw (seen_fits h a n b m)
+row_seen_lem u iid owner links h n a b m = rw (seen_fits h a n b m)
 
 -- ---- the units of an AS looked through
 
@@ -168,19 +167,16 @@ marked_more id x a k {old} {new} h b v e = record { long = length-set new (a * 8
 
 -- ---- one AS, and all
 
-module _ (count tag length marked id correlation : List ℕ) where
-  abbrev units : Units
-  units = units_of count tag length marked id correlation
-
+module _ (u : Units) where
   abbrev blanks : ℕ → ℕ → Bool
-  blanks = blank_places tag length marked id correlation
+  blanks = blank_places u
 
-  blank_places_lem : (from n : ℕ) → all_below (λ k. blank_at units (from + k)) n ≡ blanks from n
+  blank_places_lem : (from n : ℕ) → all_below (λ k. blank_at u (from + k)) n ≡ blanks from n
   unfolding blank_places narrow_blank wide_blank blank_at
   blank_places_lem from n =
-      all_ext (λ k. blank_at units (from + k)) (λ k. narrow_at tag length marked from k && wide_at id correlation from k) n
-      (λ k b. regrouped (eqb (number_at tag (from + k)) 0 && eqb (number_at length (from + k)) 0) (eqb (number_at marked (from + k)) 0) (wide_at id correlation from k))
-      ∙ all_two (narrow_at tag length marked from) (wide_at id correlation from) n
+      all_ext (λ k. blank_at u (from + k)) (λ k. narrow_at u.tag u.length u.marked from k && wide_at u.id u.correlation from k) n
+      (λ k b. regrouped (eqb (number_at u.tag (from + k)) 0 && eqb (number_at u.length (from + k)) 0) (eqb (number_at u.marked (from + k)) 0) (wide_at u.id u.correlation from k))
+      ∙ all_two (narrow_at u.tag u.length u.marked from) (wide_at u.id u.correlation from) n
     where
       regrouped : (x y z : Bool) → (x && (y && z)) ≡ ((x && y) && z)
       regrouped true y z = refl
@@ -188,18 +184,18 @@ module _ (count tag length marked id correlation : List ℕ) where
 
   module _ (waiting iid owner : List ℕ) (links : ℕ) where
     abbrev unit : ℕ → ℕ → Bool
-    unit a k = unit_at units iid owner links a (a * 8 + k)
+    unit a k = unit_at u iid owner links a (a * 8 + k)
 
-    unit_parts : (a n : ℕ) → all_below (unit a) n ≡ (fields_fit tag length marked correlation (a * 8) n && ids_fit id iid owner links a n)
+    unit_parts : (a n : ℕ) → all_below (unit a) n ≡ (fields_fit u (a * 8) n && ids_fit u.id iid owner links a n)
     unfolding unit_at fields_fit ids_fit data_fit
     unit_parts a n =
-        all_ext (unit a) (λ k. fields_at tag length marked correlation (a * 8) k && id_at id iid owner links a k) n
+        all_ext (unit a) (λ k. fields_at u (a * 8) k && id_at u.id iid owner links a k) n
         (λ k b.
         regrouped
-        ((eqb (number_at tag (a * 8 + k)) 0x300 || eqb (number_at tag (a * 8 + k)) 0x301) && (leb 5 (number_at length (a * 8 + k)) && leb (number_at length (a * 8 + k)) 277))
-        (id_at id iid owner links a k)
-        (eqb (number_at marked (a * 8 + k)) 1 || (eqb (number_at marked (a * 8 + k)) 0 && eqb (number_at correlation (a * 8 + k)) 0)))
-        ∙ all_two (fields_at tag length marked correlation (a * 8)) (id_at id iid owner links a) n
+        ((eqb (number_at u.tag (a * 8 + k)) 0x300 || eqb (number_at u.tag (a * 8 + k)) 0x301) && (leb 5 (number_at u.length (a * 8 + k)) && leb (number_at u.length (a * 8 + k)) 277))
+        (id_at u.id iid owner links a k)
+        (eqb (number_at u.marked (a * 8 + k)) 1 || (eqb (number_at u.marked (a * 8 + k)) 0 && eqb (number_at u.correlation (a * 8 + k)) 0)))
+        ∙ all_two (fields_at u (a * 8)) (id_at u.id iid owner links a) n
       where
         regrouped : (x y z : Bool) → (x && (y && z)) ≡ ((x && z) && y)
         regrouped true true true = refl
@@ -209,19 +205,19 @@ module _ (count tag length marked id correlation : List ℕ) where
         regrouped false y z = refl
 
     abbrev place : ℕ → ℕ → ℕ → Bool
-    place n a k = cond (ltb k n) (unit a k) (blank_at units (a * 8 + k))
+    place n a k = cond (ltb k n) (unit a k) (blank_at u (a * 8 + k))
 
-    places_whole : (n a : ℕ) → n ≤ 8 → Dec (n ≡ 0) → all_below (place n a) 8 ≡ (row_fit tag length marked id correlation iid owner links n a && empty_fit tag length marked id correlation n a)
+    places_whole : (n a : ℕ) → n ≤ 8 → Dec (n ≡ 0) → all_below (place n a) 8 ≡ (row_fit u iid owner links n a && empty_fit u n a)
     unfolding row_fit empty_fit
     places_whole n a b (yes e) =
         rw (eq-eqb n 0 e)
-        (all_ext (place n a) (λ k. blank_at units (a * 8 + k)) 8 (λ k d. rw (le-ltb k n (omega arith)))
+        (all_ext (place n a) (λ k. blank_at u (a * 8 + k)) 8 (λ k d. rw (le-ltb k n (omega arith)))
         ∙ blank_places_lem (a * 8) 8)
     places_whole n a b (no e) =
         rw (ne_eqb n 0 e)
-        (all_split (unit a) (λ k. blank_at units (a * 8 + k)) n 8 b
-        ∙ rw (unit_parts a n, all_ext (λ k. blank_at units (a * 8 + (n + k))) (λ k. blank_at units (a * 8 + n + k)) (8 - n) (λ k d. let z : a * 8 + (n + k) ≡ a * 8 + n + k = omega arith in rw z), blank_places_lem (a * 8 + n) (8 - n))
-        (regrouped (fields_fit tag length marked correlation (a * 8) n) (ids_fit id iid owner links a n) (blanks (a * 8 + n) (8 - n))))
+        (all_split (unit a) (λ k. blank_at u (a * 8 + k)) n 8 b
+        ∙ rw (unit_parts a n, all_ext (λ k. blank_at u (a * 8 + (n + k))) (λ k. blank_at u (a * 8 + n + k)) (8 - n) (λ k d. let z : a * 8 + (n + k) ≡ a * 8 + n + k = omega arith in rw z), blank_places_lem (a * 8 + n) (8 - n))
+        (regrouped (fields_fit u (a * 8) n) (ids_fit u.id iid owner links a n) (blanks (a * 8 + n) (8 - n))))
       where
         regrouped : (x y z : Bool) → ((x && y) && z) ≡ ((x && (y && z)) && true)
         regrouped true true true = refl
@@ -230,38 +226,38 @@ module _ (count tag length marked id correlation : List ℕ) where
         regrouped false y z = refl
 
     abbrev row : ℕ → Bool
-    row = row_at count tag length marked id correlation iid owner links
+    row = row_at u iid owner links
 
     abbrev empty : ℕ → Bool
-    empty = empty_at count tag length marked id correlation
+    empty = empty_at u
 
-    as_whole : (a : ℕ) → units_ok units waiting iid owner links a ≡ (count_at count waiting a && (row a && empty a))
+    as_whole : (a : ℕ) → units_ok u waiting iid owner links a ≡ (count_at u.count waiting a && (row a && empty a))
     unfolding units_ok
-    as_whole a = go (count_at count waiting a) refl
+    as_whole a = go (count_at u.count waiting a) refl
       where
-        go : (t : Bool) → count_at count waiting a ≡ t → (t && all_below (place (number_at count a) a) 8) ≡ (t && (row a && empty a))
-        go true e = places_whole (number_at count a) a (leb-true (number_at count a) 8 (and_left (leb (number_at count a) 8) (eqb (number_at count a) 0 || is_set waiting a) e)) (ℕ_discrete (number_at count a) 0)
+        go : (t : Bool) → count_at u.count waiting a ≡ t → (t && all_below (place (number_at u.count a) a) 8) ≡ (t && (row a && empty a))
+        go true e = places_whole (number_at u.count a) a (leb-true (number_at u.count a) 8 (and_left (leb (number_at u.count a) 8) (eqb (number_at u.count a) 0 || is_set waiting a) e)) (ℕ_discrete (number_at u.count a) 0)
         go false e = refl
 
     -- all ASes, test by test
-    units_whole : all_units units waiting iid owner links ≡ (counts_fit count waiting && (rows_fit count tag length marked id correlation iid owner links && empties_fit count tag length marked id correlation))
+    units_whole : all_units u waiting iid owner links ≡ (counts_fit u.count waiting && (rows_fit u iid owner links && empties_fit u))
     unfolding all_units counts_fit rows_fit empties_fit
     units_whole =
-        all_ext (units_ok units waiting iid owner links) (λ a. count_at count waiting a && (row a && empty a)) 16 (λ a b. as_whole a)
-        ∙ all_two (count_at count waiting) (λ a. row a && empty a) 16
-        ∙ ap (λ (t : Bool). all_below (count_at count waiting) 16 && t) (all_two row empty 16)
+        all_ext (units_ok u waiting iid owner links) (λ a. count_at u.count waiting a && (row a && empty a)) 16 (λ a b. as_whole a)
+        ∙ all_two (count_at u.count waiting) (λ a. row a && empty a) 16
+        ∙ ap (λ (t : Bool). all_below (count_at u.count waiting) 16 && t) (all_two row empty 16)
 
-    pub counts_fail : counts_fit count waiting ≡ false → false ≡ all_units units waiting iid owner links
+    pub counts_fail : counts_fit u.count waiting ≡ false → false ≡ all_units u waiting iid owner links
     counts_fail h = rw (units_whole, h)
 
-    pub empties_fail : counts_fit count waiting ≡ true → empties_fit count tag length marked id correlation ≡ false → false ≡ all_units units waiting iid owner links
-    empties_fail h e = rw (units_whole, h, e) (none (rows_fit count tag length marked id correlation iid owner links))
+    pub empties_fail : counts_fit u.count waiting ≡ true → empties_fit u ≡ false → false ≡ all_units u waiting iid owner links
+    empties_fail h e = rw (units_whole, h, e) (none (rows_fit u iid owner links))
       where
         none : (t : Bool) → false ≡ (t && false)
         none true = refl
         none false = refl
 
-    pub rows_said : (r : Bool) → counts_fit count waiting ≡ true → empties_fit count tag length marked id correlation ≡ true → r ≡ rows_fit count tag length marked id correlation iid owner links → r ≡ all_units units waiting iid owner links
+    pub rows_said : (r : Bool) → counts_fit u.count waiting ≡ true → empties_fit u ≡ true → r ≡ rows_fit u iid owner links → r ≡ all_units u waiting iid owner links
     rows_said r h e q = rw (units_whole, h, e, ← q) (all r)
       where
         all : (t : Bool) → t ≡ (t && true)
@@ -269,14 +265,14 @@ module _ (count tag length marked id correlation : List ℕ) where
         all false = refl
 
     -- where no AS holds a unit, all places are blank
-    pub units_none : none_counted count ≡ true → blanks 0 128 ≡ all_units units waiting iid owner links
+    pub units_none : none_counted u.count ≡ true → blanks 0 128 ≡ all_units u waiting iid owner links
     unfolding none_counted all_units row_fit empty_fit
     units_none h =
         sym (blank_places_lem 0 128)
-        ∙ sym (all_rows (blank_at units))
-        ∙ all_ext (λ a. all_below (λ k. blank_at units (a * 8 + k)) 8) (units_ok units waiting iid owner links) 16
+        ∙ sym (all_rows (blank_at u))
+        ∙ all_ext (λ a. all_below (λ k. blank_at u (a * 8 + k)) 8) (units_ok u waiting iid owner links) 16
         (λ a b.
-        let z : number_at count a ≡ 0 = eqb-true (number_at count a) 0 (all_at (λ a. eqb (number_at count a) 0) 16 h a b) in
+        let z : number_at u.count a ≡ 0 = eqb-true (number_at u.count a) 0 (all_at (λ a. eqb (number_at u.count a) 0) 16 h a b) in
         blank_places_lem (a * 8) 8 ∙ sym (as_whole a ∙ rw z))
 
 -- no count is above 8
@@ -315,3 +311,8 @@ tables_fail g h = rw (← tables_of_lem g, h)
 pub units_said : (g : Gateway) (n : ℕ) (z r : Bool) → tables g ≡ true → n ≡ g.links → z ≡ sized g.held → r ≡ all_units g.held g.waiting g.iid g.owner n → (z && r) ≡ is_sound g
 unfolding is_sound sound_units
 units_said g n z r h e w q = rw (← tables_of_lem g, h, w, ← e, q)
+
+-- columns that have their places
+pub sized_is : (u : Units) → length u.count ≡ 16 → length u.tag ≡ 128 → length u.length ≡ 128 → length u.marked ≡ 128 → length u.id ≡ 128 → length u.correlation ≡ 128 → true ≡ sized u
+unfolding sized
+sized_is u a b c d e f = rw (a, b, c, d, e, f)

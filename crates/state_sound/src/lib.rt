@@ -3,79 +3,55 @@
 
 ghost use Rattle.std.specs.Prelude.{◌≡◌, true, cond, ℕ, ◌+◌, ◌<◌, ◌≤◌, length};
 ghost use Rattle.laws.specs.Columns.{number_at};
-ghost use Rattle.state_tables.specs.Sound.{all_under, is_sound, sized, all_units};
+ghost use Rattle.state_tables.specs.Sound.{all_under, is_sound, all_units};
 ghost use Rattle.state_tables.specs.State.{units_of};
-ghost use Rattle.state_sound.specs.Inner.Sound.{is_sound_of, narrow_blank, wide_blank, blank_places, none_counted, counts_fit, data_fit, fields_fit, Marked, Seen, seen_fit, empty_fit, empties_fit, row_seen, rows_fit};
+ghost use Rattle.state_sound.specs.Inner.Sound.{is_sound_of, units_in, blank_places, none_counted, counts_fit, data_fit, fields_fit, Marked, Seen, seen_fit, empty_fit, empties_fit, row_seen, rows_fit};
 
 use state_tables::Gateway;
 
-// n places of three columns, or of two, are zero. Columns of one width in one loop without a branch: so it
-// becomes operations on 16 bytes.
-fn narrow_blank<'a>(
-    c: &'a [u16; 128],
-    d: &'a [u16; 128],
-    e: &'a [u16; 128],
-    from: usize,
-    n: usize,
-) -> bool
-    requires { from + n ≤ 128 }
-    ensures { result ≡ narrow_blank c.now d.now e.now from n }
-{
-    let mut ok = true;
-    for k in 0..n {
-        ok = ok & (((c[from + k] == 0) & (d[from + k] == 0)) & (e[from + k] == 0));
-    }
-    ok
+mod links;
+
+use links::Links;
+
+// The columns of the units held (Rule 5.21), as they are lent.
+#[derive(Clone, Copy)]
+pub struct Held<'a> {
+    pub count: &'a [u8; 16],
+    pub tag: &'a [u16; 128],
+    pub length: &'a [u16; 128],
+    pub marked: &'a [u16; 128],
+    pub id: &'a [u32; 128],
+    pub correlation: &'a [u32; 128],
 }
 
-fn wide_blank<'a>(c: &'a [u32; 128], d: &'a [u32; 128], from: usize, n: usize) -> bool
+// n places hold no unit. Columns of one width in one loop: so it becomes operations on 16 bytes.
+fn blank<'a>(held: Held<'a>, from: usize, n: usize) -> bool
     requires { from + n ≤ 128 }
-    ensures { result ≡ wide_blank c.now d.now from n }
+    ensures { result ≡ blank_places (units_in held.entry) from n }
 {
-    let mut ok = true;
-    for k in 0..n {
-        ok = ok & ((c[from + k] == 0) & (d[from + k] == 0));
-    }
-    ok
-}
-
-// n places hold no unit.
-fn blank<'a>(
-    tag: &'a [u16; 128],
-    length: &'a [u16; 128],
-    marked: &'a [u16; 128],
-    id: &'a [u32; 128],
-    correlation: &'a [u32; 128],
-    from: usize,
-    n: usize,
-) -> bool
-    requires { from + n ≤ 128 }
-    ensures { result ≡ blank_places tag.now length.now marked.now id.now correlation.now from n }
-{
-    let x = narrow_blank(tag, length, marked, from, n);
-    let y = wide_blank(id, correlation, from, n);
-    x & y
+    let narrow = state_tables::every(n, |k| {
+        ((held.tag[from + k] == 0) & (held.length[from + k] == 0)) & (held.marked[from + k] == 0)
+    });
+    let wide = state_tables::every(n, |k| {
+        (held.id[from + k] == 0) & (held.correlation[from + k] == 0)
+    });
+    narrow & wide
 }
 
 pub fn none_counted(count: &[u8; 16]) -> bool
     ensures { result ≡ none_counted count.now }
 {
-    let mut ok = true;
-    for a in 0..16usize {
-        ok = ok & (count[a] == 0);
-    }
-    ok
+    state_tables::every(16, |a| count[a] == 0)
 }
 
 // An AS holds 8 at most, and some only while it waits.
 fn counts_ok<'a>(count: &'a [u8; 16], waiting: &'a [u8; 16]) -> bool
     ensures { result ≡ counts_fit count.now waiting.now }
 {
-    let mut ok = true;
-    for a in 0..16usize {
-        ok = ok & ((count[a] <= 8) & ((count[a] == 0) | (waiting[a] == 1)));
-    }
-    ok
+    state_tables::every(
+        16,
+        |a| (count[a] <= 8) & ((count[a] == 0) | (waiting[a] == 1)),
+    )
 }
 
 // A unit but for its link: tag and length of protocol data, and a correlation id only where it is marked.
@@ -86,24 +62,19 @@ fn data_ok(tag: u16, length: u16, marked: u16, correlation: u32) -> bool
         & ((marked == 1) | ((marked == 0) & (correlation == 0)))
 }
 
-fn fields_ok<'a>(
-    tag: &'a [u16; 128],
-    length: &'a [u16; 128],
-    marked: &'a [u16; 128],
-    correlation: &'a [u32; 128],
-    from: usize,
-    n: usize,
-) -> bool
+fn fields_ok<'a>(held: Held<'a>, from: usize, n: usize) -> bool
     requires { from + n ≤ 128 }
-    ensures { result ≡ fields_fit tag.now length.now marked.now correlation.now from n }
+    ensures { result ≡ fields_fit (units_in held.entry) from n }
 {
-    let mut ok = true;
-    for k in 0..n {
+    state_tables::every(n, |k| {
         let i = from + k;
-        let t = data_ok(tag[i], length[i], marked[i], correlation[i]);
-        ok = ok & t;
-    }
-    ok
+        data_ok(
+            held.tag[i],
+            held.length[i],
+            held.marked[i],
+            held.correlation[i],
+        )
+    })
 }
 
 // 1 where t holds, and else what was there.
@@ -116,7 +87,7 @@ fn marked_if(t: bool, old: u32) -> u32
 // The units of AS a that are of the link with identifier x are marked. Eight places without a branch: so it
 // becomes operations on 16 bytes.
 fn mark(seen: &mut [u32; 128], id: &[u32; 128], x: u32, a: usize)
-    requires { (a < 16) × (length seen.old ≡ 128) }
+    requires { a < 16 }
     ensures { Marked id.now x a 8 seen.old seen.new }
 {
     let from = a * 8;
@@ -127,18 +98,12 @@ fn mark(seen: &mut [u32; 128], id: &[u32; 128], x: u32, a: usize)
 }
 
 // Which units are of a link of their AS: each link marks its own, so that no link is searched for.
-fn seen_of<'a>(
-    id: &'a [u32; 128],
-    iid: &'a [u32; 128],
-    owner: &'a [u8; 128],
-    links: usize,
-) -> [u32; 128]
-    requires { (links ≤ 128) × (all_under owner.now 16 links ≡ true) }
-    ensures { Seen id.now iid.now owner.now links result }
+fn seen_of<'a>(id: &'a [u32; 128], links: Links<'a>) -> [u32; 128]
+    ensures { Seen id.now links.entry.iid.now links.entry.owner.now links.entry.count result }
 {
     let mut seen = [0u32; 128];
-    for l in 0..links {
-        mark(&mut seen, id, iid[l], state_tables::wide(owner[l]));
+    for l in 0..links.count {
+        mark(&mut seen, id, links.iid[l], usize::from(links.owner[l]));
     }
     seen
 }
@@ -148,91 +113,52 @@ fn ids_ok(seen: &[u32; 128], a: usize, n: usize) -> bool
     requires { (a < 16) × (n ≤ 8) }
     ensures { result ≡ seen_fit seen.now a n }
 {
-    let mut ok = true;
-    for k in 0..n {
-        ok = ok & (seen[a * 8 + k] == 1);
-    }
-    ok
+    state_tables::every(n, |k| seen[a * 8 + k] == 1)
 }
 
 // The places of an AS that holds n, where n is 0; and where it is not.
-fn empty_ok<'a>(
-    tag: &'a [u16; 128],
-    length: &'a [u16; 128],
-    marked: &'a [u16; 128],
-    id: &'a [u32; 128],
-    correlation: &'a [u32; 128],
-    n: u8,
-    a: usize,
-) -> bool
+fn empty_ok<'a>(held: Held<'a>, n: u8, a: usize) -> bool
     requires { a < 16 }
-    ensures { result ≡ empty_fit tag.now length.now marked.now id.now correlation.now n a }
+    ensures { result ≡ empty_fit (units_in held.entry) n a }
 {
     if n == 0 {
-        return blank(tag, length, marked, id, correlation, a * 8, 8);
+        return blank(held, a * 8, 8);
     }
     true
 }
 
-fn row_ok<'a>(
-    tag: &'a [u16; 128],
-    length: &'a [u16; 128],
-    marked: &'a [u16; 128],
-    id: &'a [u32; 128],
-    correlation: &'a [u32; 128],
-    seen: &'a [u32; 128],
-    n: usize,
-    a: usize,
-) -> bool
+fn row_ok<'a>(held: Held<'a>, seen: &'a [u32; 128], n: usize, a: usize) -> bool
     requires { (a < 16) × (n ≤ 8) }
-    ensures { result ≡ row_seen tag.now length.now marked.now id.now correlation.now seen.now n a }
+    ensures { result ≡ row_seen (units_in held.entry) seen.now n a }
 {
     if n == 0 {
         return true;
     }
-    let x = fields_ok(tag, length, marked, correlation, a * 8, n);
+    let x = fields_ok(held, a * 8, n);
     let y = ids_ok(seen, a, n);
-    let z = blank(tag, length, marked, id, correlation, a * 8 + n, 8 - n);
+    let z = blank(held, a * 8 + n, 8 - n);
     x & (y & z)
 }
 
 // Two loops over the ASes: of one the compiler makes slower code.
-fn empties_ok<'a>(
-    count: &'a [u8; 16],
-    tag: &'a [u16; 128],
-    length: &'a [u16; 128],
-    marked: &'a [u16; 128],
-    id: &'a [u32; 128],
-    correlation: &'a [u32; 128],
-) -> bool
-    ensures { result ≡ empties_fit count.now tag.now length.now marked.now id.now correlation.now }
+fn empties_ok<'a>(held: Held<'a>) -> bool
+    ensures { result ≡ empties_fit (units_in held.entry) }
 {
     for a in 0..16usize {
-        if !empty_ok(tag, length, marked, id, correlation, count[a], a) {
+        if !empty_ok(held, held.count[a], a) {
             return false;
         }
     }
     true
 }
 
-fn rows_ok<'a>(
-    count: &'a [u8; 16],
-    tag: &'a [u16; 128],
-    length: &'a [u16; 128],
-    marked: &'a [u16; 128],
-    id: &'a [u32; 128],
-    correlation: &'a [u32; 128],
-    iid: &'a [u32; 128],
-    owner: &'a [u8; 128],
-    links: usize,
-) -> bool
-    requires { (links ≤ 128) × (all_under owner.now 16 links ≡ true) × ((a : ℕ) → a < 16 → number_at count.now a ≤ 8) }
-    ensures { result ≡ rows_fit count.now tag.now length.now marked.now id.now correlation.now iid.now owner.now links }
+fn rows_ok<'a>(held: Held<'a>, links: Links<'a>) -> bool
+    requires { (a : ℕ) → a < 16 → number_at held.count.now a ≤ 8 }
+    ensures { result ≡ rows_fit (units_in held.entry) links.entry.iid.now links.entry.owner.now links.entry.count }
 {
-    let seen = seen_of(id, iid, owner, links);
+    let seen = seen_of(held.id, links);
     for a in 0..16usize {
-        let n = state_tables::wide(count[a]);
-        if !row_ok(tag, length, marked, id, correlation, &seen, n, a) {
+        if !row_ok(held, &seen, usize::from(held.count[a]), a) {
             return false;
         }
     }
@@ -240,6 +166,22 @@ fn rows_ok<'a>(
 }
 
 // Nearly always no unit is held, and then all columns are asked at once.
+fn held_ok<'a>(held: Held<'a>, waiting: &'a [u8; 16], links: Links<'a>) -> bool
+    ensures { result ≡ all_units (units_in held.entry) waiting.now links.entry.iid.now links.entry.owner.now links.entry.count }
+{
+    if none_counted(held.count) {
+        return blank(held, 0, 128);
+    }
+    if !counts_ok(held.count, waiting) {
+        return false;
+    }
+    if !empties_ok(held) {
+        return false;
+    }
+    rows_ok(held, links)
+}
+
+// Kept: docs/STATEMENTS.md names units_ok, which has the columns of the C interface (include/m2ua.h).
 pub fn units_ok<'a>(
     count: &'a [u8; 16],
     tag: &'a [u16; 128],
@@ -255,65 +197,25 @@ pub fn units_ok<'a>(
     requires { (links ≤ 128) × (all_under owner.now 16 links ≡ true) }
     ensures { result ≡ all_units (units_of count.now tag.now length.now marked.now id.now correlation.now) waiting.now iid.now owner.now links }
 {
-    if none_counted(count) {
-        return blank(tag, length, marked, id, correlation, 0, 128);
-    }
-    if !counts_ok(count, waiting) {
-        return false;
-    }
-    if !empties_ok(count, tag, length, marked, id, correlation) {
-        return false;
-    }
-    rows_ok(
+    let held = Held {
         count,
         tag,
         length,
         marked,
         id,
         correlation,
+    };
+    let owned = Links {
         iid,
         owner,
-        links,
-    )
+        count: links,
+    };
+    held_ok(held, waiting, owned)
 }
 
-// The columns have their places. (They do by their type, so that nothing is left of this in the machine
-// code.)
-fn bytes_in(c: &[u8]) -> usize
-    ensures { result ≡ length c.now }
-{
-    c.len()
-}
-
-fn halves_in(c: &[u16]) -> usize
-    ensures { result ≡ length c.now }
-{
-    c.len()
-}
-
-fn words_in(c: &[u32]) -> usize
-    ensures { result ≡ length c.now }
-{
-    c.len()
-}
-
-fn sizes_ok<'a>(
-    count: &'a [u8; 16],
-    tag: &'a [u16; 128],
-    length: &'a [u16; 128],
-    marked: &'a [u16; 128],
-    id: &'a [u32; 128],
-    correlation: &'a [u32; 128],
-) -> bool
-    ensures { result ≡ sized (units_of count.now tag.now length.now marked.now id.now correlation.now) }
-{
-    let narrow = (bytes_in(count) == 16) & ((halves_in(tag) == 128) & (halves_in(length) == 128));
-    let wide = (halves_in(marked) == 128)
-        & ((words_in(id) == 128) & (words_in(correlation) == 128));
-    narrow & wide
-}
-
-// The whole of lent columns, for callers that hold the state and would copy it by a call.
+// The whole of lent columns, for callers that hold the state and would copy it by a call. (The columns have
+// their places by their types.)
+// Kept: the C interface (include/m2ua.h) has these columns.
 pub fn sound_of<'a>(
     asps: u8,
     ases: u8,
@@ -345,8 +247,7 @@ pub fn sound_of<'a>(
     ) {
         return false;
     }
-    let whole = sizes_ok(count, tag, length, marked, id, correlation);
-    let units = units_ok(
+    units_ok(
         count,
         tag,
         length,
@@ -356,9 +257,8 @@ pub fn sound_of<'a>(
         waiting,
         iid,
         owner,
-        state_tables::wide(links),
-    );
-    whole & units
+        usize::from(links),
+    )
 }
 
 pub fn is_sound(g: Gateway) -> bool

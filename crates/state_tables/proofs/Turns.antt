@@ -1,37 +1,40 @@
--- What a turn of the loops over places adds, of one column and of two at once.
+-- Of the code's tests of columns: what each says together.
 -- Assumes nothing.
-use Prim.Native.Nat.{ℕ, ◌+◌, ◌≤◌}
-use mathlib.Core.Path.{◌≡◌, refl, sym}
-use mathlib.Core.Bool.{Bool, true, false, ◌&&◌}
+use Prim.Native.Nat.{ℕ, ◌+◌, ◌-◌, ◌<◌, ◌≤◌}
+use mathlib.Core.Path.{◌≡◌, refl, ◌∙◌}
+use mathlib.Core.Bool.{Bool, true, false, ◌||◌, ◌&&◌}
 use mathlib.Core.List.{List}
-use lib.Dec.{eqb}
+use native.Mathlib.Omega.{arith}
+use native.Mathlib.Decide.{dec_lt}
+use lib.Dec.{eqb, ltb}
+use mir.Val.{bool_byte}
 use borrow.Author.Tests.{lt-ltb, le-ltb}
-use Rattle.laws.specs.Inner.Below.{all_more, all_of}
+use Rattle.laws.specs.Below.{all_below, one}
+use Rattle.laws.specs.Inner.Below.{all_at, all_of}
+use Rattle.laws.specs.Inner.Every.{all_two, same_truth}
 use Rattle.laws.specs.Columns.{number_at}
 use Rattle.state_tables.specs.Sound.{blank_from}
 
-pub blank_none : (c : List ℕ) (n : ℕ) → blank_from c n n ≡ true
+-- the places from n on are those that are passed
+pub blank_is : (c : List ℕ) (n end : ℕ) → n ≤ end → all_below (λ k. eqb (number_at c (n + k)) 0) (end - n) ≡ blank_from c n end
 unfolding blank_from
-blank_none c n = all_of _ n (λ i q. rw (lt-ltb i n q))
+blank_is c n end b =
+    same_truth (all_below (λ k. eqb (number_at c (n + k)) 0) (end - n)) (all_below (λ i. ltb i n || eqb (number_at c i) 0) end)
+    (λ h. all_of _ end (λ i l. one_way h i l (dec_lt i n)))
+    (λ h. all_of _ (end - n) (λ k l. rw (le-ltb (n + k) n (omega arith)) at (all_at (λ i. ltb i n || eqb (number_at c i) 0) end h (n + k) (omega arith))))
+  where
+    one_way : all_below (λ k. eqb (number_at c (n + k)) 0) (end - n) ≡ true → (i : ℕ) → i < end → Dec (i < n) → (ltb i n || eqb (number_at c i) 0) ≡ true
+    one_way h i l (yes z) = rw (lt-ltb i n z)
+    one_way h i l (no z) =
+        let e : n + (i - n) ≡ i = omega arith in
+        rw (le-ltb i n (omega arith)) (rw e at (all_at (λ k. eqb (number_at c (n + k)) 0) (end - n) h (i - n) (omega arith)))
 
-pub blank_more : (c : List ℕ) (n i : ℕ) → n ≤ i → blank_from c n (i + 1) ≡ (blank_from c n i && eqb (number_at c i) 0)
-unfolding blank_from
-blank_more c n i h = rw (all_more, le-ltb i n h)
+pub both_blank_is : (c d : List ℕ) (n end : ℕ) → n ≤ end → all_below (λ k. eqb (number_at c (n + k)) 0 && eqb (number_at d (n + k)) 0) (end - n) ≡ (blank_from c n end && blank_from d n end)
+both_blank_is c d n end b =
+    all_two (λ k. eqb (number_at c (n + k)) 0) (λ k. eqb (number_at d (n + k)) 0) (end - n)
+    ∙ rw (blank_is c n end b, blank_is d n end b)
 
--- both of two columns so far, and both of their next places
-two_more : (u v x y : Bool) → ((u && v) && (x && y)) ≡ ((u && x) && (v && y))
-two_more true true x y = refl
-two_more true false true y = refl
-two_more true false false y = refl
-two_more false v x y = refl
-
-unfoldable pub both_blank : List ℕ → List ℕ → ℕ → ℕ → Bool
-both_blank c d n i = blank_from c n i && blank_from d n i
-
-pub both_blank_none : (c d : List ℕ) (n : ℕ) → both_blank c d n n ≡ true
-unfolding both_blank
-both_blank_none c d n = rw (blank_none c n, blank_none d n)
-
-pub both_blank_more : (c d : List ℕ) (n i : ℕ) → n ≤ i → both_blank c d n (i + 1) ≡ (both_blank c d n i && (eqb (number_at c i) 0 && eqb (number_at d i) 0))
-unfolding both_blank
-both_blank_more c d n i h = rw (blank_more c n i h, blank_more d n i h) (sym (two_more (blank_from c n i) (blank_from d n i) (eqb (number_at c i) 0) (eqb (number_at d i) 0)))
+-- a flag as the library makes a number of it
+pub one_byte : (t : Bool) → bool_byte t ≡ one t
+one_byte true = refl
+one_byte false = refl

@@ -2,13 +2,18 @@
 // columns by group of columns.
 #![tactic(auto)]
 
-ghost use Rattle.std.specs.Prelude.{◌≡◌, true, cond, ◌&&◌, ◌<◌, ◌≤◌, length, ltb};
+ghost use Rattle.std.specs.Prelude.{◌≡◌, ℕ, true, cond, ◌&&◌, ◌<◌, ◌≤◌, length, ltb};
 ghost use Rattle.laws.specs.Below.{one, all_below};
-ghost use Rattle.state_tables.specs.Inner.Limits.{places, limit, limits_to, flags_of, Flags};
+ghost use Rattle.state_tables.specs.Inner.Every.{Every};
+ghost use Rattle.state_tables.specs.Inner.Limits.{limit, limits_to, flags_of, Flags};
 ghost use Rattle.state_tables.specs.Inner.Differ.{pad_with, lacks_from};
 ghost use Rattle.state_tables.specs.Inner.Rows.{row_fails, sound_marks};
 ghost use Rattle.state_tables.specs.Sound.{counts_in, blank_from, sound_column, differs, sound_asps, active_in, mode_at, waiting_at, override_at, sound_ases, ascends, sound_links, sound_kinds, sound_lists, no_units, zeros};
 ghost use Rattle.state_tables.specs.Inner.Sound.{sound_tables_of};
+
+mod place;
+
+use place::Places;
 
 // Index of a pair: as * 16 + asp. Flags are 0 or 1. Traffic modes: 1 override, 2 load-share, 3 broadcast.
 // States of a link: 0 idle, 1 starting, 2 in service, 3 stopping. `iid` is the interface identifier,
@@ -54,34 +59,20 @@ pub struct Units {
 pub fn wide(x: u8) -> usize
     ensures { result ≡ x }
 {
-    x as usize
+    usize::from(x)
 }
 
 pub fn unit(t: bool) -> usize
     ensures { (result ≡ one t) × (result ≤ 1) }
 {
-    if t { 1 } else { 0 }
+    usize::from(t)
 }
 
 // A count, where it is within the table.
 fn within(n: u8, most: usize) -> usize
     ensures { (result ≤ most) × (n ≤ most → result ≡ n) }
 {
-    let x = wide(n);
-    if x < most { x } else { most }
-}
-
-// A flag as a number.
-fn flag(t: bool) -> u8
-    ensures { result ≡ one t }
-{
-    if t { 1 } else { 0 }
-}
-
-fn word(x: u8) -> u32
-    ensures { (result ≡ x) × (result ≤ 255) }
-{
-    x as u32
+    usize::from(n).min(most)
 }
 
 // The limit of a place: what it holds is below it. Beyond the count only 0 is.
@@ -91,16 +82,23 @@ fn limit(inside: bool, most: u8) -> u8
     if inside { most } else { 1 }
 }
 
-// Each place holds its index, so that 16 places are compared with a count at once. (More places than are
-// read: of a shorter column the compiler makes slower code.)
-fn places() -> [u8; 128]
-    ensures { result ≡ places }
-{
-    let mut r = [0u8; 128];
-    for i in 0..128usize {
-        r[i] = i as u8;
+fn places() -> Places {
+    Places {
+        index: std::array::from_fn(|i| i as u8),
     }
-    r
+}
+
+// Every number below n passes the test. All are asked, so that the loop has no branch: it becomes operations
+// on 16 bytes.
+pub fn every<F: Fn(usize) -> bool>(n: usize, test: F) -> bool
+    requires { (i : ℕ) → i < n → F.pre test i }
+    ensures { Every (F.post test) n result }
+{
+    let mut ok = true;
+    for i in 0..n {
+        ok = ok & test(i);
+    }
+    ok
 }
 
 pub fn counts_ok(asps: u8, ases: u8, links: u8) -> bool
@@ -109,28 +107,20 @@ pub fn counts_ok(asps: u8, ases: u8, links: u8) -> bool
     (((1 <= asps) & (asps <= 16)) & ((1 <= ases) & (ases <= 16))) & (links <= 128)
 }
 
-// The places of two columns from n up to an end are zero. Two columns in one loop: the places that are left
-// over by operations on 16 bytes are passed one by one, and so once.
-fn blank<'a>(c: &'a [u8], d: &'a [u8], n: usize, end: usize) -> bool
-    requires { (n ≤ end) × (end ≤ length c.now) × (end ≤ length d.now) }
-    ensures { result ≡ (blank_from c.now n end && blank_from d.now n end) }
-{
-    let mut ok = true;
-    for i in n..end {
-        ok = ok & ((c[i] == 0) & (d[i] == 0));
-    }
-    ok
-}
-
-fn blank_wide(c: &[u32], n: usize, end: usize) -> bool
+// The places of a column from n up to an end are zero; and of two columns, in one loop: the places that are
+// left over by operations on 16 bytes are passed one by one, and so once.
+fn blank(c: &[u32], n: usize, end: usize) -> bool
     requires { (n ≤ end) × (end ≤ length c.now) }
     ensures { result ≡ blank_from c.now n end }
 {
-    let mut ok = true;
-    for i in n..end {
-        ok = ok & (c[i] == 0);
-    }
-    ok
+    every(end - n, |k| c[n + k] == 0)
+}
+
+fn both_blank<'a>(c: &'a [u8], d: &'a [u8], n: usize, end: usize) -> bool
+    requires { (n ≤ end) × (end ≤ length c.now) × (end ≤ length d.now) }
+    ensures { result ≡ (blank_from c.now n end && blank_from d.now n end) }
+{
+    every(end - n, |k| (c[n + k] == 0) & (d[n + k] == 0))
 }
 
 // The identifier at p differs from those before it.
@@ -138,11 +128,7 @@ fn is_new(aspid: &[u32; 16], p: usize) -> bool
     requires { p < 16 }
     ensures { result ≡ differs aspid.now p }
 {
-    let mut ok = true;
-    for q in 0..p {
-        ok = ok & (aspid[q] != aspid[p]);
-    }
-    ok
+    every(p, |q| aspid[q] != aspid[p])
 }
 
 fn few_new(aspid: &[u32; 16], n: usize) -> bool
@@ -173,11 +159,7 @@ fn lacks(c: &[u32; 32], p: usize, x: u32) -> bool
     requires { p ≤ 16 }
     ensures { result ≡ lacks_from c.now p x 16 }
 {
-    let mut ok = true;
-    for q in 0..16usize {
-        ok = ok & (c[p + q] != x);
-    }
-    ok
+    every(16, |q| c[p + q] != x)
 }
 
 // Each identifier but the last differs from those before it and from the last, at 16 places at once.
@@ -206,26 +188,21 @@ pub fn all_new(aspid: &[u32; 16], n: usize) -> bool
 }
 
 // A column's first n places hold numbers below a bound, the others 0: all are below their limits.
-fn under_within<'a>(place: &'a [u8; 128], c: &'a [u8], most: u8, n: u8, end: usize) -> bool
-    requires { (place.now ≡ places) × (end ≤ 128) × (end ≤ length c.now) }
+fn under_within<'a>(place: &'a Places, c: &'a [u8], most: u8, n: u8, end: usize) -> bool
+    requires { (end ≤ 128) × (end ≤ length c.now) }
     ensures { result ≡ sound_column c.now most n end }
 {
-    let mut ok = true;
-    for i in 0..end {
-        ok = ok & (c[i] < limit(place[i] < n, most));
-    }
-    ok
+    every(end, |i| c[i] < limit(place.index[i] < n, most))
 }
 
 // The groups of columns. Each answers for counts that are within the tables, and reads no place beyond them
 // for any other.
-fn asps_ok<'a>(place: &'a [u8; 128], asps: u8, aspid: &'a [u32; 16], up: &'a [u8; 16]) -> bool
-    requires { place.now ≡ places }
+fn asps_ok<'a>(place: &'a Places, asps: u8, aspid: &'a [u32; 16], up: &'a [u8; 16]) -> bool
     ensures { asps ≤ 16 → result ≡ sound_asps aspid.now up.now asps }
 {
     let n = within(asps, 16);
     let differ = all_new(aspid, n);
-    let beyond = blank_wide(aspid, n, 16);
+    let beyond = blank(aspid, n, 16);
     let flags = under_within(place, up, 2, asps, 16);
     (differ & beyond) & flags
 }
@@ -237,25 +214,18 @@ pub fn count_active(active: &[u8; 256], a: usize) -> usize
 {
     let mut n: usize = 0;
     for q in 0..16usize {
-        n = n + unit(active[a * 16 + q] == 1);
+        n = n + usize::from(active[a * 16 + q] == 1);
     }
     n
 }
 
-fn least(x: u8, y: u8) -> u8
-    ensures { result ≡ cond (ltb x y) x y }
-{
-    if x < y { x } else { y }
-}
-
 // The limits of the first 16 places of a column.
-fn limits(place: &[u8; 128], n: u8, most: u8) -> [u8; 16]
-    requires { place.now ≡ places }
+fn limits(place: &Places, n: u8, most: u8) -> [u8; 16]
     ensures { result ≡ limits_to n most }
 {
     let mut r = [0u8; 16];
     for q in 0..16usize {
-        r[q] = limit(place[q] < n, most);
+        r[q] = limit(place.index[q] < n, most);
     }
     r
 }
@@ -266,7 +236,7 @@ fn flags(c: &[u8; 16]) -> [u8; 16]
 {
     let mut r = [0u8; 16];
     for q in 0..16usize {
-        r[q] = flag(c[q] == 1);
+        r[q] = u8::from(c[q] == 1);
     }
     r
 }
@@ -289,8 +259,8 @@ fn row_count<'a>(
     for q in 0..16usize {
         let m = member[a * 16 + q];
         let x = active[a * 16 + q];
-        bad = bad | ((top[q] <= m) | (least(m, up[q]) < x));
-        n = n + word(x);
+        bad = bad | ((top[q] <= m) | (m.min(up[q]) < x));
+        n = n + u32::from(x);
     }
     if bad {
         return 17;
@@ -318,30 +288,27 @@ fn override_ok(mode: u8, n: u8) -> bool
 
 // Mode and recovery time of every place, by the number of active members.
 fn marks_ok<'a>(
-    place: &'a [u8; 128],
+    place: &'a Places,
     count: &'a [u8; 16],
     mode: &'a [u8; 16],
     waiting: &'a [u8; 16],
     ases: u8,
 ) -> bool
-    requires { place.now ≡ places }
     ensures { result ≡ sound_marks count.now mode.now waiting.now ases 16 }
 {
-    let mut ok = true;
-    for a in 0..16usize {
-        let inside = place[a] < ases;
+    every(16, |a| {
+        let inside = place.index[a] < ases;
         let traffic = mode_ok(mode[a], inside);
         let wait = waiting_ok(waiting[a], count[a], inside);
         let alone = override_ok(mode[a], count[a]);
-        ok = ok & ((traffic & wait) & alone);
-    }
-    ok
+        (traffic & wait) & alone
+    })
 }
 
 // The rows of the plan's ASes, and zeros beyond them. A row that fails ends the loop: without that exit the
 // compiler makes slower code.
 fn ases_ok<'a>(
-    place: &'a [u8; 128],
+    place: &'a Places,
     asps: u8,
     ases: u8,
     up: &'a [u8; 16],
@@ -350,7 +317,6 @@ fn ases_ok<'a>(
     mode: &'a [u8; 16],
     waiting: &'a [u8; 16],
 ) -> bool
-    requires { place.now ≡ places }
     ensures { ases ≤ 16 → result ≡ sound_ases up.now member.now active.now mode.now waiting.now asps ases }
 {
     let m = within(ases, 16);
@@ -364,7 +330,7 @@ fn ases_ok<'a>(
         }
         count[a] = c as u8;
     }
-    let beyond = blank(member, active, m * 16, 256);
+    let beyond = both_blank(member, active, m * 16, 256);
     let marks = marks_ok(place, &count, mode, waiting, ases);
     beyond & marks
 }
@@ -373,29 +339,22 @@ pub fn ascending(iid: &[u32; 128], n: usize) -> bool
     requires { n ≤ 128 }
     ensures { result ≡ ascends iid.now n }
 {
-    let mut ok = true;
-    let mut l: usize = 0;
-    while l + 1 < n {
-        ok = ok & (iid[l] < iid[l + 1]);
-        l += 1;
-    }
-    ok
+    every(n.saturating_sub(1), |l| iid[l] < iid[l + 1])
 }
 
 fn links_ok<'a>(
-    place: &'a [u8; 128],
+    place: &'a Places,
     ases: u8,
     links: u8,
     iid: &'a [u32; 128],
     owner: &'a [u8; 128],
     state: &'a [u8; 128],
 ) -> bool
-    requires { place.now ≡ places }
     ensures { links ≤ 128 → result ≡ sound_links iid.now owner.now state.now ases links }
 {
     let n = within(links, 128);
     let order = ascending(iid, n);
-    let beyond = blank_wide(iid, n, 128);
+    let beyond = blank(iid, n, 128);
     let owned = under_within(place, owner, ases, links, 128);
     let known = under_within(place, state, 4, links, 128);
     (order & beyond) & (owned & known)
@@ -403,13 +362,12 @@ fn links_ok<'a>(
 
 // The columns that are asked by themselves: a further one is one more call.
 fn columns_ok<'a>(
-    place: &'a [u8; 128],
+    place: &'a Places,
     asps: u8,
     links: u8,
     highspeed: &'a [u8; 128],
     wholelists: &'a [u8; 16],
 ) -> bool
-    requires { place.now ≡ places }
     ensures { result ≡ (sound_kinds highspeed.now links && sound_lists wholelists.now asps) }
 {
     let kinds = under_within(place, highspeed, 2, links, 128);
@@ -418,6 +376,7 @@ fn columns_ok<'a>(
 }
 
 // The tables of lent columns, for callers that hold the state and would copy it by a call.
+// Kept: the C interface (include/m2ua.h) has these columns.
 pub fn tables_ok<'a>(
     asps: u8,
     ases: u8,

@@ -10,12 +10,12 @@ returns-then-not-sound c = unsound_state _ _ (sym c.sound_of-sound.ensures ∙ c
 pub as_state-now-requires : goal.as_state-now-requires
 as_state-now-requires c =
     let q = (counts_within _ (sym c.sound_of-sound.ensures ∙ c.if-not-sound.false)).ases in
-    omega (arith, c.if-a-wide.true, c.wide.ensures, q)
+    omega (arith, c.if-a-n.true, c.from-n.ensures, q)
 
-pub returns-then-a-wide : goal.returns-then-a-wide
-returns-then-a-wide c =
-    state_there _ _ _ (sym c.sound_of-sound.ensures ∙ c.if-not-sound.false) (rw c.wide.ensures at c.if-a-wide.true) c.as_state-now.ensures
+pub returns-then-a-n : goal.returns-then-a-n
+returns-then-a-n c =
+    state_there _ _ _ (sym c.sound_of-sound.ensures ∙ c.if-not-sound.false) (rw c.from-n.ensures at c.if-a-n.true) c.as_state-now.ensures
 
 pub returns : goal.returns
 returns c =
-    state_beyond _ _ (sym c.sound_of-sound.ensures ∙ c.if-not-sound.false) (rw c.wide.ensures at c.if-a-wide.false)
+    state_beyond _ _ (sym c.sound_of-sound.ensures ∙ c.if-not-sound.false) (rw c.from-n.ensures at c.if-a-n.false)

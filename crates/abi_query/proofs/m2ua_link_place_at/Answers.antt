@@ -9,12 +9,12 @@ returns-then-not-sound c = unsound_link _ _ (sym c.sound_of-sound.ensures ∙ c.
 pub index_of-l-requires : goal.index_of-l-requires
 index_of-l-requires c =
     let t = table _ (sym c.sound_of-sound.ensures ∙ c.if-not-sound.false) in
-    (rw c.wide-n.ensures t.few, rw c.wide-n.ensures t.order)
+    (rw c.from-n.ensures t.few, rw c.from-n.ensures t.order)
 
 pub returns-then-l-n : goal.returns-then-l-n
 returns-then-l-n c =
-    link_there _ _ _ (sym c.sound_of-sound.ensures ∙ c.if-not-sound.false) (rw c.wide-n.ensures at c.index_of-l.ensures) (rw c.wide-n.ensures at c.if-l-n.true)
+    link_there _ _ _ (sym c.sound_of-sound.ensures ∙ c.if-not-sound.false) (rw c.from-n.ensures at c.index_of-l.ensures) (rw c.from-n.ensures at c.if-l-n.true)
 
 pub returns : goal.returns
 returns c =
-    link_unknown _ _ _ (sym c.sound_of-sound.ensures ∙ c.if-not-sound.false) (rw c.wide-n.ensures at c.index_of-l.ensures) (rw c.wide-n.ensures at c.if-l-n.false)
+    link_unknown _ _ _ (sym c.sound_of-sound.ensures ∙ c.if-not-sound.false) (rw c.from-n.ensures at c.index_of-l.ensures) (rw c.from-n.ensures at c.if-l-n.false)

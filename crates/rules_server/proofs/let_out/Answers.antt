@@ -7,7 +7,7 @@ use Rattle.rules_server.proofs.let_out.Goals as goal
 pub units_out-requires : goal.units_out-requires
 units_out-requires c =
     let p = c.requires in
-    (ltb-true _ 16 (rw c.in-Activate.is at p.2), p.0, p.1)
+    (ltb-true _ 16 (rw c.in-Activate.is at c.args.k.sane), p.0, p.1)
 
 pub returns-in-Activate : goal.returns-in-Activate
 unfolding let_out

@@ -5,7 +5,7 @@ use Rattle.rules_server.proofs.overtaken_in.Goals as goal
 
 -- `rules_server::overtaken_in`: by the change. Assumes nothing.
 pub returns-in-Activate : goal.returns-in-Activate
-returns-in-Activate c = let k = c.in-Activate.is in rw k (overtaken_one _ (rw k at c.requires) _ _ c.overtake.ensures)
+returns-in-Activate c = let k = c.in-Activate.is in rw k (overtaken_one _ (rw k at c.args.k.flagged) _ _ c.overtake.ensures)
 
 pub returns-in-AspUp : goal.returns-in-AspUp
 unfolding nobody tabulate

@@ -13,7 +13,7 @@ put_if-at-requires c = let h = c.loop-k.invariant.0 in omega (arith, written_len
 
 pub loop-k-preserved : goal.loop-k-preserved
 unfolding unit_out
-loop-k-preserved c = (emit_more c.loop-k.invariant.0 (rw c.wide-held.ensures at c.put_if-at.ensures), search rules)
+loop-k-preserved c = (emit_more c.loop-k.invariant.0 (rw c.from-held.ensures at c.put_if-at.ensures), search rules)
 
 pub shape_of-words : goal.shape_of-words
 shape_of-words c = written_length c.loop-k.invariant.0.wrote

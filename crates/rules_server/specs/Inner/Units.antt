@@ -3,10 +3,9 @@
 use Rattle.std.specs.Prelude.{ℕ, ◌≤◌, List, ltb, length}
 use Rattle.std.proofs.Common.{arith}
 use Rattle.laws.specs.Inner.Below.{concat_short, when_short}
-use Rattle.state_tables.specs.Sound.{unit_index}
 use Rattle.rules_server.specs.declared.Change.{Change}
 use Rattle.rules_server.specs.declared.Change.TheVariants.{AspUp, AspDown, Deactivate, Activate, Recover}
-use Rattle.rules_server.specs.Units.{sending, unit_out, units_out, let_out}
+use Rattle.rules_server.specs.Units.{unit_out, units_out, let_out}
 
 pub unit_out_short : (p n : ℕ) (id : List ℕ) (a k : ℕ) → length (unit_out p n id a k) ≤ 1
 unfolding unit_out

@@ -1,7 +1,8 @@
+use mathlib.Core.Path.{◌∙◌}
 use native.Mathlib.Omega.{arith}
 use Rattle.state_plan.specs.Plan.{fresh}
 use Rattle.state_plan.specs.Inner.Layout.{state_at, of_rows}
-use Rattle.state_plan.specs.Inner.Tables.{filled, half_as}
+use Rattle.state_plan.specs.Inner.Tables.{column_as}
 use Rattle.state_plan.proofs.build.Goals as goal
 
 -- `state_plan::build`: the columns as they are, zeros elsewhere. Assumes nothing.
@@ -14,32 +15,32 @@ masks_of-mask-requires c = let p = c.requires.0 in (p.asps, λ i b. omega (arith
 pub overflow_add-t-2 : goal.overflow_add-t-2
 overflow_add-t-2 c = omega (arith, c.requires.0.second)
 
-pub fill_bytes-requires : goal.fill_bytes-requires
-fill_bytes-requires c = let p = c.requires.0 in (p.ases, λ i b. omega (arith, p.in_ases))
+pub bytes-modes-requires : goal.bytes-modes-requires
+bytes-modes-requires c = let p = c.requires.0 in (omega arith, (p.ases, λ i b. omega (arith, p.in_ases)))
 
 pub overflow_add-t-3 : goal.overflow_add-t-3
 overflow_add-t-3 c = omega (arith, c.requires.0.first)
 
-pub fill_bytes-requires-2 : goal.fill_bytes-requires-2
-fill_bytes-requires-2 c = let p = c.requires.0 in (p.asps, λ i b. omega (arith, p.in_asps))
+pub bytes-lists-requires : goal.bytes-lists-requires
+bytes-lists-requires c = let p = c.requires.0 in (omega arith, (p.asps, λ i b. omega (arith, p.in_asps)))
 
 pub overflow_add-t-4 : goal.overflow_add-t-4
 overflow_add-t-4 c = omega (arith, c.requires.0.third)
 
-pub fill_bytes-requires-3 : goal.fill_bytes-requires-3
-fill_bytes-requires-3 c = let p = c.requires.0 in (p.links, λ i b. omega (arith, p.in_links))
+pub bytes-owners-requires : goal.bytes-owners-requires
+bytes-owners-requires c = let p = c.requires.0 in (omega arith, (p.links, λ i b. omega (arith, p.in_links)))
 
 pub overflow_add-t-5 : goal.overflow_add-t-5
 overflow_add-t-5 c = omega (arith, c.requires.0.third)
 
-pub fill_bytes-requires-4 : goal.fill_bytes-requires-4
-fill_bytes-requires-4 c = let p = c.requires.0 in (p.links, λ i b. omega (arith, p.in_links))
+pub bytes-kinds-requires : goal.bytes-kinds-requires
+bytes-kinds-requires c = let p = c.requires.0 in (omega arith, (p.links, λ i b. omega (arith, p.in_links)))
 
-pub words_16-aspid-requires : goal.words_16-aspid-requires
-words_16-aspid-requires c = let p = c.requires.0 in (p.asps, λ i b. omega (arith, p.in_asps))
+pub words-aspid-requires : goal.words-aspid-requires
+words-aspid-requires c = let p = c.requires.0 in (omega arith, (p.asps, λ i b. omega (arith, p.in_asps)))
 
-pub words_128-iid-requires : goal.words_128-iid-requires
-words_128-iid-requires c = let p = c.requires.0 in (p.links, λ i b. omega (arith, p.in_links))
+pub words-iid-requires : goal.words-iid-requires
+words-iid-requires c = let p = c.requires.0 in (omega arith, (p.links, λ i b. omega (arith, p.in_links)))
 
 pub overflow_cast-result : goal.overflow_cast-result
 overflow_cast-result c = omega (arith, c.requires.0.asps)
@@ -55,9 +56,9 @@ unfolding state_at fresh
 returns c =
     let b = c.requires.1 in
     rw (c.none.ensures, c.members_of-member.ensures)
-    (of_rows _ _ _ _ c.words_16-aspid.ensures c.masks_of-mask.ensures
-    (filled 16 _ _ _ (half_as b.lists c.fill_bytes-2.ensures))
-    (filled 16 _ _ _ (half_as b.modes c.fill_bytes.ensures))
-    c.words_128-iid.ensures
-    (filled 128 _ _ _ (half_as b.owners c.fill_bytes-3.ensures))
-    (filled 128 _ _ _ (half_as b.kinds c.fill_bytes-4.ensures)))
+    (of_rows _ _ _ _ c.words-aspid.ensures c.masks_of-mask.ensures
+    (c.bytes-lists.ensures ∙ column_as 16 _ b.lists)
+    (c.bytes-modes.ensures ∙ column_as 16 _ b.modes)
+    c.words-iid.ensures
+    (c.bytes-owners.ensures ∙ column_as 128 _ b.owners)
+    (c.bytes-kinds.ensures ∙ column_as 128 _ b.kinds))

@@ -31,13 +31,13 @@ pub get32-x-requires : goal.get32-x-requires
 get32-x-requires c = omega (arith, c.loop-l.invariant.5, c.loop-l-test.true)
 
 pub overflow_add-least : goal.overflow_add-least
-overflow_add-least c = omega (arith, c.long-id.ensures.1)
+overflow_add-least c = omega (arith, c.from-id.ensures, c.get32.type_inv)
 
 pub loop-l-preserved : goal.loop-l-preserved
 loop-l-preserved c =
     let at = c.loop-l in
     let i = at.invariant in
-    (rw all_more (rw (i.0, i.1, c.get32-x.ensures, c.long-id.ensures.0, c.get32.ensures)), rw (floor_more, c.long-id.ensures.0, c.get32.ensures), rw all_more (kinds_both at.bits c.get32-x.result ∙ rw (i.2, c.get32-x.ensures)), search rules, i.4, i.5)
+    (rw all_more (rw (i.0, i.1, c.get32-x.ensures, c.from-id.ensures, c.get32.ensures)), rw (floor_more, c.from-id.ensures, c.get32.ensures), rw all_more (kinds_both at.bits c.get32-x.result ∙ rw (i.2, c.get32-x.ensures)), search rules, i.4, i.5)
 
 pub returns : goal.returns
 returns c = let i = c.loop-l.invariant in and_same (at_end (all_below _) i.0 c.loop-l-test.false i.3) (at_end (all_below _) i.2 c.loop-l-test.false i.3)

@@ -13,7 +13,7 @@ pub loop-q-init : goal.loop-q-init
 loop-q-init c = (half_at (row_start _) c.loop-a.invariant.0, search rules, search rules)
 
 pub loop-q-preserved : goal.loop-q-preserved
-loop-q-preserved c = let b = c.loop-q-test.true in (half_at (row_next _ _) (half_more _ c.loop-q.invariant.0 (row_in_lem _ _ c.loop-q.invariant.2 b) (c.bit_of.ensures ∙ bit_at_lem c.args.mask.now c.loop-a.a c.loop-q.q b)), search rules, search rules)
+loop-q-preserved c = let b = c.loop-q-test.true in (rw c.from.ensures (half_at (row_next _ _) (half_more _ c.loop-q.invariant.0 (row_in_lem _ _ c.loop-q.invariant.2 b) (c.bit_of.ensures ∙ bit_at_lem c.args.mask.now c.loop-a.a c.loop-q.q b))), search rules, search rules)
 
 pub loop-a-preserved : goal.loop-a-preserved
 loop-a-preserved c = (half_at (row_end _ _ c.loop-q-test.false c.loop-q.invariant.1) c.loop-q.invariant.0, search rules)

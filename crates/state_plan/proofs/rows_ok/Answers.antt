@@ -16,8 +16,8 @@ overflow_add-t c = omega (arith, c.requires.first)
 pub masks_ok-masked-requires : goal.masks_ok-masked-requires
 masks_ok-masked-requires c = let p = c.requires in (λ i b. omega (arith, p.in_asps), p.ases)
 
-pub words_16-aspid-requires : goal.words_16-aspid-requires
-words_16-aspid-requires c = let p = c.requires in (p.asps, λ i b. omega (arith, p.in_asps))
+pub words-aspid-requires : goal.words-aspid-requires
+words-aspid-requires c = let p = c.requires in (omega arith, (p.asps, λ i b. omega (arith, p.in_asps)))
 
 pub links_ok-linked-requires : goal.links_ok-linked-requires
 links_ok-linked-requires c = let p = c.requires in (p.links, p.in_links)
@@ -31,4 +31,4 @@ returns c =
     let x = c.modes_ok-traffic.ensures ∙ modes_read t.ases (word_of s t.y 4) i.ases in
     let y = c.masks_ok-masked.ensures ∙ masks_read t.asps t.ases (word_of s (t.x + 4) 8) i.asps in
     let z = c.links_ok-linked.ensures ∙ links_read t.links t.ases (word_of s t.z 8) (word_of s (t.z + 4) 8) i.links in
-    rw (x, y, z, c.all_new-differ.ensures, c.words_16-aspid.ensures)
+    rw (x, y, z, c.all_new-differ.ensures, c.words-aspid.ensures)

@@ -1,7 +1,8 @@
 -- Where the bodies of a file start and how many rows they have: what the code carries along. The answer to a
 -- file from there: a number, and the state of the rows that are taken over.
 -- Assumes nothing.
-use Rattle.std.specs.Prelude.{ℕ, ◌+◌, ◌*◌, ◌≤◌, ◌%◌, ◌/◌, ◌≡◌, refl, Bool, true, false, cond, List, eqb, length, replicate}
+use Rattle.std.specs.Prelude.{ℕ, ◌+◌, ◌*◌, ◌≤◌, ◌%◌, ◌/◌, ◌≡◌, refl, Bool, true, false, cond, List, length, replicate, Result, Ok, Err}
+use Rattle.std.specs.Result.{result_unwrap_or}
 use Rattle.std.proofs.Common.{ap, sym, ◌∙◌, arith}
 use Rattle.std.proofs.lemmas.Nat.{shr_le}
 use Rattle.std.proofs.lemmas.List.{length-replicate, get_or-replicate}
@@ -12,6 +13,8 @@ use Rattle.state_tables.specs.Sound.{zeros}
 use Rattle.state_tables.specs.declared.Gateway.{Gateway}
 use Rattle.state_plan.specs.declared.Loaded.{Loaded}
 use Rattle.state_plan.specs.declared.Places.{Places}
+use Rattle.state_plan.specs.declared.PlanRefusal.{PlanRefusal}
+use Rattle.state_plan.specs.declared.PlanRefusal.TheVariants.{Layout, Row}
 use Rattle.state_plan.specs.Plan.{offset, count, layout_ok, column, asp_words, as_words, link_words, high, low, bit, members, link_kinds, list_rules, Tables, rows_ok, fresh, refused, accepted, built, load_of, asp_ids, masks, lists, modes, link_ids, owners, kinds}
 use Rattle.state_plan.specs.Inner.Laws.{layout, rows}
 use Rattle.state_plan.specs.Inner.Tables.{word_of, byte_of, Same, Bytes, column_zero, word_byte, low_byte, high_byte, same_bytes, mode_bytes, under_bytes}
@@ -78,17 +81,34 @@ pub record AllBytes (s : List ℕ) (t : Places) : Type 0 where
   pub owners : Same (byte_of s (t.z + 7) 8) (λ l. low (word_of s (t.z + 4) 8 l)) t.links
   pub kinds : Same (byte_of s (t.z + 5) 8) (λ l. high (word_of s (t.z + 4) 8 l)) t.links
 
--- the number of a file, the rows that are taken over, and the answer of both
-unfoldable pub code_of : List ℕ → ℕ
-code_of s = cond (layout_ok s) (cond (rows_at s (places_of s)) 0 202) 201
+-- the rows of a file, or why it is refused
+unfoldable pub rows_in : List ℕ → Result Places PlanRefusal
+rows_in s = cond (layout_ok s) (cond (rows_at s (places_of s)) (Ok (places_of s)) (Err Row)) (Err Layout)
 
-unfoldable pub taken_of : List ℕ → ℕ → Places
-taken_of s code = cond (eqb code 0) (places_of s) nowhere
+-- the number of an answer
+abbrev pub number : PlanRefusal → ℕ
+number Layout = 201
+number Row = 202
+
+abbrev pub code_of : Result Places PlanRefusal → ℕ
+code_of (Ok t) = 0
+code_of (Err r) = number r
+
+-- the rows that are taken over: none of a refused file
+abbrev pub taken : Result Places PlanRefusal → Places
+taken (Ok t) = t
+taken (Err r) = nowhere
 
 abbrev pub made : ℕ → Gateway → Loaded
 made code g = record { code = code; gateway = g }
 
 -- ---- laws
+
+-- as the library takes them over
+pub taken_over : (r : Result Places PlanRefusal) → result_unwrap_or r (record { asps = 0; ases = 0; links = 0; x = 0; y = 0; z = 0 }) ≡ taken r
+unfolding nowhere
+taken_over (Ok t) = refl
+taken_over (Err r) = refl
 
 pub inside : (s : List ℕ) → layout_ok s ≡ true → Inside (places_of s) (length s)
 unfolding places_of
@@ -140,25 +160,17 @@ bytes_of_lem s t z i h =
     }
 
 -- what is taken over lies within the file, and is bytes
-pub whole : (s : List ℕ) → Bytes s → Inside (taken_of s (code_of s)) (length s) × AllBytes s (taken_of s (code_of s))
-unfolding taken_of code_of
+pub whole : (s : List ℕ) → Bytes s → Inside (taken (rows_in s)) (length s) × AllBytes s (taken (rows_in s))
+unfolding rows_in
 whole s z = outer (layout_ok s) refl
   where
-    inner : layout_ok s ≡ true → (v : Bool) → rows_at s (places_of s) ≡ v → Inside (taken_of s (cond v 0 202)) (length s) × AllBytes s (taken_of s (cond v 0 202))
+    inner : layout_ok s ≡ true → (v : Bool) → rows_at s (places_of s) ≡ v → Inside (taken (cond v (Ok (places_of s)) (Err Row))) (length s) × AllBytes s (taken (cond v (Ok (places_of s)) (Err Row)))
     inner h true e = (inside s h, bytes_of_lem s (places_of s) z (inside s h) e)
     inner h false e = (inside_nowhere (length s), bytes_nowhere s)
 
-    outer : (u : Bool) → layout_ok s ≡ u → Inside (taken_of s (cond u (cond (rows_at s (places_of s)) 0 202) 201)) (length s) × AllBytes s (taken_of s (cond u (cond (rows_at s (places_of s)) 0 202) 201))
+    outer : (u : Bool) → layout_ok s ≡ u → Inside (taken (cond u (cond (rows_at s (places_of s)) (Ok (places_of s)) (Err Row)) (Err Layout))) (length s) × AllBytes s (taken (cond u (cond (rows_at s (places_of s)) (Ok (places_of s)) (Err Row)) (Err Layout)))
     outer true h = inner h (rows_at s (places_of s)) refl
     outer false h = (inside_nowhere (length s), bytes_nowhere s)
-
-pub laid_out : (s : List ℕ) → code_of s ≡ 0 → layout_ok s ≡ true
-unfolding code_of
-laid_out s e = go (layout_ok s) e
-  where
-    go : (u : Bool) → ◌≡◌ {A = ℕ} (cond u (cond (rows_at s (places_of s)) 0 202) 201) 0 → u ≡ true
-    go true e = refl
-    go false e = absurd (omega arith)
 
 -- no row gives the state of zeros
 zero_bit : (a : ℕ) → bit 0 a ≡ 0
@@ -183,11 +195,14 @@ pub of_rows : (code asps ases links : ℕ) {aspid mask list mode iid owner kind 
 of_rows code asps ases links p q r s t u v = rw (p, q, r, s, t, u, v)
 
 -- the answer is that of the rules
-pub answer : (s : List ℕ) → made (code_of s) (state_at s (taken_of s (code_of s))) ≡ load_of s
-unfolding load_of built code_of taken_of state_at rows_at places_of asp_ids masks lists modes link_ids owners kinds
+pub answer : (s : List ℕ) → made (code_of (rows_in s)) (state_at s (taken (rows_in s))) ≡ load_of s
+unfolding load_of built rows_in state_at rows_at places_of asp_ids masks lists modes link_ids owners kinds
 answer s = go (layout_ok s) (rows_at s (places_of s))
   where
-    go : (u v : Bool) → made (cond u (cond v 0 202) 201) (state_at s (taken_of s (cond u (cond v 0 202) 201))) ≡ cond u (cond v (accepted (state_at s (places_of s))) (refused 202)) (refused 201)
+    picked : Bool → Bool → Result Places PlanRefusal
+    picked u v = cond u (cond v (Ok (places_of s)) (Err Row)) (Err Layout)
+
+    go : (u v : Bool) → made (code_of (picked u v)) (state_at s (taken (picked u v))) ≡ cond u (cond v (accepted (state_at s (places_of s))) (refused 202)) (refused 201)
     go true true = refl
     go true false = ap (made 202) (state_nowhere s)
     go false v = ap (made 201) (state_nowhere s)

@@ -1,8 +1,8 @@
 -- Tables that the code fills from rows, a word of each, and what the code asks of the words.
 -- Assumes nothing.
-use Rattle.std.specs.Prelude.{ℕ, zero, suc, ◌+◌, ◌*◌, ◌-◌, ◌<◌, ◌≤◌, ◌≡◌, refl, Bool, true, false, ◌&&◌, cond, List, eqb, leb, ltb, length, get_or, replicate}
-use Rattle.std.proofs.Common.{sym, ap, ◌∙◌, add-one, arith, ltb-true, leb-true, lt-ltb, le-ltb, le-leb}
-use Rattle.std.proofs.Math.Decide.{dec_lt}
+use Rattle.std.specs.Prelude.{ℕ, zero, suc, ◌+◌, ◌*◌, ◌-◌, ◌<◌, ◌≤◌, ◌≡◌, refl, Bool, true, false, ◌&&◌, cond, List, eqb, leb, ltb, length, get_or, replicate, set}
+use Rattle.std.proofs.Common.{sym, ap, ◌∙◌, add-one, arith, not-suc-le-zero, length-set, get_or-set_same, get_or-set_other, ltb-true, leb-true, lt-ltb, le-ltb, le-leb}
+use Rattle.std.proofs.Math.Decide.{dec_lt, ℕ_discrete}
 use Rattle.std.specs.Int.Bits.{bit_or, or_add_and}
 use Rattle.std.proofs.lemmas.Nat.{or_lt, and_le_l, and_le_r}
 use Rattle.std.proofs.lemmas.List.{length-replicate, get_or-replicate}
@@ -10,7 +10,7 @@ use Rattle.laws.specs.Below.{all_below}
 use Rattle.laws.specs.Inner.Below.{all_none, all_more}
 use Rattle.laws.specs.Inner.Every.{all_ext, all_two, same_truth, and_both, and_left, and_right}
 use Rattle.laws.specs.Columns.{number_at}
-use Rattle.laws.specs.Inner.Columns.{is_tabulate, HalfCol}
+use Rattle.laws.specs.Inner.Columns.{is_tabulate, tabulate_ext}
 use Rattle.codec_wire.specs.Number.{be}
 use Rattle.state_tables.specs.Sound.{ascends, all_under}
 use Rattle.state_tables.specs.Inner.Column.{under_at}
@@ -41,6 +41,36 @@ Same f g n = (i : ℕ) → i < n → f i ≡ g i
 abbrev pub Bytes : List ℕ → Type 0
 Bytes s = (i : ℕ) → get_or s i 0 < 256
 
+-- what is read of each of n rows, and zeros (z) beyond them; `gives` says what a reading may give
+module _ {A : Type 0} where
+  pub record Read (gives : ℕ → A → Type 0) (z : A) (places n : ℕ) (l : List A) : Type 0 where
+    pub long : length l ≡ places
+    pub new : (i : ℕ) → i < n → gives i (get_or l i z)
+    pub old : (i : ℕ) → n ≤ i → i < places → get_or l i z ≡ z
+
+  pub read_none : (gives : ℕ → A → Type 0) (z : A) (places : ℕ) → Read gives z places 0 (replicate places z)
+  read_none gives z places =
+      record {
+        long = length-replicate places z;
+        new = λ i b. absurd (not-suc-le-zero b);
+        old = λ i b c. get_or-replicate places i z z c;
+      }
+
+  pub read_more : {gives : ℕ → A → Type 0} {z : A} {places n : ℕ} {l : List A} (x : A) → Read gives z places n l → n < places → gives n x → Read gives z places (n + 1) (set l n x)
+  read_more {gives} {z} {places} {n} {l} x r b g =
+      record {
+        long = length-set l n x ∙ r.long;
+        new = λ i q. pick i q (ℕ_discrete i n);
+        old = λ i q c. get_or-set_other l n i x z (λ e. omega arith) ∙ r.old i (omega arith) c;
+      }
+    where
+      pick : (i : ℕ) → i < n + 1 → Dec (i ≡ n) → gives i (get_or (set l n x) i z)
+      pick i q (yes e) = rw (e, get_or-set_same l n x z (omega (arith, r.long))) g
+      pick i q (no e) = rw (get_or-set_other l n i x z e) (r.new i (omega arith))
+
+  pub read_all : {gives : ℕ → A → Type 0} {z : A} {places m n : ℕ} {l : List A} → m ≡ n → Read gives z places m l → Read gives z places n l
+  read_all e r = rw e at r
+
 -- the least that number l may be in an ascending list: one more than the number before it
 unfoldable pub floor_of : (ℕ → ℕ) → ℕ → ℕ
 floor_of f zero = 0
@@ -48,19 +78,23 @@ floor_of f (suc l) = f l + 1
 
 -- ---- laws
 
--- what was filled from the front, over zeros
-pub filled : (places n : ℕ) (f : ℕ → ℕ) (l : List ℕ) → HalfCol f (number_at (replicate places 0)) (length (replicate {A = ℕ} places 0)) n l → l ≡ column places n f
+-- what was read is the column of the numbers that a reading gives
+pub column_read : {gives : ℕ → ℕ → Type 0} {places n : ℕ} {l : List ℕ} (f : ℕ → ℕ) → Read gives 0 places n l → ((i x : ℕ) → i < n → gives i x → x ≡ f i) → l ≡ column places n f
 unfolding column
-filled places n f l h = is_tabulate 0 l places (λ i. cond (ltb i n) (f i) 0) (h.long ∙ length-replicate places 0) (λ i b. pick i b (dec_lt i n))
+column_read {gives} {places} {n} {l} f r e = is_tabulate 0 l places (λ i. cond (ltb i n) (f i) 0) r.long (λ i b. pick i b (dec_lt i n))
   where
     pick : (i : ℕ) → i < places → Dec (i < n) → get_or l i 0 ≡ cond (ltb i n) (f i) 0
-    pick i b (yes z) = h.new i z ∙ rw (lt-ltb i n z)
-    pick i b (no z) =
-        h.old i (omega arith) (rw (length-replicate {A = ℕ} places 0) b) ∙ get_or-replicate places i 0 0 b ∙ rw (le-ltb i n (omega arith))
+    pick i b (yes z) = e i _ z (r.new i z) ∙ rw (lt-ltb i n z)
+    pick i b (no z) = r.old i (omega arith) b ∙ rw (le-ltb i n (omega arith))
 
--- what was filled, said by the same numbers
-pub half_as : {f g h : ℕ → ℕ} {n k : ℕ} {l : List ℕ} → Same f h k → HalfCol f g n k l → HalfCol h g n k l
-half_as e r = record { long = r.long; new = λ i b. r.new i b ∙ e i b; old = r.old }
+-- a column said by the same numbers
+pub column_as : (places n : ℕ) {f g : ℕ → ℕ} → Same f g n → column places n f ≡ column places n g
+unfolding column
+column_as places n {f} {g} e = tabulate_ext 0 places _ _ (λ i b. pick i (dec_lt i n))
+  where
+    pick : (i : ℕ) → Dec (i < n) → cond (ltb i n) (f i) 0 ≡ cond (ltb i n) (g i) 0
+    pick i (yes z) = rw (lt-ltb i n z, e i z)
+    pick i (no z) = rw (le-ltb i n (omega arith))
 
 -- the tests of words are those of the tables
 pub modes_read : (n : ℕ) (f : ℕ → ℕ) → n ≤ 16 → all_below (λ i. leb 1 (f i) && leb (f i) 3) n ≡ modes_ok (column 16 n f) n

@@ -8,13 +8,12 @@ pub overflow_mul-from : goal.overflow_mul-from
 overflow_mul-from c = search rules
 
 pub loop-k-init : goal.loop-k-init
-loop-k-init c = (marked_none _ _ _ _ c.requires.1, search rules, refl, c.requires.0, c.requires.1)
+loop-k-init c = (marked_none _ _ _ _ (search rules), search rules, refl, c.requires)
 
 pub loop-k-preserved : goal.loop-k-preserved
 loop-k-preserved c =
     let i = c.loop-k.invariant in
-    let m = marked_more _ _ _ _ i.0 (search rules) _ c.marked_if.ensures in
-    (m, search rules, refl, i.3, m.long)
+    (marked_more _ _ _ _ i.0 (search rules) _ c.marked_if.ensures, search rules, refl, i.3)
 
 pub returns : goal.returns
 returns c = let e : c.loop-k.k ≡ 8 = omega (arith, c.loop-k-test.false, c.loop-k.invariant.1) in rw e at c.loop-k.invariant.0

@@ -3,14 +3,20 @@
 use Rattle.std.specs.Prelude.{ℕ, ◌+◌, ◌*◌, ◌-◌, ◌/◌, ◌<◌, ◌≡◌, Bool, true, ◌||◌, ◌&&◌, cond, List, eqb, leb, ltb, length}
 use Rattle.laws.specs.Below.{all_below, one}
 use Rattle.laws.specs.Columns.{number_at, is_set}
+use Rattle.state_tables.specs.declared.Units.{Units}
 use Rattle.state_tables.specs.Sound.{is_link_of, is_sound}
 use Rattle.state_tables.specs.State.{gateway_of, units_of}
+use Rattle.state_sound.specs.declared.Held.{Held}
 
 -- the state of the columns that it lends
 abbrev pub is_sound_of : ℕ → ℕ → ℕ → ℕ → List ℕ → List ℕ → List ℕ → List ℕ → List ℕ → List ℕ → List ℕ → List ℕ → List ℕ → List ℕ
     → List ℕ → List ℕ → List ℕ → List ℕ → List ℕ → List ℕ → List ℕ → Bool
 is_sound_of asps ases links spare aspid up member active mode waiting iid owner state highspeed wholelists count tag length marked id correlation =
     is_sound (gateway_of asps ases links spare aspid up member active mode waiting iid owner state highspeed wholelists (units_of count tag length marked id correlation))
+
+-- the units of lent columns
+abbrev pub units_in : Held → Units
+units_in h = units_of h.count.now h.tag.now h.length.now h.marked.now h.id.now h.correlation.now
 
 -- n places of three columns, or of two, are zero
 abbrev pub narrow_at : List ℕ → List ℕ → List ℕ → ℕ → ℕ → Bool
@@ -26,8 +32,8 @@ unfoldable pub wide_blank : List ℕ → List ℕ → ℕ → ℕ → Bool
 wide_blank c d from = all_below (wide_at c d from)
 
 -- n places hold no unit
-unfoldable pub blank_places : List ℕ → List ℕ → List ℕ → List ℕ → List ℕ → ℕ → ℕ → Bool
-blank_places tag length marked id correlation from n = narrow_blank tag length marked from n && wide_blank id correlation from n
+unfoldable pub blank_places : Units → ℕ → ℕ → Bool
+blank_places u from n = narrow_blank u.tag u.length u.marked from n && wide_blank u.id u.correlation from n
 
 -- no AS holds a unit
 unfoldable pub none_counted : List ℕ → Bool
@@ -45,12 +51,12 @@ unfoldable pub data_fit : ℕ → ℕ → ℕ → ℕ → Bool
 data_fit tag length marked correlation =
     ((eqb tag 0x300 || eqb tag 0x301) && (leb 5 length && leb length 277)) && (eqb marked 1 || (eqb marked 0 && eqb correlation 0))
 
-abbrev pub fields_at : List ℕ → List ℕ → List ℕ → List ℕ → ℕ → ℕ → Bool
-fields_at tag length marked correlation from k =
-    data_fit (number_at tag (from + k)) (number_at length (from + k)) (number_at marked (from + k)) (number_at correlation (from + k))
+abbrev pub fields_at : Units → ℕ → ℕ → Bool
+fields_at u from k =
+    data_fit (number_at u.tag (from + k)) (number_at u.length (from + k)) (number_at u.marked (from + k)) (number_at u.correlation (from + k))
 
-unfoldable pub fields_fit : List ℕ → List ℕ → List ℕ → List ℕ → ℕ → ℕ → Bool
-fields_fit tag length marked correlation from = all_below (fields_at tag length marked correlation from)
+unfoldable pub fields_fit : Units → ℕ → ℕ → Bool
+fields_fit u from = all_below (fields_at u from)
 
 -- the links of the first units of AS a
 abbrev pub id_at : List ℕ → List ℕ → List ℕ → ℕ → ℕ → ℕ → Bool
@@ -76,29 +82,29 @@ unfoldable pub seen_fit : List ℕ → ℕ → ℕ → Bool
 seen_fit seen a n = all_below (λ k. eqb (number_at seen (a * 8 + k)) 1) n
 
 -- an AS that holds none has blank places
-unfoldable pub empty_fit : List ℕ → List ℕ → List ℕ → List ℕ → List ℕ → ℕ → ℕ → Bool
-empty_fit tag length marked id correlation n a = cond (eqb n 0) (blank_places tag length marked id correlation (a * 8) 8) true
+unfoldable pub empty_fit : Units → ℕ → ℕ → Bool
+empty_fit u n a = cond (eqb n 0) (blank_places u (a * 8) 8) true
 
-abbrev pub empty_at : List ℕ → List ℕ → List ℕ → List ℕ → List ℕ → List ℕ → ℕ → Bool
-empty_at count tag length marked id correlation a = empty_fit tag length marked id correlation (number_at count a) a
+abbrev pub empty_at : Units → ℕ → Bool
+empty_at u a = empty_fit u (number_at u.count a) a
 
-unfoldable pub empties_fit : List ℕ → List ℕ → List ℕ → List ℕ → List ℕ → List ℕ → Bool
-empties_fit count tag length marked id correlation = all_below (empty_at count tag length marked id correlation) 16
+unfoldable pub empties_fit : Units → Bool
+empties_fit u = all_below (empty_at u) 16
 
 -- one that holds n has n units, and blank places after them
-unfoldable pub row_fit : List ℕ → List ℕ → List ℕ → List ℕ → List ℕ → List ℕ → List ℕ → ℕ → ℕ → ℕ → Bool
-row_fit tag length marked id correlation iid owner links n a =
+unfoldable pub row_fit : Units → List ℕ → List ℕ → ℕ → ℕ → ℕ → Bool
+row_fit u iid owner links n a =
     cond (eqb n 0) true
-    (fields_fit tag length marked correlation (a * 8) n && (ids_fit id iid owner links a n && blank_places tag length marked id correlation (a * 8 + n) (8 - n)))
+    (fields_fit u (a * 8) n && (ids_fit u.id iid owner links a n && blank_places u (a * 8 + n) (8 - n)))
 
 -- the same, of the units marked
-unfoldable pub row_seen : List ℕ → List ℕ → List ℕ → List ℕ → List ℕ → List ℕ → ℕ → ℕ → Bool
-row_seen tag length marked id correlation seen n a =
+unfoldable pub row_seen : Units → List ℕ → ℕ → ℕ → Bool
+row_seen u seen n a =
     cond (eqb n 0) true
-    (fields_fit tag length marked correlation (a * 8) n && (seen_fit seen a n && blank_places tag length marked id correlation (a * 8 + n) (8 - n)))
+    (fields_fit u (a * 8) n && (seen_fit seen a n && blank_places u (a * 8 + n) (8 - n)))
 
-abbrev pub row_at : List ℕ → List ℕ → List ℕ → List ℕ → List ℕ → List ℕ → List ℕ → List ℕ → ℕ → ℕ → Bool
-row_at count tag length marked id correlation iid owner links a = row_fit tag length marked id correlation iid owner links (number_at count a) a
+abbrev pub row_at : Units → List ℕ → List ℕ → ℕ → ℕ → Bool
+row_at u iid owner links a = row_fit u iid owner links (number_at u.count a) a
 
-unfoldable pub rows_fit : List ℕ → List ℕ → List ℕ → List ℕ → List ℕ → List ℕ → List ℕ → List ℕ → ℕ → Bool
-rows_fit count tag length marked id correlation iid owner links = all_below (row_at count tag length marked id correlation iid owner links) 16
+unfoldable pub rows_fit : Units → List ℕ → List ℕ → ℕ → Bool
+rows_fit u iid owner links = all_below (row_at u iid owner links) 16

@@ -1,17 +1,14 @@
-use mathlib.Core.Path.{sym}
-use native.Mathlib.Omega.{arith}
+use Prim.Native.Nat.{◌+◌}
+use mathlib.Core.Path.{◌∙◌}
+use lib.Dec.{ltb}
+use Rattle.laws.specs.Columns.{number_at}
 use borrow.Author.Rules.{rules}
 use Rattle.state_tables.specs.Sound.{ascends}
-use Rattle.laws.specs.Below.{all_below}
-use Rattle.laws.specs.Inner.Below.{all_none, all_more, at_end}
 use Rattle.state_tables.proofs.ascending.Goals as goal
 
-pub loop-l-init : goal.loop-l-init
-loop-l-init c = (sym (all_none _), search rules, search rules)
-
-pub loop-l-preserved : goal.loop-l-preserved
-loop-l-preserved c = (rw all_more (rw c.loop-l.invariant.0), search rules, search rules)
+pub every-requires : goal.every-requires
+every-requires c = λ i b. search rules
 
 pub returns : goal.returns
 unfolding ascends
-returns c = at_end (all_below _) c.loop-l.invariant.0 (omega arith) c.loop-l.invariant.1
+returns c = c.every.ensures.is (λ l. ltb (number_at c.args.iid.now l) (number_at c.args.iid.now (l + 1))) (λ i b l h. search rules) ∙ rw c.saturating_sub.ensures

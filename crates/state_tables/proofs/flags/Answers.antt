@@ -11,7 +11,7 @@ pub bounds-r-q : goal.bounds-r-q
 bounds-r-q c = search rules
 
 pub loop-q-preserved : goal.loop-q-preserved
-loop-q-preserved c = (half_more _ c.loop-q.invariant.0 c.loop-q-test.true c.flag.ensures, search rules)
+loop-q-preserved c = (half_more _ c.loop-q.invariant.0 c.loop-q-test.true (search rules), search rules)
 
 pub returns : goal.returns
 unfolding flags_of

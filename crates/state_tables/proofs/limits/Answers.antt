@@ -6,13 +6,13 @@ use Rattle.state_tables.specs.Inner.Limits.{limits_to, place_at}
 use Rattle.state_tables.proofs.limits.Goals as goal
 
 pub loop-q-init : goal.loop-q-init
-loop-q-init c = (half_none _ 16 _ refl, search rules, search rules)
+loop-q-init c = (half_none _ 16 _ refl, search rules)
 
 pub bounds-r-q : goal.bounds-r-q
 bounds-r-q c = search rules
 
 pub loop-q-preserved : goal.loop-q-preserved
-loop-q-preserved c = (half_more _ c.loop-q.invariant.0 c.loop-q-test.true (c.limit.ensures ∙ rw (c.loop-q.invariant.2, place_at c.loop-q.q (omega arith))), search rules, search rules)
+loop-q-preserved c = (half_more _ c.loop-q.invariant.0 c.loop-q-test.true (c.limit.ensures ∙ rw (c.args.place.now.each, place_at c.loop-q.q (omega arith))), search rules)
 
 pub returns : goal.returns
 unfolding limits_to

@@ -1,15 +1,25 @@
-use mathlib.Core.Path.{sym}
+use Prim.Native.Nat.{ℕ}
+use mathlib.Core.Path.{◌∙◌}
+use mathlib.Core.Bool.{◌&&◌}
+use native.Mathlib.Omega.{arith}
+use lib.Dec.{ltb}
 use borrow.Author.Rules.{rules}
-use Rattle.laws.specs.Inner.Below.{all_none, at_end}
-use Rattle.state_tables.specs.Inner.Rows.{sound_marks, marks_turn}
+use Rattle.laws.specs.Columns.{number_at}
+use Rattle.laws.specs.Inner.Every.{all_ext}
+use Rattle.state_tables.specs.Sound.{mode_at, waiting_at, override_at}
+use Rattle.state_tables.specs.Inner.Limits.{place_at}
+use Rattle.state_tables.specs.Inner.Rows.{sound_marks}
 use Rattle.state_tables.proofs.marks_ok.Goals as goal
 
-pub loop-a-init : goal.loop-a-init
-unfolding sound_marks
-loop-a-init c = (sym (all_none _), search rules, search rules)
+pub every-requires : goal.every-requires
+every-requires c = λ i b. search rules
 
-pub loop-a-preserved : goal.loop-a-preserved
-loop-a-preserved c = let i = c.loop-a.invariant in (marks_turn _ _ _ _ _ _ _ _ _ _ c.loop-a-test.true i.2 i.0 c.mode_ok-traffic.ensures c.waiting_ok-wait.ensures c.override_ok-alone.ensures, search rules, i.2)
-
+-- the places hold their own index
 pub returns : goal.returns
-returns c = at_end (sound_marks _ _ _ _) c.loop-a.invariant.0 c.loop-a-test.false c.loop-a.invariant.1
+unfolding sound_marks
+returns c =
+    let mode = c.args.mode.now in
+    let count = c.args.count.now in
+    let inside = λ (i : ℕ). ltb (number_at c.args.place.now.index i) c.args.ases in
+    c.every.ensures.is (λ a. (mode_at (number_at mode a) (inside a) && waiting_at (number_at c.args.waiting.now a) (number_at count a) (inside a)) && override_at (number_at mode a) (number_at count a)) (λ i b l h. search rules)
+    ∙ all_ext _ _ _ (λ i l. rw (c.args.place.now.each, place_at i (omega arith)))

@@ -1,19 +1,8 @@
-use mathlib.Core.Path.{refl}
-use native.Mathlib.Omega.{arith}
-use borrow.Author.Rules.{rules}
-use Rattle.laws.specs.Inner.Columns.{half_end, half_more, half_none}
+use Rattle.std.proofs.Common.{rules}
+use Rattle.laws.specs.Inner.Columns.{is_tabulate}
 use Rattle.state_tables.specs.Inner.Limits.{places}
 use Rattle.state_tables.proofs.places.Goals as goal
 
-pub loop-i-init : goal.loop-i-init
-loop-i-init c = (half_none _ 128 _ refl, omega arith)
-
-pub bounds-r-i : goal.bounds-r-i
-bounds-r-i c = search rules
-
-pub loop-i-preserved : goal.loop-i-preserved
-loop-i-preserved c = (half_more _ c.loop-i.invariant.0 c.loop-i-test.true refl, search rules)
-
-pub returns : goal.returns
+pub invariant_of-result : goal.invariant_of-result
 unfolding places
-returns c = half_end c.loop-i.invariant.0 c.loop-i-test.false
+invariant_of-result c = let x = c.from_fn.ensures.items in record { each = is_tabulate 0 _ 128 (λ i. i) x.long (λ i b. let y = x.at i 0 b in search rules) }

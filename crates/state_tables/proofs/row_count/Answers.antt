@@ -1,3 +1,4 @@
+use native.Mathlib.Omega.{arith}
 use mathlib.Core.Path.{sym, refl, ◌∙◌}
 use borrow.Author.Rules.{rules}
 use Rattle.laws.specs.Below.{any_below, count_below}
@@ -5,14 +6,14 @@ use Rattle.laws.specs.Inner.Below.{at_end, any_none, any_more, count_none, count
 use Rattle.laws.specs.Columns.{number_at}
 use Rattle.laws.specs.Inner.Choice.{at_yes, at_no}
 use Rattle.state_tables.specs.Sound.{pair, active_in}
-use Rattle.state_tables.specs.Inner.Rows.{row_fails, row_turn, next_fits, next_in, next_less, sum_fits, sum_next}
+use Rattle.state_tables.specs.Inner.Rows.{least_min, row_fails, row_turn, next_fits, next_in, next_less, sum_fits, sum_next}
 use Rattle.state_tables.proofs.row_count.Goals as goal
 
 pub loop-q-init : goal.loop-q-init
 loop-q-init c = (sym (any_none _), λ e. sym (count_none _), search rules, search rules, search rules, c.requires.1)
 
 pub overflow_add-n : goal.overflow_add-n
-overflow_add-n c = let i = c.loop-q.invariant in record { fits = sum_fits _ _ _ i.2 i.3 c.word-n.ensures.1 }
+overflow_add-n c = let i = c.loop-q.invariant in record { fits = sum_fits _ _ _ i.2 i.3 (omega arith) }
 
 pub overflow_step-q : goal.overflow_step-q
 overflow_step-q c = record { fits = next_fits _ c.loop-q-test.true }
@@ -22,9 +23,9 @@ loop-q-smaller c = next_less _ c.loop-q-test.true
 
 pub loop-q-preserved : goal.loop-q-preserved
 loop-q-preserved c = (
-  rw any_more (rw (c.loop-q.invariant.0, c.least.ensures)),
-  λ h. rw (count_more, c.word-n.ensures.0) (row_turn (number_at c.args.top.now c.loop-q.q) (number_at c.args.member.now (pair c.args.a c.loop-q.q)) (number_at c.args.up.now c.loop-q.q) (number_at c.args.active.now (pair c.args.a c.loop-q.q)) c.loop-q.n _ c.loop-q.bad (c.loop-q.invariant.5 c.loop-q.q c.loop-q-test.true) c.loop-q.invariant.1 (rw c.least.ensures at h)),
-  sum_next _ c.loop-q.q _ c.loop-q.invariant.2 c.word-n.ensures.1,
+  rw any_more (rw (c.loop-q.invariant.0, c.min.ensures, least_min)),
+  λ h. rw (count_more, c.from-n.ensures) (row_turn (number_at c.args.top.now c.loop-q.q) (number_at c.args.member.now (pair c.args.a c.loop-q.q)) (number_at c.args.up.now c.loop-q.q) (number_at c.args.active.now (pair c.args.a c.loop-q.q)) c.loop-q.n _ c.loop-q.bad (c.loop-q.invariant.5 c.loop-q.q c.loop-q-test.true) c.loop-q.invariant.1 (rw (c.min.ensures, least_min) at h)),
+  sum_next _ c.loop-q.q _ c.loop-q.invariant.2 (omega arith),
   next_in _ c.loop-q-test.true,
   c.loop-q.invariant.4,
   c.loop-q.invariant.5,

@@ -1,19 +1,19 @@
-use mathlib.Core.Path.{sym}
+use mathlib.Core.Path.{◌∙◌}
 use native.Mathlib.Omega.{arith}
+use lib.Dec.{ltb}
 use borrow.Author.Rules.{rules}
+use Rattle.laws.specs.Columns.{number_at}
+use Rattle.laws.specs.Inner.Every.{all_ext}
 use Rattle.state_tables.specs.Sound.{under_within, sound_column}
-use Rattle.state_tables.specs.Inner.Limits.{place_at, under_limit}
-use Rattle.laws.specs.Below.{all_below}
-use Rattle.laws.specs.Inner.Below.{all_none, all_more, at_end}
+use Rattle.state_tables.specs.Inner.Limits.{limit, place_at, under_limit}
 use Rattle.state_tables.proofs.under_within.Goals as goal
 
-pub loop-i-init : goal.loop-i-init
-loop-i-init c = (sym (all_none _), search rules, search rules)
+pub every-requires : goal.every-requires
+every-requires c = λ i b. search rules
 
-pub loop-i-preserved : goal.loop-i-preserved
-unfolding under_within
-loop-i-preserved c = (rw all_more (rw (c.loop-i.invariant.0, c.limit.ensures, c.loop-i.invariant.2, place_at c.loop-i.i (omega arith), under_limit)), search rules, search rules)
-
+-- the limits are by place, and the places hold their own index
 pub returns : goal.returns
-unfolding sound_column
-returns c = at_end (all_below _) c.loop-i.invariant.0 c.loop-i-test.false c.loop-i.invariant.1
+unfolding under_within sound_column
+returns c =
+    c.every.ensures.is (λ i. ltb (number_at c.args.c.now i) (limit (ltb (number_at c.args.place.now.index i) c.args.n) c.args.most)) (λ i b l h. search rules)
+    ∙ all_ext _ _ _ (λ i l. rw (c.args.place.now.each, place_at i (omega (arith, c.requires.0)), under_limit))

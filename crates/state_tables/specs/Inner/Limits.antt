@@ -39,7 +39,7 @@ pub flags_at : (c : List ℕ) (q : ℕ) → q < 16 → number_at (flags_of c) q 
 unfolding flags_of
 flags_at c q b = get_d_tabulate 16 (λ q. one (is_set c q)) q 0 b
 
-one_small : (t : Bool) → one t ≤ 1
+pub one_small : (t : Bool) → one t ≤ 1
 one_small true = omega arith
 one_small false = omega arith
 

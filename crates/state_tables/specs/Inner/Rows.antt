@@ -1,9 +1,10 @@
 -- The ASes row by row: those of the plan are tested, and beyond them are zeros.
 -- Assumes nothing.
-use Rattle.std.specs.Prelude.{ℕ, zero, suc, ◌+◌, ◌*◌, ◌-◌, ◌/◌, ◌<◌, ◌≤◌, ◌≡◌, refl, Bool, ◌||◌, ◌&&◌, cond, not, List, leb}
+use Rattle.std.specs.Prelude.{ℕ, zero, suc, ◌+◌, ◌*◌, ◌-◌, ◌/◌, ◌<◌, ◌≤◌, ◌≡◌, refl, Bool, ◌||◌, ◌&&◌, cond, not, List, leb, min}
 use Rattle.std.proofs.Common.{◌∙◌, sym, arith}
 use Rattle.std.proofs.Math.Bool.{true, false}
 use Rattle.std.proofs.lemmas.Bool.{false≢true}
+use Rattle.std.proofs.Math.Nat.{min-eq_left, min-eq_right}
 use Rattle.std.proofs.Math.Decide.{dec_lt}
 use Rattle.std.proofs.Math.Dec.{eqb, ltb}
 use borrow.Author.Tests.{lt-ltb, le-ltb, ltb-true, ltb-false, eqb-true}
@@ -19,6 +20,14 @@ use Rattle.state_tables.specs.Inner.Limits.{limit, places, place_at, limits_to, 
 -- the smaller of two numbers
 abbrev pub least : ℕ → ℕ → ℕ
 least x y = cond (ltb x y) x y
+
+-- the library's minimum is it
+pub least_min : (x y : ℕ) → min x y ≡ least x y
+least_min x y = go (dec_lt x y)
+  where
+    go : Dec (x < y) → min x y ≡ least x y
+    go (yes z) = rw (lt-ltb x y z) (min-eq_left (omega arith))
+    go (no z) = rw (le-ltb x y (omega arith)) (min-eq_right (omega arith))
 
 abbrev pub pair_fails : List ℕ → List ℕ → List ℕ → List ℕ → ℕ → ℕ → Bool
 pair_fails top up member active a q =

@@ -1,9 +1,0 @@
-use Rattle.state_plan.specs.Inner.Tables.{filled}
-use Rattle.state_plan.proofs.words_128.Goals as goal
-
--- `state_plan::words_128`: what was filled, over zeros. Assumes nothing.
-pub fill-requires : goal.fill-requires
-fill-requires c = (c.requires.0, c.requires.1)
-
-pub returns : goal.returns
-returns c = filled 128 _ _ _ c.fill.ensures
