@@ -1,13 +1,9 @@
-use borrow.Author.Rules.{rules}
 use Rattle.state_index.specs.Inner.Spots.{searched_known, searched_none}
 use Rattle.state_index.proofs.searched.Goals as goal
 
-pub index_of-l-requires : goal.index_of-l-requires
-index_of-l-requires c = search rules
+-- as the search says
+pub returns-in-Some : goal.returns-in-Some
+returns-in-Some c = searched_known _ _ _ _ c.in-Some.ensures c.args.ids.few
 
--- `state_index::searched`: as the search says. Assumes nothing.
-pub returns-then-l-links : goal.returns-then-l-links
-returns-then-l-links c = searched_known _ _ _ c.index_of-l.ensures c.if-l-links.true c.requires.0
-
-pub returns : goal.returns
-returns c = searched_none _ _ _ c.index_of-l.ensures c.if-l-links.false
+pub returns-in-None : goal.returns-in-None
+returns-in-None c = searched_none _ _ _ c.in-None.ensures

@@ -1,6 +1,6 @@
 -- The table of links by identifier: what stands at a spot, and what is found by it.
 -- Assumes nothing.
-use Rattle.std.specs.Prelude.{ℕ, ◌+◌, ◌-◌, ◌*◌, ◌/◌, ◌%◌, ◌<◌, ◌≤◌, ◌≡◌, true, cond, not, ◌&&◌, List, length, set, replicate}
+use Rattle.std.specs.Prelude.{ℕ, ◌+◌, ◌-◌, ◌*◌, ◌/◌, ◌%◌, ◌<◌, ◌≤◌, ◌≡◌, true, cond, not, ◌&&◌, List, Some, None, length, set, replicate}
 use Rattle.std.proofs.Common.{ap, ◌∙◌, length-set, get_or-set_same, get_or-set_other}
 use Rattle.std.proofs.Math.Path.{sym}
 use Rattle.std.proofs.Math.Bool.{false}
@@ -15,6 +15,7 @@ use Rattle.laws.specs.Inner.Rank.{first_not}
 use Rattle.state_tables.specs.Sound.{ascends}
 use Rattle.state_lookup.specs.Links.{index_of, known}
 use Rattle.state_lookup.specs.Inner.Links.{index_own}
+use Rattle.state_lookup.specs.Inner.Index.{IndexIs}
 use Rattle.state_index.specs.declared.Found.{Found}
 
 -- the spot of an identifier
@@ -131,13 +132,12 @@ module _ {t iid : List ℕ} {links : ℕ} (s : Spots t iid links) (up : ascends 
 
 -- ---- what a search finds
 
-module _ (iid : List ℕ) (links x : ℕ) {l : ℕ} (e : l ≡ index_of iid links x) where
-  pub searched_known : l < links → links ≤ 128 → Finds iid links x (record { known = true; at = l })
-  unfolding known
-  searched_known b few = record { known_is = rw (← e) (sym (lt-ltb l links b)); at_is = λ u. e; small = omega arith }
+pub searched_known : (iid : List ℕ) (links x l : ℕ) → IndexIs iid links x (Some l) → links ≤ 128 → Finds iid links x (record { known = true; at = l })
+unfolding known
+searched_known iid links x l h few = record { known_is = rw (← h.0) (sym (lt-ltb l links h.1)); at_is = λ u. h.0; small = omega (arith, h.1) }
 
-  pub searched_none : links ≤ l → Finds iid links x (record { known = false; at = 0 })
-  unfolding known
-  searched_none b =
-      let u : ltb (index_of iid links x) links ≡ false = rw (← e) (le-ltb l links b) in
-      record { known_is = sym u; at_is = λ y. absurd (false≢true (sym u ∙ y)); small = omega arith }
+pub searched_none : (iid : List ℕ) (links x : ℕ) → IndexIs iid links x None → Finds iid links x (record { known = false; at = 0 })
+unfolding known
+searched_none iid links x h =
+    let u : ltb (index_of iid links x) links ≡ false = rw (← h) (le-ltb links links (omega arith)) in
+    record { known_is = sym u; at_is = λ y. absurd (false≢true (sym u ∙ y)); small = omega arith }

@@ -7,27 +7,27 @@ use Rattle.state_names.specs.Inner.Run.{sofar_none, sofar_plain, sofar_more, sof
 use Rattle.state_names.proofs.of_many.Goals as goal
 
 pub table_of-table-requires : goal.table_of-table-requires
-table_of-table-requires c = c.requires.0.few
+table_of-table-requires c = c.args.links.ids.few
 
 pub loop-i-init : goal.loop-i-init
 unfolding entries
-loop-i-init c = let p = c.requires in (sofar_none p.1 (flags_long _), search rules, refl, p.0, c.table_of-table.ensures)
+loop-i-init c = (sofar_none c.requires (flags_long _), search rules, refl, c.table_of-table.ensures)
 
 pub get32-x-requires : goal.get32-x-requires
 unfolding entries
 get32-x-requires c = omega (arith, c.loop-i.invariant.2)
 
 pub find-f-requires : goal.find-f-requires
-find-f-requires c = let v = c.loop-i.invariant in (v.3.few, v.3.order, v.4)
+find-f-requires c = c.loop-i.invariant.3
 
 pub with_found-next-requires : goal.with_found-next-requires
-with_found-next-requires c = let v = c.loop-i.invariant in (v.3, c.find-f.ensures, sofar_plain v.0)
+with_found-next-requires c = (c.find-f.ensures, sofar_plain c.loop-i.invariant.0)
 
 pub loop-i-preserved : goal.loop-i-preserved
 unfolding start_at
 loop-i-preserved c =
     let v = c.loop-i.invariant in
-    (sofar_more v.0 c.get32-x.ensures c.with_found-next.ensures, search rules, v.2, v.3, v.4)
+    (sofar_more v.0 c.get32-x.ensures c.with_found-next.ensures, search rules, v.2, v.3)
 
 pub returns : goal.returns
 returns c = let v = c.loop-i.invariant in sofar_end v.0 (omega (arith, v.1, v.2))

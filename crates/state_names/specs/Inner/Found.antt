@@ -11,7 +11,7 @@ use Rattle.state_lookup.specs.Links.{index_of, known}
 use Rattle.state_lookup.specs.Inner.Links.{rank, index_here, index_is}
 use Rattle.state_index.specs.declared.Found.{Found}
 use Rattle.state_index.specs.Inner.Spots.{Finds}
-use Rattle.state_sets.specs.Inner.Bits.{flags_of}
+use Rattle.state_sets.specs.Inner.Members.{members}
 use Rattle.state_ranges.specs.declared.Refused.{Refused}
 use Rattle.state_ranges.specs.declared.Named.{Named}
 use Rattle.state_ranges.specs.Named.{is_owned_by, nothing, refusing, first_in, some_in}
@@ -58,7 +58,7 @@ module _ (iid owner : List ℕ) (links : ℕ) (t : Table iid owner links) (mine 
     stands = rw (s.at_is k) (index_is iid links x (ltb-true (index_of iid links x) links k))
 
   pub found_names : (old : Refused) (flags : List Bool) → length flags ≡ 16 → (a : ℕ) → a ≡ number_at owner f.at % 16 → (r : Named) → r.refused ≡ unless_good (f.known && flag_at mine a) old x
-      → flags_of r.set ≡ cond f.known (set flags a true) flags
+      → members r.set ≡ cond f.known (set flags a true) flags
       → Names r (earlier old (first_in (refused_by iid owner links mine) x x)) (tabulate 16 (λ a. flag_at flags a || some_in (is_owned_by iid owner links a) x x))
   found_names old flags n a o r p q = record { refused = p ∙ unless_is (f.known && flag_at mine a) old x ∙ ap (earlier old) (first f.known refl); set = q ∙ owners f.known refl }
     where

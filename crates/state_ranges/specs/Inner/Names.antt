@@ -3,7 +3,8 @@
 use Rattle.std.specs.Prelude.{◌≡◌, refl, Bool, true, false, cond, List, ℕ}
 use Rattle.std.proofs.Common.{ap, ◌∙◌, sym}
 use Rattle.std.proofs.lemmas.Bool.{false≢true}
-use Rattle.state_sets.specs.Inner.Bits.{flags_of}
+use Rattle.state_sets.specs.declared.AsSet.{AsSet}
+use Rattle.state_sets.specs.Inner.Members.{members}
 use Rattle.state_ranges.specs.declared.Refused.{Refused}
 use Rattle.state_ranges.specs.declared.Named.{Named}
 use Rattle.state_ranges.specs.Named.{nothing, refusing}
@@ -60,8 +61,8 @@ earlier_nothing x h = go x.found refl
 -- the first refused identifier, and the owners' flags
 pub record Names (r : Named) (first : Refused) (owners : List Bool) : Type 0 where
   pub refused : r.refused ≡ first
-  pub set : flags_of r.set ≡ owners
+  pub set : members r.set ≡ owners
 
 -- what is handed back holds both
-pub names_both : {r : Named} {first f : Refused} {owners : List Bool} {s : ℕ} → r.refused ≡ f → f ≡ first → r.set ≡ s → flags_of s ≡ owners → Names r first owners
-names_both e f g h = record { refused = e ∙ f; set = ap flags_of g ∙ h }
+pub names_both : {r : Named} {first f : Refused} {owners : List Bool} {s : AsSet} → r.refused ≡ f → f ≡ first → r.set ≡ s → members s ≡ owners → Names r first owners
+names_both e f g h = record { refused = e ∙ f; set = ap members g ∙ h }
