@@ -5,18 +5,16 @@
 ghost use Rattle.std.specs.Prelude.{◌≡◌, true, false, cond, ◌||◌, ◌<◌, ◌≤◌};
 ghost use Rattle.laws.specs.Columns.{flag_at, tabulate};
 ghost use Rattle.state_lookup.specs.Inner.Links.{rank};
+ghost use Rattle.state_lookup.specs.Inner.Index.{IndexIs};
 ghost use Rattle.state_sets.specs.Inner.Members.{members};
 ghost use Rattle.state_ranges.specs.Named.{start_at, stop_at, entries, first_in, refused_in, some_in, some_of};
 ghost use Rattle.state_ranges.specs.Inner.Of.{refused_of, owned_of};
 ghost use Rattle.state_ranges.specs.Inner.Owners.{Looked};
-ghost use Rattle.state_ranges.specs.Inner.Names.{earlier, Plain, Names};
-ghost use Rattle.state_index.specs.Inner.Spots.{Finds};
+ghost use Rattle.state_ranges.specs.Inner.Names.{earlier, as_refused, Names};
 ghost use Rattle.state_names.specs.Inner.Run.{GoodAt, GoesOn};
-ghost use Rattle.state_names.specs.Inner.Found.{unless_good};
 
-use state_index::Found;
 use state_lookup::{Identifiers, Links};
-use state_ranges::{Named, Refused};
+use state_ranges::Named;
 use state_sets::AsSet;
 
 // ---- identifiers
@@ -82,50 +80,32 @@ fn in_order(go: bool, from: Run, value: &[u8], links: Links, mine: AsSet) -> Run
 // From so many bytes on a table of the links is worth its time.
 pub const MANY: usize = 256;
 
-fn id_of(found: bool, id: u32, x: u32) -> u32
-    ensures { result ≡ cond found id x }
+// What was named before, with x, that stands at `at` if it is known. (No branch goes by whether it is: so an
+// owner is read for one that is not known too, and what is left over of it by 16.)
+fn with_found(old: Named, links: Links, mine: AsSet, at: Option<usize>, x: u32) -> Named
+    requires { IndexIs links.ids.iid.now links.ids.count x at }
+    ensures { Names result (earlier (as_refused old.refused) (first_in (refused_of links.entry mine) x x)) (tabulate 16 (λ a. flag_at (members old.set) a || some_in (owned_of links.entry a) x x)) }
 {
-    if found { id } else { x }
-}
-
-// The first that is refused, with x unless that is good. No branch goes by it.
-fn first_unless(good: bool, old: Refused, x: u32) -> Refused
-    ensures { result ≡ unless_good good old x }
-{
-    Refused {
-        found: old.found | !good,
-        id: id_of(old.found, old.id, id_of(good, 0, x)),
-    }
-}
-
-// What was named before, with x, of which a table says where it stands. (A place that is not that of x may
-// have any owner: so what is left over by 16.)
-fn with_found(old: Named, links: Links, mine: AsSet, f: Found, x: u32) -> Named
-    requires { Finds links.ids.iid.now links.ids.count x f × Plain old.refused }
-    ensures { Names result (earlier old.refused (first_in (refused_of links.entry mine) x x)) (tabulate 16 (λ a. flag_at (members old.set) a || some_in (owned_of links.entry a) x x)) }
-{
-    let first = old.refused;
-    let set = old.set;
-    let known = f.known;
-    let l = f.at;
-    let a = usize::from(links.owner[l]) % 16;
+    let known = at.is_some();
+    let a = usize::from(links.owner[at.unwrap_or(0)]) % 16;
     let good = known & mine.has(a);
-    state_ranges::answer(first_unless(good, first, x), set.with_if(a, known))
+    Named {
+        refused: old.refused.or((!good).then_some(x)),
+        set: old.set.with_if(a, known),
+    }
 }
 
 // The same of many, in no order as a rule.
 fn of_many(old: Named, value: &[u8], links: Links, mine: AsSet) -> Named
-    requires { Plain old.refused }
-    ensures { Names result (earlier old.refused (refused_in (refused_of links.entry mine) false value.now)) (tabulate 16 (λ a. flag_at (members old.set) a || some_of (owned_of links.entry a) false value.now)) }
+    ensures { Names result (earlier (as_refused old.refused) (refused_in (refused_of links.entry mine) false value.now)) (tabulate 16 (λ a. flag_at (members old.set) a || some_of (owned_of links.entry a) false value.now)) }
 {
     let n = value.len() / 4;
     let table = state_index::table_of(links.ids.iid, links.ids.count);
     let mut r = old;
     for i in 0..n {
         let x = codec_wire::get32(value, 4 * i);
-        let f = state_index::find(&table, links.ids, x);
-        let next = with_found(r, links, mine, f, x);
-        r = next;
+        let at = state_index::find(&table, links.ids, x);
+        r = with_found(r, links, mine, at, x);
     }
     r
 }
@@ -133,8 +113,7 @@ fn of_many(old: Named, value: &[u8], links: Links, mine: AsSet) -> Named
 // The identifiers of the value of a 0x1, beside what was named before: few, which often come in order.
 // Kept: the loop's place jumps over those that came in order.
 fn of_few(old: Named, value: &[u8], links: Links, mine: AsSet) -> Named
-    requires { Plain old.refused }
-    ensures { Names result (earlier old.refused (refused_in (refused_of links.entry mine) false value.now)) (tabulate 16 (λ a. flag_at (members old.set) a || some_of (owned_of links.entry a) false value.now)) }
+    ensures { Names result (earlier (as_refused old.refused) (refused_in (refused_of links.entry mine) false value.now)) (tabulate 16 (λ a. flag_at (members old.set) a || some_of (owned_of links.entry a) false value.now)) }
 {
     let n = value.len() / 4;
     let mut r = old;
@@ -150,7 +129,10 @@ fn of_few(old: Named, value: &[u8], links: Links, mine: AsSet) -> Named
             set: e.set,
         };
         let t = in_order(l == near, from, value, links, mine);
-        r = state_ranges::answer(e.refused, t.set);
+        r = Named {
+            refused: e.refused,
+            set: t.set,
+        };
         near = t.near;
         i = t.i;
     }
@@ -159,8 +141,7 @@ fn of_few(old: Named, value: &[u8], links: Links, mine: AsSet) -> Named
 
 // The same of any number.
 pub fn of_ids(old: Named, value: &[u8], links: Links, mine: AsSet) -> Named
-    requires { Plain old.refused }
-    ensures { Names result (earlier old.refused (refused_in (refused_of links.entry mine) false value.now)) (tabulate 16 (λ a. flag_at (members old.set) a || some_of (owned_of links.entry a) false value.now)) }
+    ensures { Names result (earlier (as_refused old.refused) (refused_in (refused_of links.entry mine) false value.now)) (tabulate 16 (λ a. flag_at (members old.set) a || some_of (owned_of links.entry a) false value.now)) }
 {
     if MANY <= value.len() {
         return of_many(old, value, links, mine);
@@ -172,16 +153,15 @@ pub fn of_ids(old: Named, value: &[u8], links: Links, mine: AsSet) -> Named
 
 // Those of the value of a 0x8.
 pub fn of_ranges(old: Named, far: &mut [u8; 128], value: &[u8], links: Links, mine: AsSet) -> Named
-    requires { Looked links.owner.now far.old (members old.set) × Plain old.refused }
-    ensures { Names result (earlier old.refused (refused_in (refused_of links.entry mine) true value.now)) (tabulate 16 (λ a. flag_at (members old.set) a || some_of (owned_of links.entry a) true value.now)) × Looked links.entry.owner.now far.new (members result.set) }
+    requires { Looked links.owner.now far.old (members old.set) }
+    ensures { Names result (earlier (as_refused old.refused) (refused_in (refused_of links.entry mine) true value.now)) (tabulate 16 (λ a. flag_at (members old.set) a || some_of (owned_of links.entry a) true value.now)) × Looked links.entry.owner.now far.new (members result.set) }
 {
     let n = value.len() / 8;
     let mut r = old;
     for i in 0..n {
         let start = codec_wire::get32(value, 8 * i);
         let stop = codec_wire::get32(value, 8 * i + 4);
-        let next = state_ranges::with_range(r, far, links, mine, start, stop);
-        r = next;
+        r = state_ranges::with_range(r, far, links, mine, start, stop);
     }
     r
 }
@@ -227,8 +207,7 @@ pub fn owners_of(set: AsSet, far: &mut [u8; 128], value: &[u8], pairs: bool, lin
     for i in 0..n {
         let start = start_at(value, pairs, i);
         let stop = stop_at(value, pairs, i);
-        let next = state_ranges::owners_in(r, far, links, start, stop);
-        r = next;
+        r = state_ranges::owners_in(r, far, links, start, stop);
     }
     r
 }

@@ -7,62 +7,19 @@ ghost use Rattle.laws.specs.Below.{any_below};
 ghost use Rattle.laws.specs.Columns.{flag_at, number_at, tabulate};
 ghost use Rattle.state_lookup.specs.Inner.Links.{rank};
 ghost use Rattle.state_sets.specs.Inner.Members.{members};
-ghost use Rattle.state_ranges.specs.Named.{nothing, refusing, first_in, some_in};
+ghost use Rattle.state_ranges.specs.Named.{first_in, some_in};
 ghost use Rattle.state_ranges.specs.Inner.Of.{refused_of, owned_of};
 ghost use Rattle.state_ranges.specs.Inner.Owners.{owns_from, Looked};
-ghost use Rattle.state_ranges.specs.Inner.Names.{earlier, Plain, Names};
+ghost use Rattle.state_ranges.specs.Inner.Names.{earlier, as_refused, Names};
 
 use state_lookup::{Identifiers, Links};
 use state_sets::AsSet;
 
-// The first refused identifier, if one is found; else 0.
-#[derive(Drop)]
-pub struct Refused {
-    pub found: bool,
-    pub id: u32,
-}
-
-// What identifiers name: the first that is refused, and the ASes that own the known ones.
+// What identifiers name: the first that is refused, if one is, and the ASes that own the known ones.
 #[derive(Drop)]
 pub struct Named {
-    pub refused: Refused,
+    pub refused: Option<u32>,
     pub set: AsSet,
-}
-
-// ---- what is handed back
-
-pub fn answer(refused: Refused, set: AsSet) -> Named
-    ensures { (result.refused ≡ refused) × (result.set ≡ set) }
-{
-    Named { refused, set }
-}
-
-fn id_of(found: bool, id: u32, x: u32) -> u32
-    ensures { result ≡ cond found id x }
-{
-    if found { id } else { x }
-}
-
-// The one found before, if there is one, else x.
-fn first_of(old: Refused, x: u32) -> Refused
-    ensures { result ≡ earlier old (refusing x) }
-{
-    Refused {
-        found: true,
-        id: id_of(old.found, old.id, x),
-    }
-}
-
-pub fn passes(set: AsSet) -> Named
-    ensures { (result.refused ≡ nothing) × (result.set ≡ set) }
-{
-    answer(
-        Refused {
-            found: false,
-            id: 0,
-        },
-        set,
-    )
 }
 
 // ---- the places inside a range
@@ -156,21 +113,18 @@ pub fn is_refused(links: Links, mine: AsSet, l: usize, x: u32) -> bool
 
 // The first of a range that is refused; `first` is the place of start. A message has this walk once at most,
 // for behind what it finds no other counts.
-fn first_refused(links: Links, mine: AsSet, first: usize, start: u32, stop: u32) -> Refused
+fn first_refused(links: Links, mine: AsSet, first: usize, start: u32, stop: u32) -> Option<u32>
     requires { (first ≡ rank links.ids.iid.now links.ids.count start) × (start ≤ stop) }
-    ensures { result ≡ first_in (refused_of links.entry mine) start stop }
+    ensures { as_refused result ≡ first_in (refused_of links.entry mine) start stop }
 {
     let mut l = first;
     for x in start..=stop {
         if is_refused(links, mine, l, x) {
-            return Refused { found: true, id: x };
+            return Some(x);
         }
         l += 1;
     }
-    Refused {
-        found: false,
-        id: 0,
-    }
+    None
 }
 
 // ---- a range, both ends meant
@@ -189,17 +143,23 @@ pub fn of_range(
     ensures { Names result (first_in (refused_of links.entry mine) start stop) (tabulate 16 (λ a. flag_at (members set) a || some_in (owned_of links.entry a) start stop)) × Looked links.entry.owner.now far.new (members result.set) }
 {
     if stop < start {
-        return passes(set);
+        return Named { refused: None, set };
     }
     let first = rank_at(links.ids, start);
     let past = past_of(links.ids, first, start, stop);
     let all = owners_between(set, far, links, first, past);
     if past - first == (stop - start) as usize + 1 {
         if all.is_within(mine) {
-            return passes(all);
+            return Named {
+                refused: None,
+                set: all,
+            };
         }
     }
-    answer(first_refused(links, mine, first, start, stop), all)
+    Named {
+        refused: first_refused(links, mine, first, start, stop),
+        set: all,
+    }
 }
 
 // The set, with the owners of the known identifiers from start to stop.
@@ -219,20 +179,20 @@ pub fn owners_in(set: AsSet, far: &mut [u8; 128], links: Links, start: u32, stop
 
 // What was named before, with x, that stands at l or nowhere.
 pub fn with_id(old: Named, links: Links, mine: AsSet, l: usize, x: u32) -> Named
-    requires { (l ≡ rank links.ids.iid.now links.ids.count x) × Plain old.refused }
-    ensures { Names result (earlier old.refused (first_in (refused_of links.entry mine) x x)) (tabulate 16 (λ a. flag_at (members old.set) a || some_in (owned_of links.entry a) x x)) }
+    requires { (l ≡ rank links.ids.iid.now links.ids.count x) }
+    ensures { Names result (earlier (as_refused old.refused) (first_in (refused_of links.entry mine) x x)) (tabulate 16 (λ a. flag_at (members old.set) a || some_in (owned_of links.entry a) x x)) }
 {
-    let f = old.refused;
-    let set = old.set;
     if !links.ids.holds(l, x) {
-        return answer(first_of(f, x), set);
+        return Named {
+            refused: old.refused.or(Some(x)),
+            set: old.set,
+        };
     }
     let a = links.owner_at(l);
-    let all = set.with(a);
-    if mine.has(a) {
-        return answer(f, all);
+    Named {
+        refused: old.refused.or((!mine.has(a)).then_some(x)),
+        set: old.set.with(a),
     }
-    answer(first_of(f, x), all)
 }
 
 // The same, with the identifiers from start to stop. Where one was refused before, none of these counts.
@@ -245,13 +205,13 @@ pub fn with_range(
     stop: u32,
 ) -> Named
     requires { Looked links.owner.now far.old (members old.set) }
-    ensures { Names result (earlier old.refused (first_in (refused_of links.entry mine) start stop)) (tabulate 16 (λ a. flag_at (members old.set) a || some_in (owned_of links.entry a) start stop)) × Looked links.entry.owner.now far.new (members result.set) }
+    ensures { Names result (earlier (as_refused old.refused) (first_in (refused_of links.entry mine) start stop)) (tabulate 16 (λ a. flag_at (members old.set) a || some_in (owned_of links.entry a) start stop)) × Looked links.entry.owner.now far.new (members result.set) }
 {
-    let f = old.refused;
-    let set = old.set;
-    if f.found {
-        let all = owners_in(set, far, links, start, stop);
-        return answer(f, all);
+    if old.refused.is_some() {
+        return Named {
+            refused: old.refused,
+            set: owners_in(old.set, far, links, start, stop),
+        };
     }
-    of_range(set, far, links, mine, start, stop)
+    of_range(old.set, far, links, mine, start, stop)
 }

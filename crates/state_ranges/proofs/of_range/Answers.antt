@@ -8,17 +8,12 @@ use Rattle.state_lookup.specs.Inner.Table.{table_of}
 use Rattle.state_ranges.proofs.Places.{rank_up}
 use Rattle.state_ranges.proofs.Range.{no_owners, owners_range, range_good}
 use Rattle.state_ranges.specs.Inner.Refused.{empty_range}
-use Rattle.state_ranges.specs.Inner.Names.{names_both}
 use Rattle.state_ranges.proofs.of_range.Goals as goal
 
-pub passes-requires : goal.passes-requires
-passes-requires c = search rules
-
--- `state_ranges::of_range`: nothing is refused where there are as many places as identifiers and the owners
--- between are all in mine; else the walk tells. Assumes nothing.
+-- nothing is refused where there are as many places as identifiers and the owners between are all in mine;
+-- else the walk tells
 pub returns-then-stop-start : goal.returns-then-stop-start
-returns-then-stop-start c =
-    (names_both c.passes.ensures.0 (empty_range _ _ _ c.if-stop-start.true) c.passes.ensures.1 (no_owners _ _ _ _ (flags_long _) c.if-stop-start.true), rw c.passes.ensures.1 c.requires)
+returns-then-stop-start c = (record { refused = empty_range _ _ _ c.if-stop-start.true; set = no_owners _ _ _ _ (flags_long _) c.if-stop-start.true }, c.requires)
 
 pub past_of-past-requires : goal.past_of-past-requires
 past_of-past-requires c = (c.rank_at-first.ensures.1, c.if-stop-start.false)
@@ -36,15 +31,18 @@ returns-then-is_within c =
     let f = c.rank_at-first.ensures.0 in
     let p = c.past_of-past.ensures.0 in
     let o = c.owners_between-all.ensures in
-    (names_both c.passes-then-is_within.ensures.0 (range_good _ _ _ t _ _ _ _ f p (members c.args.set) _ o.0 _ c.if-stop-start.false c.if-past-first.true (sym c.is_within.ensures ∙ c.if-is_within.true)) c.passes-then-is_within.ensures.1 (owners_range _ _ _ t _ _ _ _ f p (members c.args.set) _ o.0), rw c.passes-then-is_within.ensures.1 o.1)
+    (record {
+      refused = range_good _ _ _ t _ _ _ _ f p (members c.args.set) _ o.0 _ c.if-stop-start.false c.if-past-first.true (sym c.is_within.ensures ∙ c.if-is_within.true);
+      set = owners_range _ _ _ t _ _ _ _ f p (members c.args.set) _ o.0;
+    }, o.1)
 
 pub first_refused-requires : goal.first_refused-requires
 first_refused-requires c = (c.rank_at-first.ensures.0, c.if-stop-start.false)
 
 pub returns : goal.returns
 returns c =
-    let t = table_of c.args.links in
-    let f = c.rank_at-first.ensures.0 in
-    let p = c.past_of-past.ensures.0 in
     let o = c.owners_between-all.ensures in
-    (names_both c.answer.ensures.0 c.first_refused.ensures c.answer.ensures.1 (owners_range _ _ _ t _ _ _ _ f p (members c.args.set) _ o.0), rw c.answer.ensures.1 o.1)
+    (record {
+      refused = c.first_refused.ensures;
+      set = owners_range _ _ _ (table_of c.args.links) _ _ _ _ c.rank_at-first.ensures.0 c.past_of-past.ensures.0 (members c.args.set) _ o.0;
+    }, o.1)
