@@ -18,6 +18,11 @@ pub index_or : (iid : List ℕ) (links x : ℕ) (r : Option ℕ) → IndexIs iid
 index_or iid links x (Some l) h = h.0
 index_or iid links x None h = h
 
+-- a place of the column, also with 0 in the place of none
+pub index_small : (iid : List ℕ) (links x : ℕ) → links ≤ 128 → (r : Option ℕ) → IndexIs iid links x r → unwrap_or r 0 < 128
+index_small iid links x few (Some l) h = omega (arith, h.1)
+index_small iid links x few None h = omega arith
+
 -- and there is one just where x is known
 pub index_known : (iid : List ℕ) (links x : ℕ) (r : Option ℕ) → IndexIs iid links x r → is_some r ≡ known iid links x
 unfolding known

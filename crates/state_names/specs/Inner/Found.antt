@@ -34,11 +34,6 @@ module _ (iid owner : List ℕ) (links : ℕ) (t : Table iid owner links) (mine 
           let i = index_here iid links t.order x b z in
           omega arith
 
-  -- a place of the column, whether x is known or not
-  pub found_small : (at : Option ℕ) → IndexIs iid links x at → unwrap_or at 0 < 128
-  found_small (Some l) h = omega (arith, t.few, h.1)
-  found_small None h = omega arith
-
   -- what x names: a is the owner at its place
   module _ (old : Option ℕ) (flags : List Bool) (n : length flags ≡ 16) (a : ℕ) (r : Named) where
     pub found_names : (at : Option ℕ) → IndexIs iid links x at → a ≡ number_at owner (unwrap_or at 0) % 16 → r.refused ≡ option_or old (then_some (not (is_some at && flag_at mine a)) x)
