@@ -2,9 +2,11 @@
 // known to be none, without a search.
 #![tactic(auto)]
 
-ghost use Rattle.std.specs.Prelude.{◌≡◌, true, cond, ◌+◌, ◌-◌, ◌<◌, ◌≤◌, eqb};
-ghost use Rattle.state_tables.specs.Sound.{ascends};
-ghost use Rattle.state_index.specs.Inner.Spots.{slot_of, Spots, Finds};
+ghost use Rattle.std.specs.Prelude.{◌≡◌, cond, ◌+◌, ◌-◌, ◌<◌, ◌≤◌, eqb};
+ghost use Rattle.state_lookup.specs.Inner.Index.{IndexIs};
+ghost use Rattle.state_index.specs.Inner.Spots.{slot_of, Spots};
+
+use state_lookup::Identifiers;
 
 // What stands at a spot that several links fall on.
 const SEVERAL: u8 = 255;
@@ -13,7 +15,7 @@ const SEVERAL: u8 = 255;
 fn slot_of(x: u32) -> usize
     ensures { (result ≡ slot_of x) × (result < 1024) }
 {
-    ((x as u64) * 2654435761 % 4294967296 / 4194304) as usize
+    (u64::from(x) * 2654435761 % 4294967296 / 4194304) as usize
 }
 
 // What stands at a spot when link l falls on it too: l + 1 where it was free.
@@ -25,6 +27,7 @@ fn added(old: u8, l: usize) -> u8
 }
 
 // The table: at the spot of each link's identifier the link's place and 1, or SEVERAL; 0 where none falls.
+// Kept: docs/STATEMENTS.md names it, and it asks less than `Identifiers` keep: not that they ascend.
 pub fn table_of(iid: &[u32; 128], links: usize) -> [u8; 1024]
     requires { links ≤ 128 }
     ensures { Spots result iid.now links }
@@ -38,46 +41,22 @@ pub fn table_of(iid: &[u32; 128], links: usize) -> [u8; 1024]
     table
 }
 
-// Whether an identifier is known, and where it stands; else any place.
-#[derive(Drop)]
-pub struct Found {
-    pub known: bool,
-    pub at: usize,
-}
-
 fn before(t: usize) -> usize
     ensures { result ≡ cond (eqb t 0) 0 (t - 1) }
 {
     if t == 0 { 0 } else { t - 1 }
 }
 
-fn searched(iid: &[u32; 128], links: usize, x: u32) -> Found
-    requires { (links ≤ 128) × (ascends iid.now links ≡ true) }
-    ensures { Finds iid.now links x result }
-{
-    let l = state_lookup::index_of(iid, links, x);
-    if l < links {
-        return Found { known: true, at: l };
-    }
-    Found {
-        known: false,
-        at: 0,
-    }
-}
-
-// Where identifier x stands. No branch goes by whether it is known, so that identifiers in no order cost no
-// wrong guesses of the processor; a search is made where several links fall on one spot.
-pub fn find<'a>(table: &'a [u8; 1024], iid: &'a [u32; 128], links: usize, x: u32) -> Found
-    requires { (links ≤ 128) × (ascends iid.now links ≡ true) × Spots table.now iid.now links }
-    ensures { Finds iid.now links x result }
+// Where identifier x stands, if it is known. No branch goes by whether it is, so that identifiers in no order
+// cost no wrong guesses of the processor; a search is made where several links fall on one spot.
+pub fn find<'a>(table: &'a [u8; 1024], ids: Identifiers<'a>, x: u32) -> Option<usize>
+    requires { Spots table.now ids.iid.now ids.count }
+    ensures { IndexIs ids.entry.iid.now ids.entry.count x result }
 {
     let t = table[slot_of(x)];
     if t == SEVERAL {
-        return searched(iid, links, x);
+        return ids.index_of(x);
     }
-    let l = before(state_tables::wide(t));
-    Found {
-        known: (t != 0) & (iid[l] == x),
-        at: l,
-    }
+    let l = before(usize::from(t));
+    ((t != 0) & (ids.iid[l] == x)).then_some(l)
 }

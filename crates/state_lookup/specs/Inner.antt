@@ -1,3 +1,4 @@
 pub mod Links
 pub mod Servers
 pub mod Table
+pub mod Index

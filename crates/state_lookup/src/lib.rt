@@ -1,14 +1,12 @@
 // What the events ask of the gateway's state.
 #![tactic(auto)]
 
-ghost use Rattle.std.specs.Prelude.{◌≡◌, true, ◌&&◌, cond, ◌+◌, ◌*◌, ◌/◌, ◌%◌, ◌<◌, ◌≤◌, ltb};
-ghost use Rattle.laws.specs.Below.{any_below, count_below, one};
-ghost use Rattle.laws.specs.Columns.{is_set, number_at, tabulate};
-ghost use Rattle.state_tables.specs.Sound.{pair, ascends};
+ghost use Rattle.std.specs.Prelude.{◌≡◌, ◌&&◌, cond, ◌%◌, ◌<◌};
+ghost use Rattle.laws.specs.Below.{any_below};
+ghost use Rattle.laws.specs.Columns.{is_set, tabulate};
+ghost use Rattle.state_tables.specs.Sound.{pair};
 ghost use Rattle.state_lookup.specs.Servers.{receives};
 ghost use Rattle.state_lookup.specs.Inner.Servers.{state_of};
-ghost use Rattle.state_lookup.specs.Links.{index_of, known};
-ghost use Rattle.state_lookup.specs.Inner.Links.{rank};
 
 mod links;
 
@@ -103,82 +101,7 @@ pub fn recipients(active: &[u8; 256], mode: u8, a: usize, x: u32) -> [bool; 16]
     for q in 0..16usize {
         let on = active[a * 16 + q] == 1;
         r[q] = on & ((mode != 2) | (n == place));
-        n = n + state_tables::unit(on);
+        n = n + usize::from(on);
     }
     r
-}
-
-// ---- links by identifier
-
-fn unit_32(t: bool) -> u32
-    ensures { (result ≡ one t) × (result ≤ 1) }
-{
-    if t { 1 } else { 0 }
-}
-
-fn least(x: usize, y: usize) -> usize
-    ensures { result ≡ cond (ltb x y) x y }
-{
-    if x < y { x } else { y }
-}
-
-// How many of the n places from first on have an identifier below x.
-fn below_from(iid: &[u32; 128], first: usize, n: usize, x: u32) -> usize
-    requires { first + n ≤ 128 }
-    ensures { result ≡ count_below (λ j. ltb (number_at iid.now (first + j)) x) n }
-{
-    let mut c: u32 = 0;
-    for j in 0..n {
-        c = c + unit_32(iid[first + j] < x);
-    }
-    c as usize
-}
-
-// How many of the places 0, 8, 16, .. have an identifier below x.
-fn eighths_below(iid: &[u32; 128], links: usize, x: u32) -> usize
-    requires { links ≤ 128 }
-    ensures { result ≡ count_below (λ k. ltb (number_at iid.now (8 * k)) x) ((links + 7) / 8) }
-{
-    let n = (links + 7) / 8;
-    let mut c: u32 = 0;
-    for k in 0..n {
-        c = c + unit_32(iid[8 * k] < x);
-    }
-    c as usize
-}
-
-// How many identifiers are below x: every eighth place is asked, then those of one eighth. (Of six searches
-// timed, the fastest for identifiers in no order.)
-pub fn rank_of(iid: &[u32; 128], links: usize, x: u32) -> usize
-    requires { (links ≤ 128) × (ascends iid.now links ≡ true) }
-    ensures { (result ≡ rank iid.now links x) × (result ≤ links) }
-{
-    let k = eighths_below(iid, links, x);
-    if k == 0 {
-        return 0;
-    }
-    let first = 8 * k - 8;
-    first + below_from(iid, first, least(8, links - first), x)
-}
-
-// The index of the link with identifier x, and the number of links where there is none.
-pub fn index_of(iid: &[u32; 128], links: usize, x: u32) -> usize
-    requires { (links ≤ 128) × (ascends iid.now links ≡ true) }
-    ensures { result ≡ index_of iid.now links x }
-{
-    let l = rank_of(iid, links, x);
-    if l < links {
-        if iid[l] == x {
-            return l;
-        }
-    }
-    links
-}
-
-// Whether the identifier x is in the plan.
-pub fn is_known(iid: &[u32; 128], links: usize, x: u32) -> bool
-    requires { (links ≤ 128) × (ascends iid.now links ≡ true) }
-    ensures { result ≡ known iid.now links x }
-{
-    index_of(iid, links, x) < links
 }

@@ -4,3 +4,4 @@ pub mod Refused
 pub mod Owners
 pub mod Names
 pub mod Alone
+pub mod Of

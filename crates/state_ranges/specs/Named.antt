@@ -7,7 +7,6 @@ use Rattle.laws.specs.Columns.{number_at, is_set}
 use Rattle.codec_wire.specs.Number.{be}
 use Rattle.state_tables.specs.Sound.{pair}
 use Rattle.state_lookup.specs.Links.{index_of, known}
-use Rattle.state_ranges.specs.declared.Refused.{Refused}
 
 -- ---- one identifier
 
@@ -27,6 +26,11 @@ is_owned_by iid owner links a x = known iid links x && eqb (owner_by_id iid owne
 -- how many identifiers it names
 abbrev pub span : ℕ → ℕ → ℕ
 span start stop = stop + 1 - start
+
+-- whether an identifier is refused, and which; else 0
+pub record Refused : Type 0 where
+  pub found : Bool
+  pub id : ℕ
 
 abbrev pub nothing : Refused
 nothing = record { found = false; id = 0 }

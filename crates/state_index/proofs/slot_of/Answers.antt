@@ -1,8 +1,7 @@
-use mathlib.Core.Path.{refl}
 use Rattle.state_index.specs.Inner.Spots.{slot_of, slot_small}
 use Rattle.state_index.proofs.slot_of.Goals as goal
 
 -- `state_index::slot_of`: the definition's own number. Assumes nothing.
 pub returns : goal.returns
 unfolding slot_of
-returns c = (refl, slot_small _)
+returns c = (rw c.from.ensures, rw c.from.ensures (slot_small c.args.x))

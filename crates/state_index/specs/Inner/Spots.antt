@@ -1,6 +1,7 @@
 -- The table of links by identifier: what stands at a spot, and what is found by it.
 -- Assumes nothing.
-use Rattle.std.specs.Prelude.{ℕ, ◌+◌, ◌-◌, ◌*◌, ◌/◌, ◌%◌, ◌<◌, ◌≤◌, ◌≡◌, true, cond, not, ◌&&◌, List, length, set, replicate}
+use Rattle.std.specs.Bool.{then_some}
+use Rattle.std.specs.Prelude.{ℕ, ◌+◌, ◌-◌, ◌*◌, ◌/◌, ◌%◌, ◌<◌, ◌≤◌, ◌≡◌, true, cond, not, ◌&&◌, List, Option, length, set, replicate}
 use Rattle.std.proofs.Common.{ap, ◌∙◌, length-set, get_or-set_same, get_or-set_other}
 use Rattle.std.proofs.Math.Path.{sym}
 use Rattle.std.proofs.Math.Bool.{false}
@@ -15,7 +16,7 @@ use Rattle.laws.specs.Inner.Rank.{first_not}
 use Rattle.state_tables.specs.Sound.{ascends}
 use Rattle.state_lookup.specs.Links.{index_of, known}
 use Rattle.state_lookup.specs.Inner.Links.{index_own}
-use Rattle.state_index.specs.declared.Found.{Found}
+use Rattle.state_lookup.specs.Inner.Index.{IndexIs}
 
 -- the spot of an identifier
 unfoldable pub slot_of : ℕ → ℕ
@@ -26,12 +27,6 @@ pub record Spots (t iid : List ℕ) (n : ℕ) : Type 0 where
   pub long : length t ≡ 1024
   pub stands : (l : ℕ) → l < n → (number_at t (slot_of (number_at iid l)) ≡ 255 → ⊥) → number_at t (slot_of (number_at iid l)) ≡ l + 1
   pub within : (h : ℕ) → h < 1024 → (number_at t h ≡ 255 → ⊥) → number_at t h ≤ n
-
--- what is found of x: whether it is known, and then where
-pub record Finds (iid : List ℕ) (links x : ℕ) (f : Found) : Type 0 where
-  pub known_is : f.known ≡ known iid links x
-  pub at_is : known iid links x ≡ true → f.at ≡ index_of iid links x
-  pub small : f.at < 128
 
 pub slot_small : (x : ℕ) → slot_of x < 1024
 unfolding slot_of
@@ -106,38 +101,19 @@ module _ {t iid : List ℕ} {links : ℕ} (s : Spots t iid links) (up : ascends 
   unfolding index_of
   absent g = first_not (λ l. eqb (number_at iid l) x) links (λ i q. ne_eqb (number_at iid i) x (g i q))
 
-  pub spot_finds : (l : ℕ) → l ≡ cond (eqb m 0) 0 (m - 1) → links ≤ 128 → (f : Found) → f.known ≡ (not (eqb m 0) && eqb (number_at iid l) x) → f.at ≡ l → Finds iid links x f
-  unfolding known
-  spot_finds l w few f k p = go (ℕ_discrete m 0) (ℕ_discrete (number_at iid l) x)
+  -- x stands there just where the test says so
+  pub spot_finds : (l : ℕ) → l ≡ cond (eqb m 0) 0 (m - 1) → (r : Option ℕ) → r ≡ then_some (not (eqb m 0) && eqb (number_at iid l) x) l → IndexIs iid links x r
+  spot_finds l w r k = rw k (go (ℕ_discrete m 0) (ℕ_discrete (number_at iid l) x))
     where
       here : (m ≡ 0 → ⊥) → l < links
       here z = let v : l ≡ m - 1 = w ∙ rw (ne_eqb m 0 z) in omega (arith, e, s.within (slot_of x) (slot_small x) (λ y. one (e ∙ y)))
 
-      none : f.known ≡ false → f.at < 128 → ((i : ℕ) → i < links → number_at iid i ≡ x → ⊥) → Finds iid links x f
-      none n b g =
-          let u : ltb (index_of iid links x) links ≡ false = rw (absent g) (le-ltb links links (omega arith)) in
-          record { known_is = n ∙ sym u; at_is = λ y. absurd (false≢true (sym u ∙ y)); small = b }
-
-      go : Dec (m ≡ 0) → Dec (number_at iid l ≡ x) → Finds iid links x f
-      go (yes z) d = let v : l ≡ 0 = w ∙ rw (eq-eqb m 0 z) in none (k ∙ rw (eq-eqb m 0 z)) (omega (arith, p)) (λ i b y. omega (arith, only i b y))
+      go : Dec (m ≡ 0) → Dec (number_at iid l ≡ x) → IndexIs iid links x (then_some (not (eqb m 0) && eqb (number_at iid l) x) l)
+      go (yes z) d = rw (eq-eqb m 0 z) (sym (absent (λ i b y. omega (arith, only i b y))))
       go (no z) (yes y) =
           let b : l < links = here z in
-          let i : index_of iid links x ≡ l = rw y at (index_own iid links up l b) in
-          record { known_is = k ∙ rw (ne_eqb m 0 z, eq-eqb (number_at iid l) x y, i, lt-ltb l links b); at_is = λ u. p ∙ sym i; small = omega (arith, p) }
+          rw (ne_eqb m 0 z, eq-eqb (number_at iid l) x y) (sym (rw y at (index_own iid links up l b)), b)
       go (no z) (no y) =
           let v : l ≡ m - 1 = w ∙ rw (ne_eqb m 0 z) in
-          none (k ∙ rw (ne_eqb m 0 z, ne_eqb (number_at iid l) x y)) (omega (arith, p, here z))
-          (λ i b q. y (let j : l ≡ i = omega (arith, only i b q) in ap (number_at iid) j ∙ q))
-
--- ---- what a search finds
-
-module _ (iid : List ℕ) (links x : ℕ) {l : ℕ} (e : l ≡ index_of iid links x) where
-  pub searched_known : l < links → links ≤ 128 → Finds iid links x (record { known = true; at = l })
-  unfolding known
-  searched_known b few = record { known_is = rw (← e) (sym (lt-ltb l links b)); at_is = λ u. e; small = omega arith }
-
-  pub searched_none : links ≤ l → Finds iid links x (record { known = false; at = 0 })
-  unfolding known
-  searched_none b =
-      let u : ltb (index_of iid links x) links ≡ false = rw (← e) (le-ltb l links b) in
-      record { known_is = sym u; at_is = λ y. absurd (false≢true (sym u ∙ y)); small = omega arith }
+          rw (ne_eqb m 0 z, ne_eqb (number_at iid l) x y)
+          (sym (absent (λ i b q. y (let j : l ≡ i = omega (arith, only i b q) in ap (number_at iid) j ∙ q))))

@@ -1,7 +1,8 @@
 -- Laws of specs/Links.antt, and definitions that only code and proofs use.
 -- Assumes nothing.
 use Prim.Native.Nat.{ℕ, ◌+◌, ◌-◌, ◌*◌, ◌/◌, ◌<◌, ◌≤◌}
-use Rattle.std.specs.Prelude.{◌≡◌, refl, true, false, cond, List}
+use Rattle.std.specs.Prelude.{◌≡◌, refl, true, false, ◌&&◌, min, List}
+use Rattle.std.proofs.Math.Nat.{min-eq_left, min-eq_right}
 use Rattle.std.proofs.Common.{ap, ◌∙◌, arith}
 use Rattle.std.proofs.Math.Path.{sym}
 use Rattle.std.proofs.Math.Bool.{Bool}
@@ -12,7 +13,7 @@ use Rattle.laws.specs.Below.{first_below, count_below}
 use Rattle.laws.specs.Inner.Below.{first_at, count_small}
 use Rattle.laws.specs.Columns.{number_at}
 use Rattle.laws.specs.Inner.Rank.{count_prefix, count_all, count_split, count_rest, first_not, first_hit}
-use Rattle.laws.specs.Inner.Every.{count_not}
+use Rattle.laws.specs.Inner.Every.{count_not, and_left, and_right, clash}
 use Rattle.state_tables.specs.Sound.{ascends}
 use Rattle.state_tables.specs.Inner.Laws.{ascends_any}
 use Rattle.state_lookup.specs.Links.{index_of}
@@ -56,20 +57,18 @@ module _ (iid : List ℕ) (links : ℕ) (h : ascends iid links ≡ true) (x : �
       go i q (no l) (yes d) z = g (omega arith) (ap (number_at iid) (sym d) ∙ z)
       go i q (no l) (no d) z = omega (arith, rank_from (rank iid links x) (omega arith) (omega arith), ascends_any iid links h (rank iid links x) i (omega arith) q)
 
-  -- the same of a number that is the rank
-  pub index_found : (l : ℕ) → l ≡ rank iid links x → l < links → number_at iid l ≡ x → l ≡ index_of iid links x
-  index_found l e b z = e ∙ sym (index_here (rw e at b) (rw e at z))
+  -- the same of a number that is the rank, by the test
+  pub index_stands : (l : ℕ) → l ≡ rank iid links x → (ltb l links && eqb (number_at iid l) x) ≡ true → (l ≡ index_of iid links x) × (l < links)
+  index_stands l e h =
+      let b : l < links = ltb-true l links (and_left (ltb l links) (eqb (number_at iid l) x) h) in
+      let z : number_at iid l ≡ x = eqb-true (number_at iid l) x (and_right (ltb l links) (eqb (number_at iid l) x) h) in
+      (e ∙ sym (index_here (rw e at b) (rw e at z)), b)
 
-  pub index_none : (l : ℕ) → l ≡ rank iid links x → (l < links → number_at iid l ≡ x → ⊥) → links ≡ index_of iid links x
-  index_none l e g = sym (index_not (λ b z. g (rw (sym e) at b) (rw (sym e) at z)))
-
--- the lesser of two is at most the second
-pub least_most : (x y n : ℕ) → n ≡ cond (ltb x y) x y → n ≤ y
-least_most x y n e = go (dec_lt x y)
-  where
-    go : Dec (x < y) → n ≤ y
-    go (yes l) = let w : n ≡ x = e ∙ rw (lt-ltb x y l) in omega arith
-    go (no l) = let w : n ≡ y = e ∙ rw (le-ltb x y (omega arith)) in omega arith
+  pub index_stands_not : (l : ℕ) → l ≡ rank iid links x → (ltb l links && eqb (number_at iid l) x) ≡ false → links ≡ index_of iid links x
+  index_stands_not l e h = sym (index_not (λ b z. out (rw (sym e) at b) (rw (sym e) at z)))
+    where
+      out : l < links → number_at iid l ≡ x → ⊥
+      out b z = clash (ltb l links && eqb (number_at iid l) x) h (rw (lt-ltb l links b, eq-eqb (number_at iid l) x z))
 
 -- ---- the search: of every eighth identifier k are below x, so the rank lies in the last eighth of these
 
@@ -97,7 +96,7 @@ module _ (iid : List ℕ) (links : ℕ) (h : ascends iid links ≡ true) (x k : 
       go l b (no w) = omega (arith, first (omega arith), ascends_any iid links h 0 l (omega arith) b)
 
   -- else those before the last such eighth, and as many as are below x in it
-  pub eighths_some : (first n r : ℕ) → (k ≡ 0 → ⊥) → first ≡ 8 * k - 8 → n ≡ cond (ltb 8 (links - first)) 8 (links - first) → r ≡ count_below (λ j. ltb (number_at iid (first + j)) x) n → first + r ≡ rank iid links x
+  pub eighths_some : (first n r : ℕ) → (k ≡ 0 → ⊥) → first ≡ 8 * k - 8 → n ≡ min (links - first) 8 → r ≡ count_below (λ j. ltb (number_at iid (first + j)) x) n → first + r ≡ rank iid links x
   unfolding rank
   eighths_some first n r z f m c = rw c (go (dec_lt 8 (links - first)))
     where
@@ -130,10 +129,10 @@ module _ (iid : List ℕ) (links : ℕ) (h : ascends iid links ≡ true) (x k : 
 
       go : Dec (8 < links - first) → first + count_below (λ j. is_below (first + j)) n ≡ count_below is_below links
       go (yes b) =
-          let w : n ≡ 8 = m ∙ rw (lt-ltb 8 (links - first) b) in
+          let w : n ≡ 8 = m ∙ min-eq_right (omega arith) in
           within (first + 8) (rw w) ∙ sym (count_rest is_below (first + 8) links (omega arith) (λ l p q. after b l p q (ℕ_discrete l (first + 8))))
       go (no b) =
-          let w : n ≡ links - first = m ∙ rw (le-ltb 8 (links - first) (omega arith)) in
+          let w : n ≡ links - first = m ∙ min-eq_left (omega arith) in
           within links (omega (arith, inside))
 
 -- the identifier of a link is known, at that link

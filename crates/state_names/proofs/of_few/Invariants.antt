@@ -1,14 +1,14 @@
 use Prim.Native.Nat.{◌≤◌, ◌-◌}
 use mathlib.Core.Path.{◌≡◌}
 use mathlib.Core.Bool.{false}
-use Rattle.state_sets.specs.Inner.Bits.{flags_of}
+use Rattle.state_sets.specs.Inner.Members.{members}
 use Rattle.state_ranges.specs.Named.{entries}
-use Rattle.state_lookup.specs.Inner.Table.{Table}
 use Rattle.state_names.specs.Inner.Run.{Sofar}
+use Rattle.state_ranges.specs.Inner.Names.{as_refused}
 use Rattle.state_names.proofs.of_few.Given as goal
 
 abbrev pub invariant-loop-i : goal.invariant-loop-i
-invariant-loop-i l = Sofar l.iid l.owner l.links (flags_of l.mine) l.value l.initial.r.refused (flags_of l.initial.r.set) l.i l.r.refused (flags_of l.r.set) × (l.i ≤ l.n) × (l.n ≡ entries false l.value) × Table l.iid l.owner l.links
+invariant-loop-i l = Sofar l.links.ids.iid.now l.links.owner.now l.links.ids.count (members l.mine) l.value (as_refused l.initial.r.refused) (members l.initial.r.set) l.i (as_refused l.r.refused) (members l.r.set) × (l.i ≤ l.n) × (l.n ≡ entries false l.value)
 
 abbrev pub decreases-loop-i : goal.decreases-loop-i
 decreases-loop-i l = l.n - l.i

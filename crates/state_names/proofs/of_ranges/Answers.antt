@@ -2,15 +2,16 @@ use mathlib.Core.Path.{refl}
 use mathlib.Core.Bool.{true}
 use native.Mathlib.Omega.{arith}
 use borrow.Author.Rules.{rules}
-use Rattle.state_sets.specs.Inner.Bits.{flags_of, flags_long}
+use Rattle.state_sets.specs.Inner.Bits.{flags_long}
 use Rattle.state_ranges.specs.Named.{start_at, stop_at, entries}
-use Rattle.state_ranges.specs.Inner.Refused.{refused_by}
+use Rattle.state_ranges.specs.Inner.Of.{refused_of}
+use Rattle.state_ranges.specs.Inner.Names.{as_plain}
 use Rattle.state_names.specs.Inner.Entries.{refused_none, refused_more, refused_end, flags_none, flags_more, flags_end}
 use Rattle.state_names.proofs.of_ranges.Goals as goal
 
 pub loop-i-init : goal.loop-i-init
 unfolding entries
-loop-i-init c = (refused_none _ _ _ _ c.requires.2, flags_none _ _ _ _ (flags_long _), c.requires.1, search rules, refl, c.requires.0)
+loop-i-init c = (refused_none _ _ _ _ (as_plain _), flags_none _ _ _ _ (flags_long _), c.requires, search rules, refl)
 
 pub get32-start-requires : goal.get32-start-requires
 unfolding entries
@@ -20,17 +21,17 @@ pub get32-stop-requires : goal.get32-stop-requires
 unfolding entries
 get32-stop-requires c = omega (arith, c.loop-i.invariant.4)
 
-pub with_range-next-requires : goal.with_range-next-requires
-with_range-next-requires c = let i = c.loop-i.invariant in (i.5, i.2)
+pub with_range-r-requires : goal.with_range-r-requires
+with_range-r-requires c = c.loop-i.invariant.2
 
 pub loop-i-preserved : goal.loop-i-preserved
 unfolding start_at stop_at
 loop-i-preserved c =
-    let k = c.with_range-next.ensures in
+    let k = c.with_range-r.ensures in
     let i = c.loop-i.invariant in
     let p = c.get32-start.ensures in
     let q = c.get32-stop.ensures in
-    (refused_more true c.args.value.now c.loop-i.i _ _ p q (refused_by c.args.iid.now c.args.owner.now c.args.links (flags_of c.args.mine)) _ _ _ i.0 k.0.refused, flags_more true c.args.value.now c.loop-i.i _ _ p q _ _ _ _ i.1 k.0.set, k.1, search rules, i.4, i.5)
+    (refused_more true c.args.value.now c.loop-i.i _ _ p q (refused_of c.args.links c.args.mine) _ _ _ i.0 k.0.refused, flags_more true c.args.value.now c.loop-i.i _ _ p q _ _ _ _ i.1 k.0.set, k.1, search rules, i.4)
 
 pub returns : goal.returns
 returns c =

@@ -1,11 +1,7 @@
 use mathlib.Core.Path.{sym, ◌∙◌}
-use borrow.Author.Rules.{rules}
 use Rattle.state_ranges.specs.Inner.Ranks.{rank_at}
 use Rattle.state_names.proofs.rank_near.Goals as goal
 
-pub holds-requires : goal.holds-requires
-holds-requires c = search rules
-
 -- `state_names::rank_near`: the place where x stands is its rank. Assumes nothing.
 pub returns-then-holds : goal.returns-then-holds
-returns-then-holds c = rank_at _ _ c.requires.1 _ _ (sym c.holds.ensures ∙ c.if-holds.true)
+returns-then-holds c = rank_at _ _ c.args.ids.order _ _ (sym c.holds.ensures ∙ c.if-holds.true)

@@ -10,8 +10,7 @@ use Rattle.laws.specs.Below.{any_below}
 use Rattle.laws.specs.Inner.Below.{any_none, any_more}
 use Rattle.laws.specs.Columns.{flag_at, tabulate}
 use Rattle.laws.specs.Inner.Columns.{is_tabulate, tabulate_ext, get_d_tabulate}
-use Rattle.state_ranges.specs.declared.Refused.{Refused}
-use Rattle.state_ranges.specs.Named.{first_in, some_in, first_of, width, start_at, stop_at, entries, refused_entry, some_entry, refused_in, some_of}
+use Rattle.state_ranges.specs.Named.{Refused, first_in, some_in, first_of, width, start_at, stop_at, entries, refused_entry, some_entry, refused_in, some_of}
 use Rattle.state_ranges.specs.Inner.Refused.{not_found}
 use Rattle.state_ranges.specs.Inner.Names.{earlier, earlier_again, earlier_nothing, Plain, plain_earlier}
 

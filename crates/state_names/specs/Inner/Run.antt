@@ -8,15 +8,14 @@ use Rattle.std.proofs.Math.ListN.{set}
 use borrow.Author.Tests.{ltb-true, eqb-true}
 use Rattle.laws.specs.Columns.{flag_at, number_at, tabulate}
 use Rattle.laws.specs.Inner.Every.{and_left, and_right}
-use Rattle.state_sets.specs.Inner.Bits.{flags_of}
-use Rattle.state_ranges.specs.declared.Refused.{Refused}
+use Rattle.state_sets.specs.Inner.Members.{members}
 use Rattle.state_ranges.specs.declared.Named.{Named}
-use Rattle.state_ranges.specs.Named.{is_owned_by, first_in, some_in, first_of, start_at, entries, refused_entry, refused_in, some_of}
+use Rattle.state_ranges.specs.Named.{Refused, is_owned_by, first_in, some_in, first_of, start_at, entries, refused_entry, refused_in, some_of}
 use Rattle.state_lookup.specs.Inner.Table.{Table}
 use Rattle.state_ranges.specs.Inner.Refused.{refused_by}
 use Rattle.state_ranges.specs.Inner.Ranks.{rank_here}
 use Rattle.state_ranges.specs.Inner.Alone.{alone_marked, present_good}
-use Rattle.state_ranges.specs.Inner.Names.{earlier, earlier_nothing, Plain, Names}
+use Rattle.state_ranges.specs.Inner.Names.{earlier, earlier_nothing, Plain, as_refused, Names}
 use Rattle.state_names.specs.Inner.Entries.{alone_ends, Flags, flags_none, flags_more, flags_end, refused_none, refused_more, refused_end, refused_plain}
 
 -- x stands at place l, of an AS that mine has
@@ -49,7 +48,7 @@ module _ {iid owner : List ℕ} {links : ℕ} {mine : List Bool} {value : List �
   -- one more
   pub sofar_more : {i x : ℕ} {first : Refused} {now : List Bool} {r : Named} → Sofar iid owner links mine value old flags i first now → x ≡ start_at false value i
       → Names r (earlier first (first_in (refused_by iid owner links mine) x x)) (tabulate 16 (λ a. flag_at now a || some_in (is_owned_by iid owner links a) x x))
-      → Sofar iid owner links mine value old flags (i + 1) r.refused (flags_of r.set)
+      → Sofar iid owner links mine value old flags (i + 1) (as_refused r.refused) (members r.set)
   sofar_more {i} s p n =
       let q = p ∙ alone_ends false value i refl in
       record { refused = refused_more false value i _ _ p q (refused_by iid owner links mine) _ _ _ s.refused n.refused; set = flags_more false value i _ _ p q _ _ _ _ s.set n.set }
@@ -71,7 +70,7 @@ module _ {iid owner : List ℕ} {links : ℕ} {mine : List Bool} {value : List �
       }
 
   -- past the last one
-  pub sofar_end : {i : ℕ} {r : Named} → Sofar iid owner links mine value old flags i r.refused (flags_of r.set) → i ≡ entries false value
+  pub sofar_end : {i : ℕ} {r : Named} → Sofar iid owner links mine value old flags i (as_refused r.refused) (members r.set) → i ≡ entries false value
       → Names r (earlier old (refused_in (refused_by iid owner links mine) false value)) (tabulate 16 (λ a. flag_at flags a || some_of (is_owned_by iid owner links a) false value))
   sofar_end {i} s e = record { refused = refused_end false value i e _ _ _ s.refused; set = flags_end false value i e _ _ _ s.set }
 
@@ -81,3 +80,7 @@ goes_none h = record { on = omega arith; within = h; so = λ old first flags s. 
 pub goes_more : (l : ℕ) {iid owner value : List ℕ} {links i k x : ℕ} {mine now next last : List Bool} → Table iid owner links → GoesOn iid owner links mine value i now k next → k < entries false value
     → x ≡ start_at false value k → GoodAt iid owner links mine l x ≡ true → length next ≡ 16 → last ≡ set next (number_at owner l) true → GoesOn iid owner links mine value i now (k + 1) last
 goes_more l t g b p h n e = let o = g.on in record { on = omega arith; within = omega arith; so = λ old first flags s. sofar_good l t (g.so old first flags s) p h n e }
+
+-- at an entry that is the same number
+pub goes_end : {iid owner value : List ℕ} {links i k n : ℕ} {mine now next : List Bool} → GoesOn iid owner links mine value i now k next → k ≡ n → GoesOn iid owner links mine value i now n next
+goes_end g e = rw e at g

@@ -1,6 +1,7 @@
 -- An identifier alone is a range of one.
 -- Assumes nothing.
 use Rattle.std.specs.Prelude.{ℕ, ◌+◌, ◌-◌, ◌<◌, ◌≡◌, refl, Bool, true, ◌||◌, ◌&&◌, not, List, eqb, ltb, length, set}
+use Rattle.std.specs.Bool.{then_some}
 use Rattle.std.proofs.Common.{◌∙◌, sym, arith, length-set, get_or-set_same, get_or-set_other}
 use Rattle.std.proofs.Math.Bool.{false}
 use Rattle.std.proofs.Math.Decide.{ℕ_discrete}
@@ -13,6 +14,7 @@ use Rattle.state_lookup.specs.Links.{index_of, known}
 use Rattle.state_lookup.specs.Inner.Links.{rank, index_own, index_not}
 use Rattle.state_ranges.specs.Named.{owner_by_id, is_owned_by, nothing, refusing, first_in, some_in}
 use Rattle.state_lookup.specs.Inner.Table.{Table}
+use Rattle.state_ranges.specs.Inner.Names.{as_refused}
 use Rattle.state_ranges.specs.Inner.Refused.{refused_by, refused_here, good_none, good_more, refuses_at, none_refused}
 
 or_none : (u : Bool) → u ≡ (u || false)
@@ -78,6 +80,11 @@ module _ (iid owner : List ℕ) (links : ℕ) (t : Table iid owner links) (mine 
 
   pub present_refused : flag_at mine (number_at owner l) ≡ false → refusing x ≡ first_in (refused_by iid owner links mine) x x
   present_refused f = alone_refused (refused_by iid owner links mine) x (by_owner ∙ rw f)
+
+  -- both, as code has it: v says whether mine has its AS
+  pub present_refusal : (v : Bool) → v ≡ flag_at mine (number_at owner l) → as_refused (then_some (not v) x) ≡ first_in (refused_by iid owner links mine) x x
+  present_refusal true f = present_good (sym f)
+  present_refusal false f = present_refused (sym f)
 
 -- it stands there by a test
 pub stands_at : (iid : List ℕ) (links l x : ℕ) → (ltb l links && eqb (number_at iid l) x) ≡ true → (l < links) × (number_at iid l ≡ x)

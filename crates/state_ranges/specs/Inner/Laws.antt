@@ -2,7 +2,7 @@
 -- Assumes nothing.
 use Rattle.std.specs.Prelude.{ℕ, ◌<◌, ◌≤◌, ◌≡◌, true, List}
 use Rattle.laws.specs.Columns.{number_at}
-use Rattle.state_tables.specs.Sound.{ascends, all_under, is_sound}
+use Rattle.state_tables.specs.Sound.{all_under, is_sound}
 use Rattle.state_tables.specs.Inner.Laws.{parts, links_parts, counts_within}
 use Rattle.state_tables.specs.Inner.Column.{column_all, under_at, under_fewer, under_wider}
 use Rattle.state_lookup.specs.Inner.Table.{Table}

@@ -1,12 +1,13 @@
 -- What one pass over identifiers finds (Rule 7.8).
 -- Assumes nothing.
-use Rattle.std.specs.Prelude.{◌≡◌, refl, Bool, true, false, cond, List, ℕ}
+use Rattle.std.specs.Prelude.{◌≡◌, refl, Bool, true, false, cond, List, Option, Some, None, ℕ}
+use Rattle.std.specs.Option.{option_or, is_some}
 use Rattle.std.proofs.Common.{ap, ◌∙◌, sym}
 use Rattle.std.proofs.lemmas.Bool.{false≢true}
-use Rattle.state_sets.specs.Inner.Bits.{flags_of}
-use Rattle.state_ranges.specs.declared.Refused.{Refused}
+use Rattle.state_sets.specs.declared.AsSet.{AsSet}
+use Rattle.state_sets.specs.Inner.Members.{members}
 use Rattle.state_ranges.specs.declared.Named.{Named}
-use Rattle.state_ranges.specs.Named.{nothing, refusing}
+use Rattle.state_ranges.specs.Named.{Refused, nothing, refusing}
 
 -- the one found before, if there is one, else the next
 unfoldable pub earlier : Refused → Refused → Refused
@@ -19,15 +20,6 @@ earlier_found old next e = rw e
 pub earlier_none : (old next : Refused) → old.found ≡ false → earlier old next ≡ next
 unfolding earlier
 earlier_none old next e = rw e
-
--- of one more that is refused: the first is one
-pub earlier_refusing : (old : Refused) (x : ℕ) → refusing (cond old.found old.id x) ≡ earlier old (refusing x)
-unfolding earlier
-earlier_refusing old x = go old.found refl
-  where
-    go : (u : Bool) → old.found ≡ u → refusing (cond u old.id x) ≡ cond u old (refusing x)
-    go true e = λ i. record { found = sym e i; id = old.id }
-    go false e = refl
 
 pub earlier_again : (x y z : Refused) → earlier (earlier x y) z ≡ earlier x (earlier y z)
 unfolding earlier
@@ -57,11 +49,26 @@ earlier_nothing x h = go x.found refl
     go true e = refl
     go false e = sym (h e)
 
+-- ---- as code has it
+
+abbrev pub as_refused : Option ℕ → Refused
+as_refused None = nothing
+as_refused (Some x) = refusing x
+
+pub as_plain : (r : Option ℕ) → Plain (as_refused r)
+as_plain None e = refl
+as_plain (Some x) e = absurd (false≢true (sym e))
+
+pub as_or : (old next : Option ℕ) → as_refused (option_or old next) ≡ earlier (as_refused old) (as_refused next)
+unfolding earlier
+as_or None next = refl
+as_or (Some x) next = refl
+
+pub as_found : (r : Option ℕ) → (as_refused r).found ≡ is_some r
+as_found None = refl
+as_found (Some x) = refl
+
 -- the first refused identifier, and the owners' flags
 pub record Names (r : Named) (first : Refused) (owners : List Bool) : Type 0 where
-  pub refused : r.refused ≡ first
-  pub set : flags_of r.set ≡ owners
-
--- what is handed back holds both
-pub names_both : {r : Named} {first f : Refused} {owners : List Bool} {s : ℕ} → r.refused ≡ f → f ≡ first → r.set ≡ s → flags_of s ≡ owners → Names r first owners
-names_both e f g h = record { refused = e ∙ f; set = ap flags_of g ∙ h }
+  pub refused : as_refused r.refused ≡ first
+  pub set : members r.set ≡ owners

@@ -1,14 +1,15 @@
 -- The owners of neighbouring places, each looked at once in a message.
 -- Assumes nothing.
-use Rattle.std.specs.Prelude.{ℕ, zero, suc, ◌+◌, ◌<◌, ◌≤◌, ◌≡◌, refl, Bool, ◌||◌, ◌&&◌, cond, List, [], ◌∷◌, eqb, leb, ltb, length, set, replicate}
+use Rattle.std.specs.Prelude.{ℕ, zero, suc, ◌+◌, ◌<◌, ◌≤◌, ◌≡◌, refl, Bool, ◌||◌, ◌&&◌, max, List, [], ◌∷◌, eqb, leb, length, set, replicate}
 use Rattle.std.proofs.Common.{ap, ◌∙◌, sym, arith, get_or-set_other}
 use Rattle.std.proofs.Math.Bool.{true, false}
 use Rattle.std.proofs.lemmas.Bool.{false≢true}
+use Rattle.std.proofs.Math.Nat.{max-le}
 use Rattle.std.proofs.Math.Decide.{dec_lt, ℕ_discrete}
 use Rattle.std.proofs.Math.ListN.{length-set}
 use Rattle.std.proofs.lemmas.List.{get_or-replicate}
 use Rattle.std.proofs.Math.Seq.{get_or-set_same}
-use borrow.Author.Tests.{eq-eqb, le-leb, leb-true, eqb-true, lt-ltb, le-ltb}
+use borrow.Author.Tests.{eq-eqb, le-leb, leb-true, eqb-true}
 use Rattle.laws.specs.Below.{any_below}
 use Rattle.laws.specs.Inner.Below.{any_at, any_in}
 use Rattle.laws.specs.Columns.{flag_at, number_at, tabulate}
@@ -74,14 +75,14 @@ walk_start {owner} {far} {old} first past h =
 
 -- the later of two numbers
 module _ (next past j : ℕ) where
-  later_case : j < cond (ltb next past) past next → (j < next → ⊥) → j < past
-  later_case q n = go (dec_lt next past) q
+  later_case : j < max next past → (j < next → ⊥) → j < past
+  later_case q n = go (dec_lt j past)
     where
-      go : Dec (next < past) → j < cond (ltb next past) past next → j < past
-      go (yes b) c = rw (lt-ltb next past b) at c
-      go (no b) c = absurd (n (rw (le-ltb next past (omega arith)) at c))
+      go : Dec (j < past) → j < past
+      go (yes b) = b
+      go (no b) = let m : max next past ≤ j = max-le (omega arith) (omega arith) in absurd (let z : ⊥ = omega arith in z)
 
-module _ {owner far : List ℕ} {old r : List Bool} {first l past : ℕ} (h : Walking owner far old r first l past) (b : l < 128) (m : ℕ) (e : m ≡ cond (ltb (number_at far l) past) past (number_at far l)) where
+module _ {owner far : List ℕ} {old r : List Bool} {first l past : ℕ} (h : Walking owner far old r first l past) (b : l < 128) (m : ℕ) (e : m ≡ max (number_at far l) past) where
   at_same : number_at (set far l m) l ≡ m
   at_same = get_or-set_same far l m 0 (omega (arith, h.long))
 
@@ -107,7 +108,7 @@ module _ {owner far : List ℕ} {old r : List Bool} {first l past : ℕ} (h : Wa
       turn k j u p c n (yes z) (yes w) d = skipped j (omega arith) (omega arith)
       turn k j u p c n (yes z) (no w) d =
           let t : number_at (set far l m) k ≡ m = rw z at_same in
-          let g : j < cond (ltb (number_at far l) past) past (number_at far l) = rw (t ∙ e) at c in
+          let g : j < max (number_at far l) past = rw (t ∙ e) at c in
           absurd (n (omega arith) (omega arith) (later_case (number_at far l) past j g (λ x. w (omega arith))))
       turn k j u p c n (no z) (yes w) (no d) = skipped j (omega arith) (omega arith)
       turn k j u p c n (no z) w (yes d) = h.done k j u p (rw (get_or-set_other far l k m 0 z) at c) (λ x y v. absurd (let t : ⊥ = omega arith in t))
@@ -150,7 +151,7 @@ module _ {owner far : List ℕ} {old r : List Bool} {first l past : ℕ} (h : Wa
       turn k j u p x n (yes z) d = rw z here
       turn k j u p x n (no z) (yes d) =
           let t : number_at (set far l m) k ≡ m = rw d at_same in
-          let g : j < cond (ltb (number_at far l) past) past (number_at far l) = rw (t ∙ e) at x in
+          let g : j < max (number_at far l) past = rw (t ∙ e) at x in
           absurd (n (omega arith) (omega arith) (later_case (number_at far l) past j g (λ w. omega arith)))
       turn k j u p x n (no z) (no d) = more _ (h.done k j u p (rw (get_or-set_other far l k m 0 d) at x) (λ s y v. n (omega arith) (omega arith) v))
 

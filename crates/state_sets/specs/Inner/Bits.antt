@@ -8,6 +8,7 @@ use Rattle.std.proofs.lemmas.List.{get_or-replicate}
 use Rattle.std.specs.Int.Bits.{bit_and, bit_or, and_step, or_step, or_zero_r, shifted_even}
 use Rattle.std.proofs.lemmas.Nat.{and_shr, or_shr, shl-shr, mod-pow-add}
 use Rattle.std.proofs.Math.Pow.{pow-lt, mod-mod-pow, field}
+use mir.Val.{bool_byte}
 use Rattle.laws.specs.Below.{any_below, all_below}
 use Rattle.laws.specs.Inner.Every.{all_ext, and_left, and_right, and_both, same_truth}
 use Rattle.laws.specs.Columns.{flag_at, tabulate}
@@ -98,10 +99,10 @@ flags_with n a h = sym (is_tabulate false (set (flags_of n) a true) 16 (bit_at (
     at b q (yes e) = rw e (get_or-set_same (flags_of n) a true false (let l = flags_long n in omega arith) ∙ sym (bit_or_lem n (1 * 2 ^ a) a ∙ rw (bit_own a) (or_true (bit_at n a))))
     at b q (no e) = get_or-set_other (flags_of n) a b true false e ∙ flag_is n b q ∙ sym (bit_or_lem n (1 * 2 ^ a) b ∙ rw (bit_other a b e) (or_none (bit_at n b)))
 
--- one AS more where t holds: b is 1 or 0
-pub flags_if : (n a b : ℕ) (t : Bool) → a < 16 → b ≡ cond t 1 0 → flags_of (bit_or n (b * 2 ^ a % 2 ^ 32)) ≡ cond t (set (flags_of n) a true) (flags_of n)
-flags_if n a b true h e = rw e (ap (λ x. flags_of (bit_or n x)) (shl_exact 1 a 32 (omega arith) (omega arith)) ∙ flags_with n a h)
-flags_if n a b false h e = rw e (ap (λ x. flags_of (bit_or n x)) (zero_shifted a) ∙ ap flags_of (or_zero_r n))
+-- one AS more where t holds
+pub flags_if : (n a : ℕ) (t : Bool) → a < 16 → flags_of (bit_or n (bool_byte t * 2 ^ a % 2 ^ 32)) ≡ cond t (set (flags_of n) a true) (flags_of n)
+flags_if n a true h = ap (λ x. flags_of (bit_or n x)) (shl_exact 1 a 32 (omega arith) (omega arith)) ∙ flags_with n a h
+flags_if n a false h = ap (λ x. flags_of (bit_or n x)) (zero_shifted a) ∙ ap flags_of (or_zero_r n)
   where
     zero_shifted : (a : ℕ) → 0 * 2 ^ a % 2 ^ 32 ≡ 0
     zero_shifted a = omega arith
@@ -112,8 +113,8 @@ pub flag_zero : (a : ℕ) → a < 16 → flag_at (flags_of 0) a ≡ false
 flag_zero a b = ap (λ (l : List Bool). flag_at l a) flags_zero ∙ get_or-replicate 16 a false false b
 
 -- none of the ASes was looked at
-pub half_zero : (f : ℕ → Bool) → Half f (flag_at (flags_of 0)) 16 0 (flags_of 0)
-half_zero f = half_none f 16 (flags_of 0) (flags_long 0)
+pub half_empty : (f : ℕ → Bool) {l : List Bool} → l ≡ replicate 16 false → Half f (flag_at (flags_of 0)) 16 0 l
+half_empty f e = rw (e ∙ sym flags_zero) (half_none f 16 (flags_of 0) (flags_long 0))
 
 -- AS k is looked at
 pub half_if : (f : ℕ → Bool) (k : ℕ) {l next : List Bool} (t : Bool) → Half f (flag_at (flags_of 0)) 16 k l → k < 16 → t ≡ f k → next ≡ cond t (set l k true) l → Half f (flag_at (flags_of 0)) 16 (k + 1) next

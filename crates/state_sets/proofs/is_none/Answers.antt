@@ -1,6 +1,0 @@
-use Rattle.state_sets.specs.Inner.Bits.{none_bits}
-use Rattle.state_sets.proofs.is_none.Goals as goal
-
--- `state_sets::is_none`: the sixteen digits are 0. Assumes nothing.
-pub returns : goal.returns
-returns c = none_bits c.args.bits
