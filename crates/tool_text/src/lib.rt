@@ -1,13 +1,17 @@
 // Text in and out: the words of a line, decimal numbers and lower-case hex.
 #![tactic(auto)]
 
-ghost use Rattle.std.specs.Prelude.{◌≡◌, ◌≢◌, ℕ, ◌+◌, ◌*◌, ◌-◌, ◌%◌, ◌≤◌, ◌<◌, length, take, slice_index, [], ◌∷◌, ◌++◌};
+ghost use Rattle.std.specs.Prelude.{◌≡◌, ◌≢◌, ◌==◌, position, IfSome, ℕ, ◌+◌, ◌*◌, ◌-◌, ◌/◌, ◌%◌, ◌≤◌, ◌<◌, length, take, slice_index, [], ◌∷◌, ◌++◌};
 ghost use Rattle.tool_text.specs.Put.{Put};
 ghost use Rattle.tool_text.specs.Digits.{glyph, digits, places, decimal, pair, hex};
 ghost use Rattle.tool_text.specs.Word.{word_in, rest_in, same};
 ghost use Rattle.tool_text.specs.Inner.Word.{Blank};
 ghost use Rattle.tool_text.specs.Parse.{nibble_of, octet_of, is_dash};
-ghost use Rattle.tool_text.specs.Inner.Parse.{add_digit, number_of, Bytes, Octets};
+ghost use Rattle.tool_text.specs.Inner.Parse.{nibble_in, octet_in, add_digit, number_of, Bytes, Octets};
+
+mod buffer;
+
+pub use buffer::Text;
 
 // ---- Writing. Each function puts its text into `out` from `at` on and returns the place after it.
 
@@ -36,41 +40,25 @@ fn digit(x: u8) -> u8
     requires { x < 16 }
     ensures { result ≡ glyph x }
 {
-    if x < 10 { 48 + x } else { 87 + x }
+    if x < 10 { b'0' + x } else { b'a' + (x - 10) }
 }
 
 // How many decimal digits a number has.
 fn width(n: u32) -> usize
     ensures { (result ≡ places n) × (0 < result) × (result ≤ 10) }
 {
-    if n < 10 {
-        return 1;
+    match n {
+        ..10 => 1,
+        ..100 => 2,
+        ..1000 => 3,
+        ..10000 => 4,
+        ..100000 => 5,
+        ..1000000 => 6,
+        ..10000000 => 7,
+        ..100000000 => 8,
+        ..1000000000 => 9,
+        _ => 10,
     }
-    if n < 100 {
-        return 2;
-    }
-    if n < 1000 {
-        return 3;
-    }
-    if n < 10000 {
-        return 4;
-    }
-    if n < 100000 {
-        return 5;
-    }
-    if n < 1000000 {
-        return 6;
-    }
-    if n < 10000000 {
-        return 7;
-    }
-    if n < 100000000 {
-        return 8;
-    }
-    if n < 1000000000 {
-        return 9;
-    }
-    10
 }
 
 // The last k decimal digits of a number.
@@ -139,157 +127,101 @@ pub fn put_hex(out: &mut [u8; 65536], at: usize, s: &[u8]) -> usize
 
 // ---- Reading.
 
-// A word as a number of 32 bits.
-#[derive(Drop)]
-pub enum Number {
-    Value(u32),
-    NoNumber,
-}
-
-// A number with one more decimal digit.
-fn add_digit(n: u32, b: u8) -> Number
+// A number with one more decimal digit; none where the character is no digit or the number doesn't fit 32
+// bits.
+fn add_digit(n: u32, b: u8) -> Option<u32>
     ensures { result ≡ add_digit n b }
 {
-    if b < 48 {
-        return Number::NoNumber;
-    }
-    if b > 57 {
-        return Number::NoNumber;
-    }
-    let m = (n as u64) * 10 + ((b - 48) as u64);
-    if m > 4294967295 {
-        return Number::NoNumber;
-    }
-    Number::Value(m as u32)
+    let digit = match b {
+        b'0'..=b'9' => b - b'0',
+        _ => return None,
+    };
+    n.checked_mul(10)?.checked_add(u32::from(digit))
 }
 
-// A word as a decimal number.
-pub fn number_of(w: &[u8]) -> Number
+// A word as a decimal number of 32 bits.
+pub fn number_of(w: &[u8]) -> Option<u32>
     ensures { result ≡ number_of w.now }
 {
-    if w.len() == 0 {
-        return Number::NoNumber;
+    if w.is_empty() {
+        return None;
     }
     let mut n = 0;
-    let mut i = 0;
-    while i < w.len() {
-        let more = add_digit(n, w[i]);
-        let Number::Value(m) = more else {
-            return Number::NoNumber;
-        };
-        n = m;
-        i += 1;
+    for b in w {
+        n = add_digit(n, *b)?;
     }
-    Number::Value(n)
+    Some(n)
 }
 
-// The value of a lower-case hex digit; 16 where it is none.
-fn nibble(b: u8) -> u8
-    ensures { (result ≡ nibble_of b) × (result ≤ 16) }
+// The value of a lower-case hex digit.
+fn nibble(b: u8) -> Option<u8>
+    ensures value { result ≡ nibble_in b }
+    ensures small { IfSome result (λ x. x < 16) }
 {
-    if b < 48 {
-        return 16;
+    match b {
+        b'0'..=b'9' => Some(b - b'0'),
+        b'a'..=b'f' => Some(b - b'a' + 10),
+        _ => None,
     }
-    if b < 58 {
-        return b - 48;
-    }
-    if b < 97 {
-        return 16;
-    }
-    if b < 103 {
-        return b - 87;
-    }
-    16
 }
 
-// The byte of two hex digits; 256 where one is none.
-pub fn octet(h: u8, l: u8) -> u16
-    ensures { (result ≡ octet_of h l) × (result ≤ 256) }
+// The byte of two hex digits.
+pub fn octet(h: u8, l: u8) -> Option<u8>
+    ensures { result ≡ octet_in h l }
 {
-    let x = nibble(h);
-    if x > 15 {
-        return 256;
-    }
-    let y = nibble(l);
-    if y > 15 {
-        return 256;
-    }
-    (x * 16 + y) as u16
+    Some(nibble(h)? * 16 + nibble(l)?)
 }
 
-// A word as bytes: how many.
-#[derive(Drop)]
-pub enum Size {
-    Count(usize),
-    NoBytes,
-}
-
-// A word that is one `-`.
-fn is_dash(w: &[u8]) -> bool
-    ensures { result ≡ is_dash w.now }
-{
-    if w.len() != 1 {
-        return false;
-    }
-    w[0] == 45
-}
-
-// A word of hex digits, or `-` for no bytes, put into the first bytes of a buffer.
-pub fn bytes_of(w: &[u8], bytes: &mut [u8; 32768]) -> Size
+// A word of hex digits, or `-` for no bytes, put into the first bytes of a buffer: how many.
+pub fn bytes_of(w: &[u8], bytes: &mut [u8; 32768]) -> Option<usize>
     requires { length w.now ≤ 65536 }
     ensures { Bytes w.now bytes.old bytes.new result }
 {
-    if is_dash(w) {
-        return Size::Count(0);
+    if is(w, b"-") {
+        return Some(0);
     }
-    if w.len() == 0 {
-        return Size::NoBytes;
-    }
-    if w.len() % 2 != 0 {
-        return Size::NoBytes;
+    if w.is_empty() {
+        return None;
     }
     octets_of(w, bytes)
 }
 
-// An even number of hex digits as bytes.
-fn octets_of(w: &[u8], bytes: &mut [u8; 32768]) -> Size
-    requires { (length w.now ≤ 65536) × (length w.now % 2 ≡ 0) }
+// Hex digits, put into the first bytes of a buffer with room for them: how many bytes.
+pub fn octets_of(w: &[u8], bytes: &mut [u8]) -> Option<usize>
+    requires { length w.now / 2 ≤ length bytes.old }
     ensures { Octets w.now bytes.old bytes.new result }
 {
     let n = w.len() / 2;
-    let mut i = 0;
-    while i < n {
-        let v = octet(w[2 * i], w[2 * i + 1]);
-        if v > 255 {
-            return Size::NoBytes;
-        }
-        bytes[i] = v as u8;
-        i += 1;
+    if w.len() % 2 != 0 {
+        return None;
     }
-    Size::Count(n)
+    for i in 0..n {
+        bytes[i] = octet(w[2 * i], w[2 * i + 1])?;
+    }
+    Some(n)
 }
 
 // ---- Words, which one blank separates.
+
+// Where a byte first stands.
+fn place_of(s: &[u8], b: u8) -> Option<usize>
+    ensures { result ≡ position (λ x. x == b) s.now }
+{
+    s.iter().position(|x| *x == b)
+}
 
 // Where the first blank of a line stands; its length where there is none.
 fn blank_at(line: &[u8]) -> usize
     ensures { Blank line.now result }
 {
-    let mut i = 0;
-    while i < line.len() {
-        if line[i] == b' ' {
-            return i;
-        }
-        i += 1;
-    }
-    i
+    place_of(line, b' ').unwrap_or(line.len())
 }
 
 // The first word of a line.
 pub fn word_of(line: &[u8]) -> &[u8]
     ensures { result.now ≡ word_in line.now }
 {
-    first(line, blank_at(line))
+    &line[..blank_at(line)]
 }
 
 // What follows the first blank of a line; nothing where there is none.
@@ -298,10 +230,7 @@ pub fn rest_of(line: &[u8]) -> &[u8]
     ensures result_in_bounds { length result.now ≤ length line.now }
 {
     let at = blank_at(line);
-    if at < line.len() {
-        return &line[at + 1..];
-    }
-    &line[..0]
+    &line[(at + 1).min(line.len())..]
 }
 
 // Where a byte first stands in `s`, from a place on; the length of `s` where it stands nowhere there.
@@ -312,31 +241,17 @@ pub fn find(s: &[u8], from: usize, b: u8) -> usize
     ensures before { (k : ℕ) → from ≤ k → k < result → slice_index s.now k ≢ b }
     ensures found { result < length s.now → slice_index s.now result ≡ b }
 {
-    let mut i = from;
-    while i < s.len() {
-        if s[i] == b {
-            return i;
-        }
-        i += 1;
+    match place_of(&s[from..], b) {
+        Some(at) => from + at,
+        None => s.len(),
     }
-    i
 }
 
 // Two words are the same.
 pub fn is(word: &[u8], name: &[u8]) -> bool
     ensures { result ≡ same word.now name.now }
 {
-    if word.len() != name.len() {
-        return false;
-    }
-    let mut i = 0;
-    while i < word.len() {
-        if word[i] != name[i] {
-            return false;
-        }
-        i += 1;
-    }
-    true
+    word == name
 }
 
 // ---- Lines.
@@ -355,11 +270,8 @@ pub fn collect(line: &mut [u8; 65536], held: usize, part: &[u8]) -> usize
 }
 
 // The first bytes of a buffer; all of it where it has no more.
-pub fn first(s: &[u8], n: usize) -> &[u8]
+pub fn first<T>(s: &[T], n: usize) -> &[T]
     ensures { result.now ≡ take n s.now }
 {
-    if n < s.len() {
-        return &s[..n];
-    }
-    s
+    &s[..n.min(s.len())]
 }

@@ -1,24 +1,27 @@
 use Rattle.tool_text.specs.Parse.{nibble_of}
+use Rattle.tool_text.proofs.Parses.{nibble_some, nibble_none}
+use mathlib.Core.Path.{◌≡◌, ◌∙◌}
+use Prim.Native.Nat.{◌+◌, ◌-◌}
 use native.Mathlib.Omega.{arith}
 use Rattle.laws.specs.Inner.Choice.{choices}
 use Rattle.tool_text.proofs.nibble.Goals as goal
 
-pub returns-then-b-lt48 : goal.returns-then-b-lt48
+pub returns-in-48-to-57-clause-value : goal.returns-in-48-to-57-clause-value
 unfolding nibble_of
-returns-then-b-lt48 c = (search choices depth 12, omega arith)
+returns-in-48-to-57-clause-value c = nibble_some c.args.b (c.args.b - 48) (search choices depth 12) (omega arith)
 
-pub returns-then-b-lt58 : goal.returns-then-b-lt58
+pub returns-in-97-to-102-clause-value : goal.returns-in-97-to-102-clause-value
 unfolding nibble_of
-returns-then-b-lt58 c = (search choices depth 12, omega arith)
+returns-in-97-to-102-clause-value c = let b = c.args.b in let e : b - 97 + 10 ≡ b - 87 = omega arith in nibble_some b (b - 97 + 10) (e ∙ search choices depth 12) (omega arith)
 
-pub returns-then-b-lt97 : goal.returns-then-b-lt97
+pub returns-in_default-clause-value : goal.returns-in_default-clause-value
 unfolding nibble_of
-returns-then-b-lt97 c = (search choices depth 12, omega arith)
+returns-in_default-clause-value c = nibble_none c.args.b (search choices depth 12)
 
-pub returns-then-b-lt103 : goal.returns-then-b-lt103
+pub returns-in_default-2-clause-value : goal.returns-in_default-2-clause-value
 unfolding nibble_of
-returns-then-b-lt103 c = (search choices depth 12, omega arith)
+returns-in_default-2-clause-value c = nibble_none c.args.b (search choices depth 12)
 
-pub returns : goal.returns
+pub returns-in_default-3-clause-value : goal.returns-in_default-3-clause-value
 unfolding nibble_of
-returns c = (search choices depth 12, omega arith)
+returns-in_default-3-clause-value c = nibble_none c.args.b (search choices depth 12)

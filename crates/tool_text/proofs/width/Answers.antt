@@ -1,44 +1,64 @@
 use Rattle.tool_text.specs.Digits.{places}
-use native.Mathlib.Omega.{arith}
-use Rattle.laws.specs.Inner.Choice.{choices}
+use Rattle.std.proofs.Common.{refl, arith}
+use Rattle.laws.specs.Inner.Choice.{at_lt, at_ge}
 use Rattle.tool_text.proofs.width.Goals as goal
 
-pub returns-then-n-lt10 : goal.returns-then-n-lt10
+pub returns-in-0-to-9 : goal.returns-in-0-to-9
 unfolding places
-returns-then-n-lt10 c = (search choices depth 24, omega arith, omega arith)
+returns-in-0-to-9 c =
+    let n = c.args.n in
+    (at_lt _ _ n 10 (omega arith) refl, omega arith, omega arith)
 
-pub returns-then-n-lt100 : goal.returns-then-n-lt100
+pub returns-in-0-to-99 : goal.returns-in-0-to-99
 unfolding places
-returns-then-n-lt100 c = (search choices depth 24, omega arith, omega arith)
+returns-in-0-to-99 c =
+    let n = c.args.n in
+    (at_ge _ _ n 10 (omega arith) (at_lt _ _ n 100 (omega arith) refl), omega arith, omega arith)
 
-pub returns-then-n-lt1000 : goal.returns-then-n-lt1000
+pub returns-in-0-to-999 : goal.returns-in-0-to-999
 unfolding places
-returns-then-n-lt1000 c = (search choices depth 24, omega arith, omega arith)
+returns-in-0-to-999 c =
+    let n = c.args.n in
+    (at_ge _ _ n 10 (omega arith) (at_ge _ _ n 100 (omega arith) (at_lt _ _ n 1000 (omega arith) refl)), omega arith, omega arith)
 
-pub returns-then-n-lt10000 : goal.returns-then-n-lt10000
+pub returns-in-0-to-9999 : goal.returns-in-0-to-9999
 unfolding places
-returns-then-n-lt10000 c = (search choices depth 24, omega arith, omega arith)
+returns-in-0-to-9999 c =
+    let n = c.args.n in
+    (at_ge _ _ n 10 (omega arith) (at_ge _ _ n 100 (omega arith) (at_ge _ _ n 1000 (omega arith) (at_lt _ _ n 10000 (omega arith) refl))), omega arith, omega arith)
 
-pub returns-then-n-lt100000 : goal.returns-then-n-lt100000
+pub returns-in-0-to-99999 : goal.returns-in-0-to-99999
 unfolding places
-returns-then-n-lt100000 c = (search choices depth 24, omega arith, omega arith)
+returns-in-0-to-99999 c =
+    let n = c.args.n in
+    (at_ge _ _ n 10 (omega arith) (at_ge _ _ n 100 (omega arith) (at_ge _ _ n 1000 (omega arith) (at_ge _ _ n 10000 (omega arith) (at_lt _ _ n 100000 (omega arith) refl)))), omega arith, omega arith)
 
-pub returns-then-n-lt1000000 : goal.returns-then-n-lt1000000
+pub returns-in-0-to-999999 : goal.returns-in-0-to-999999
 unfolding places
-returns-then-n-lt1000000 c = (search choices depth 24, omega arith, omega arith)
+returns-in-0-to-999999 c =
+    let n = c.args.n in
+    (at_ge _ _ n 10 (omega arith) (at_ge _ _ n 100 (omega arith) (at_ge _ _ n 1000 (omega arith) (at_ge _ _ n 10000 (omega arith) (at_ge _ _ n 100000 (omega arith) (at_lt _ _ n 1000000 (omega arith) refl))))), omega arith, omega arith)
 
-pub returns-then-n-lt10000000 : goal.returns-then-n-lt10000000
+pub returns-in-0-to-9999999 : goal.returns-in-0-to-9999999
 unfolding places
-returns-then-n-lt10000000 c = (search choices depth 24, omega arith, omega arith)
+returns-in-0-to-9999999 c =
+    let n = c.args.n in
+    (at_ge _ _ n 10 (omega arith) (at_ge _ _ n 100 (omega arith) (at_ge _ _ n 1000 (omega arith) (at_ge _ _ n 10000 (omega arith) (at_ge _ _ n 100000 (omega arith) (at_ge _ _ n 1000000 (omega arith) (at_lt _ _ n 10000000 (omega arith) refl)))))), omega arith, omega arith)
 
-pub returns-then-n-lt100000000 : goal.returns-then-n-lt100000000
+pub returns-in-0-to-99999999 : goal.returns-in-0-to-99999999
 unfolding places
-returns-then-n-lt100000000 c = (search choices depth 24, omega arith, omega arith)
+returns-in-0-to-99999999 c =
+    let n = c.args.n in
+    (at_ge _ _ n 10 (omega arith) (at_ge _ _ n 100 (omega arith) (at_ge _ _ n 1000 (omega arith) (at_ge _ _ n 10000 (omega arith) (at_ge _ _ n 100000 (omega arith) (at_ge _ _ n 1000000 (omega arith) (at_ge _ _ n 10000000 (omega arith) (at_lt _ _ n 100000000 (omega arith) refl))))))), omega arith, omega arith)
 
-pub returns-then-n-lt1000000000 : goal.returns-then-n-lt1000000000
+pub returns-in-0-to-999999999 : goal.returns-in-0-to-999999999
 unfolding places
-returns-then-n-lt1000000000 c = (search choices depth 24, omega arith, omega arith)
+returns-in-0-to-999999999 c =
+    let n = c.args.n in
+    (at_ge _ _ n 10 (omega arith) (at_ge _ _ n 100 (omega arith) (at_ge _ _ n 1000 (omega arith) (at_ge _ _ n 10000 (omega arith) (at_ge _ _ n 100000 (omega arith) (at_ge _ _ n 1000000 (omega arith) (at_ge _ _ n 10000000 (omega arith) (at_ge _ _ n 100000000 (omega arith) (at_lt _ _ n 1000000000 (omega arith) refl)))))))), omega arith, omega arith)
 
-pub returns : goal.returns
+pub returns-in_default : goal.returns-in_default
 unfolding places
-returns c = (search choices depth 24, omega arith, omega arith)
+returns-in_default c =
+    let n = c.args.n in
+    (at_ge _ _ n 10 (omega arith) (at_ge _ _ n 100 (omega arith) (at_ge _ _ n 1000 (omega arith) (at_ge _ _ n 10000 (omega arith) (at_ge _ _ n 100000 (omega arith) (at_ge _ _ n 1000000 (omega arith) (at_ge _ _ n 10000000 (omega arith) (at_ge _ _ n 100000000 (omega arith) (at_ge _ _ n 1000000000 (omega arith) (refl))))))))), omega arith, omega arith)
