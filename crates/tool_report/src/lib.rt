@@ -81,10 +81,11 @@ fn put_value(v: &[u8], out: &mut Text)
     requires { length out.old + 1 + 2 * length v.now ≤ 65536 }
     ensures { out.new ≡ out.old ++ value v.now }
 {
-    if !v.is_empty() {
-        out.push(b' ');
-        out.push_hex(v);
+    if v.is_empty() {
+        return;
     }
+    out.push(b' ');
+    out.push_hex(v);
 }
 
 fn put_tagged(style: Style, tag: u16, v: &[u8], out: &mut Text)
