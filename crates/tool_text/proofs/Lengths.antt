@@ -1,13 +1,14 @@
 -- How long numbers and bytes are as text, and one byte more.
 -- Assumes nothing.
-use mathlib.Core.Path.{◌≡◌, refl, ◌∙◌}
-use mathlib.Core.List.{List, [], ◌∷◌, ◌++◌}
-use Prim.Native.Nat.{ℕ, zero, suc, ◌+◌, ◌*◌, ◌/◌, ◌%◌, ◌<◌}
+use mathlib.Core.Path.{◌≡◌, refl, sym, ◌∙◌}
+use mathlib.Core.List.{List, [], ◌∷◌, ◌++◌, append_assoc, append-nil}
+use Prim.Native.Nat.{ℕ, zero, suc, ◌+◌, ◌*◌, ◌/◌, ◌%◌, ◌-◌, ◌<◌, ◌≤◌}
 use native.Mathlib.Omega.{arith}
 use native.Mathlib.Numerals.{add-one}
-use lib.ListN.{length, get_or, take, length-append}
-use lib.Seq.{take-suc}
-use Rattle.tool_text.specs.Digits.{digits, places, decimal, pair, hex}
+use lib.ListN.{length, get_or, take, drop, set, length-append, length-drop}
+use lib.Seq.{take-suc, length-take-le}
+use Rattle.std.proofs.lemmas.List.{drop-set}
+use Rattle.tool_text.specs.Digits.{glyph, digits, places, decimal, pair, hex}
 
 pub length_digits : (k n : ℕ) → length (digits k n) ≡ k
 unfolding digits
@@ -35,3 +36,36 @@ hex_more l i h = rw (add-one, take-suc l i 0, hex_append)
 pub digits_more : (k n : ℕ) → digits k (n / 10) ++ ((48 + n % 10) ∷ []) ≡ digits (suc k) n
 unfolding digits
 digits_more k n = refl
+
+-- the last digit is written first
+pub digits_turn : (l : List ℕ) (i n d : ℕ) → 0 < i → i ≤ length l → d ≡ n % 10 → digits (i - 1) (n / 10) ++ drop (i - 1) (set l (i - 1) (48 + d)) ≡ digits i n ++ drop i l
+digits_turn l zero n d h k e = absurd (omega arith)
+digits_turn l (suc i) n d h k e =
+    let z : suc i - 1 ≡ i = omega arith in
+    rw (z, drop-set l i (48 + d) (omega arith), ← digits_more i n, append_assoc, e, add-one)
+
+pub digits_end : (l : List ℕ) (i n : ℕ) → i ≤ 0 → l ≡ digits i n ++ drop i l
+unfolding digits
+digits_end l zero n h = refl
+digits_end l (suc i) n h = absurd (omega arith)
+
+pub hex_start : (l : List ℕ) → l ≡ l ++ hex []
+unfolding hex
+hex_start l = sym (append-nil l)
+
+pub hex_turn : (k m l l₀ s : List ℕ) (i x y : ℕ) → i < length s → k ≡ m ++ y ∷ [] → m ≡ l ++ x ∷ [] → x ≡ glyph (get_or s i 0 / 16) → y ≡ glyph (get_or s i 0 % 16)
+    → (l ≡ l₀ ++ hex (take i s)) × (length l ≡ length l₀ + 2 * i)
+    → (k ≡ l₀ ++ hex (take (i + 1) s)) × (length k ≡ length l₀ + 2 * (i + 1))
+hex_turn k m l l₀ s i x y h e f p q v = (
+  rw (e, f, v.0, p, q, hex_more s i h, append_assoc (l₀ ++ hex (take i s)), append_assoc l₀),
+  rw (e, f, length-append, length-append) (omega (arith, v.1)),
+)
+
+-- a number's digits behind a text
+pub number_text : (text l ys : List ℕ) (n k : ℕ) → l ≡ text → ys ≡ digits k n → k ≡ places n → l ++ ys ≡ text ++ decimal n
+unfolding decimal
+number_text text l ys n k e f h = rw (e, f, h)
+
+-- a part of a buffer is as long as it is cut
+pub part_length : (l : List ℕ) (at k : ℕ) → at + k ≤ length l → length (take k (drop at l)) ≡ k
+part_length l at k h = length-take-le k (drop at l) (omega (arith, length-drop at l))

@@ -1,94 +1,65 @@
--- The turns of the loops that look for a blank and that compare words.
+-- Where a line's first blank stands, and how words are compared.
 -- Assumes nothing.
-use mathlib.Core.Path.{◌≡◌, refl, sym, ap, ◌∙◌}
-use mathlib.Core.Bool.{Bool, true, false, cond}
-use mathlib.Core.List.{List, [], ◌∷◌, ◌++◌, append_assoc, append-nil}
-use Prim.Native.Nat.{ℕ, suc, ◌+◌, ◌-◌, ◌<◌, ◌≤◌}
-use native.Mathlib.Omega.{arith}
-use native.Mathlib.Numerals.{add-one}
-use lib.ListN.{length, get_or, take, drop, drop_of_length-le, length-take, length-drop}
-use lib.Seq.{drop-cons, take-suc, take_all}
-use lib.Dec.{eqb}
-use borrow.Author.Tests.{eq-eqb, ne_eqb}
+use Rattle.std.proofs.Common.{◌≡◌, refl, sym, ap, ◌∙◌, Bool, true, false, cond, not, ◌&&◌, List, [], ◌∷◌, ℕ, suc, ◌+◌, ◌-◌, ◌≤◌, Some, None, length, take, drop, nat_eq, ◌==◌, position, arith, one-add, length-drop, drop_of_length-le}
+use Rattle.std.specs.List.{position_or_len}
+use Rattle.std.specs.Cmp.Lexicographic.{pointwise}
+use Rattle.std.proofs.lemmas.Bool.{ltb-false}
+use Rattle.std.proofs.lemmas.List.{take_all}
+use Rattle.std.proofs.lemmas.Option.{none-some, cond_some}
 use Rattle.tool_text.specs.Word.{word_in, rest_in, same}
-use Rattle.tool_text.specs.Inner.Word.{Blank}
 
--- no blank stands before a place
-pub record Passed (line : List ℕ) (i : ℕ) : Type 0 where
-  pub within : i ≤ length line
-  pub word : take i line ++ word_in (drop i line) ≡ word_in line
-  pub rest : rest_in (drop i line) ≡ rest_in line
-
-pub passed_none : (line : List ℕ) → Passed line 0
-passed_none line = record { within = omega arith; word = refl; rest = refl }
-
-module _ (line : List ℕ) (i : ℕ) (h : Passed line i) where
-  pub passed_end : length line ≤ i → Blank line i
-  unfolding word_in rest_in
-  passed_end b =
-      let z : drop i line ≡ [] = drop_of_length-le line {i = i} b in
-      record {
-        within = h.within;
-        word = sym (append-nil (take i line)) ∙ (rw z at h.word);
-        rest = drop_of_length-le line {i = i + 1} (omega arith) ∙ (rw z at h.rest);
-      }
-
-  module _ (b : i < length line) where
-    pub passed_stop : get_or line i 0 ≡ 32 → Blank line i
-    unfolding word_in rest_in
-    passed_stop e =
-        let z : drop i line ≡ 32 ∷ drop (suc i) line = drop-cons line i 0 b ∙ ap (λ (x : ℕ). x ∷ drop (suc i) line) e in
-        record {
-          within = h.within;
-          word = sym (append-nil (take i line)) ∙ (rw z at h.word);
-          rest = rw add-one (rw z at h.rest);
-        }
-
-    pub passed_more : (get_or line i 0 ≡ 32 → ⊥) → Passed line (i + 1)
-    unfolding word_in rest_in
-    passed_more e =
-        let n = ne_eqb (get_or line i 0) 32 e in
-        record {
-          within = omega arith;
-          word =
-              rw (add-one, take-suc line i 0 b, append_assoc)
-              (rw (drop-cons line i 0 b, n) at h.word);
-          rest = rw add-one (rw (drop-cons line i 0 b, n) at h.rest);
-        }
-
-module _ (line : List ℕ) (at : ℕ) (h : Blank line at) where
-  pub rest_part : take (length line - (at + 1)) (drop (at + 1) line) ≡ rest_in line
-  rest_part = take_all (length line - (at + 1)) (drop (at + 1) line) (omega (arith, length-drop (at + 1) line)) ∙ h.rest
-
-  pub rest_short : length (take (length line - (at + 1)) (drop (at + 1) line)) ≤ length line
-  rest_short = rw (length-take (length line - (at + 1)) (drop (at + 1) line)) (omega arith)
-
-  pub rest_none : length line ≤ at → [] ≡ rest_in line
-  rest_none b = sym (drop_of_length-le line {i = at + 1} (omega arith)) ∙ h.rest
-
--- ---- comparing
-
-pub same_length : (a b : List ℕ) → (length a ≡ length b → ⊥) → same a b ≡ false
-unfolding same
-same_length [] [] h = absurd (h refl)
-same_length [] (y ∷ b) h = refl
-same_length (x ∷ a) [] h = refl
-same_length (x ∷ a) (y ∷ b) h = go (eqb x y) (same_length a b (λ e. h (ap suc e)))
+-- the word before the first blank, and the rest behind it
+word_before : (line : List ℕ) → take (position_or_len (λ x. x == 32) line) line ≡ word_in line
+unfolding word_in
+word_before [] = refl
+word_before (x ∷ line) = go _ (x == 32) (word_before line)
   where
-    go : (t : Bool) → same a b ≡ false → cond t (same a b) false ≡ false
+    go : (n : ℕ) (t : Bool) → take n line ≡ word_in line → take (cond (not t) (1 + n) 0) (x ∷ line) ≡ cond t [] (x ∷ word_in line)
+    go n true h = refl
+    go n false h = rw (one-add n) (ap (λ l. x ∷ l) h)
+
+rest_behind : (line : List ℕ) → drop (position_or_len (λ x. x == 32) line + 1) line ≡ rest_in line
+unfolding rest_in
+rest_behind [] = refl
+rest_behind (x ∷ line) = go _ (x == 32) (rest_behind line)
+  where
+    go : (n : ℕ) (t : Bool) → drop (n + 1) line ≡ rest_in line → drop (cond (not t) (1 + n) 0 + 1) (x ∷ line) ≡ cond t line (rest_in line)
+    go n true h = refl
+    go n false h = let e : 1 + n + 1 ≡ suc (n + 1) = omega arith in rw e h
+
+no_place : (t : Bool) (x : ℕ) → cond t (Some x) None ≡ None → t ≡ false
+no_place true x q = absurd (none-some x (sym q))
+no_place false x q = refl
+
+module _ (line : List ℕ) where
+  module _ (at : ℕ) (e : position (λ x. x == 32) line ≡ Some at) where
+    is_at : position_or_len (λ x. x == 32) line ≡ at
+    is_at = (cond_some _ _ at e).1
+
+    pub word_some : take at line ≡ word_in line
+    word_some = ap (λ n. take n line) (sym is_at) ∙ word_before line
+
+    pub rest_some : take (length line - (at + 1)) (drop (at + 1) line) ≡ rest_in line
+    rest_some = take_all (length line - (at + 1)) (drop (at + 1) line) (omega (arith, length-drop (at + 1) line)) ∙ ap (λ n. drop (n + 1) line) (sym is_at) ∙ rest_behind line
+
+  module _ (e : position (λ x. x == 32) line ≡ None) where
+    is_past : length line ≤ position_or_len (λ x. x == 32) line
+    is_past = ltb-false _ _ (no_place _ _ e)
+
+    pub word_none : line ≡ word_in line
+    word_none = sym (take_all _ line is_past) ∙ word_before line
+
+    pub rest_none : [] ≡ rest_in line
+    rest_none = sym (drop_of_length-le line {i = position_or_len (λ x. x == 32) line + 1} (omega (arith, is_past))) ∙ rest_behind line
+
+-- slices are compared one by one
+pub same_is : (a b : List ℕ) → pointwise nat_eq a b ≡ same a b
+unfolding same
+same_is [] [] = refl
+same_is [] (y ∷ b) = refl
+same_is (x ∷ a) [] = refl
+same_is (x ∷ a) (y ∷ b) = go (nat_eq x y) (same_is a b)
+  where
+    go : (t : Bool) → pointwise nat_eq a b ≡ same a b → t && pointwise nat_eq a b ≡ cond t (same a b) false
     go true e = e
     go false e = refl
-
-module _ (a b : List ℕ) (i : ℕ) where
-  pub same_end : length a ≤ i → length a ≡ length b → same (drop i a) (drop i b) ≡ true
-  unfolding same
-  same_end h e = rw (drop_of_length-le a {i = i} h, drop_of_length-le b {i = i} (omega arith))
-
-  module _ (h : i < length a) (k : i < length b) where
-    pub same_next : get_or a i 0 ≡ get_or b i 0 → same (drop (i + 1) a) (drop (i + 1) b) ≡ same (drop i a) (drop i b)
-    unfolding same
-    same_next e = rw (add-one, drop-cons a i 0 h, drop-cons b i 0 k, eq-eqb (get_or a i 0) (get_or b i 0) e)
-
-    pub same_stop : (get_or a i 0 ≡ get_or b i 0 → ⊥) → same (drop i a) (drop i b) ≡ false
-    unfolding same
-    same_stop e = rw (drop-cons a i 0 h, drop-cons b i 0 k, ne_eqb (get_or a i 0) (get_or b i 0) e)

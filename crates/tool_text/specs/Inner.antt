@@ -1,2 +1,2 @@
 pub mod Parse
-pub mod Word
+pub mod Room

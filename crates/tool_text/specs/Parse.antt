@@ -1,8 +1,6 @@
 -- Words as numbers and bytes.
 -- Assumes nothing.
-use Rattle.std.specs.Prelude.{Bool, true, false, cond, List, [], ◌∷◌, ℕ, ◌+◌, ◌-◌, ◌*◌, ◌/◌, length, get_or, ltb, eqb}
-use Rattle.tool_text.specs.declared.Size.{Size}
-use Rattle.tool_text.specs.declared.Size.TheVariants.{Count, NoBytes}
+use Rattle.std.specs.Prelude.{Bool, true, false, cond, List, [], ◌∷◌, ℕ, ◌+◌, ◌-◌, ◌*◌, ◌/◌, length, get_or, ltb, eqb, Option, Some, None}
 
 -- the value of a hex digit; 16 where it is none
 unfoldable pub nibble_of : ℕ → ℕ
@@ -28,9 +26,9 @@ unfoldable pub is_dash : List ℕ → Bool
 is_dash w = cond (eqb (length w) 1) (eqb (get_or w 0 0) 45) false
 
 -- how many bytes a word of hex digits says
-unfoldable pub octets : List ℕ → Size
-octets w = cond (is_hex w) (Count (length w / 2)) NoBytes
+unfoldable pub octets : List ℕ → Option ℕ
+octets w = cond (is_hex w) (Some (length w / 2)) None
 
 -- and a word of them, or `-`
-unfoldable pub size_of : List ℕ → Size
-size_of w = cond (is_dash w) (Count 0) (cond (eqb (length w) 0) NoBytes (octets w))
+unfoldable pub size_of : List ℕ → Option ℕ
+size_of w = cond (is_dash w) (Some 0) (cond (eqb (length w) 0) None (octets w))

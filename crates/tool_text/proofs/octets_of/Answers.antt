@@ -1,27 +1,26 @@
-use Prim.Native.Nat.{◌+◌, ◌<◌, ◌*◌}
-use Rattle.tool_text.proofs.Parses.{octets_stop, octets_done, hex_next, hex_stop, unhex_next}
-use native.Mathlib.Omega.{arith}
-use lib.ListN.{length}
-use mathlib.Core.Path.{refl, sym, ◌∙◌}
+use Rattle.tool_text.proofs.Parses.{octets_stop, octets_done, unhex_done, hex_next, hex_stop, unhex_next, rest_next, odd_stop}
+use Rattle.std.proofs.Common.{arith, sym, refl, ◌∙◌, ◌+◌, ◌*◌, ◌<◌, length}
 use Rattle.tool_text.proofs.octets_of.Goals as goal
 
-pub loop-i-init : goal.loop-i-init
-loop-i-init c = (omega arith, refl, refl)
+pub returns-then-w-ne0-clause-size : goal.returns-then-w-ne0-clause-size
+returns-then-w-ne0-clause-size c = octets_stop _ (odd_stop _ c.if-w-ne0.true)
 
-pub returns-then-v-gt255 : goal.returns-then-v-gt255
-returns-then-v-gt255 c =
-    let a = c.args.w.now in
-    let l = c.loop-i in
-    let b : 2 * l.i + 1 < length a = omega arith in
-    octets_stop _ _ _ (sym l.invariant.2 ∙ hex_stop a l.i b (rw c.octet-v.ensures.0 at c.if-v-gt255.true))
+pub loop-i-init : goal.loop-i-init
+loop-i-init c = (refl, refl, refl)
+
+pub returns-in_err-bytes-clause-size : goal.returns-in_err-bytes-clause-size
+returns-in_err-bytes-clause-size c = rw c.from_residual.ensures (octets_stop _ (sym c.loop-i.invariant.1 ∙ hex_stop _ c.loop-i.i (omega arith) c.in_err-bytes.ensures))
 
 pub loop-i-preserved : goal.loop-i-preserved
 loop-i-preserved c =
-    let a = c.args.w.now in
     let l = c.loop-i in
-    let e = c.octet-v.ensures.0 in
-    let b : 2 * l.i + 1 < length a = omega arith in
-    (omega arith, rw e (unhex_next a l.i b l.bytes ∙ l.invariant.1), hex_next a l.i b (rw e at c.if-v-gt255.false) ∙ l.invariant.2)
+    let w = c.args.w.now in
+    let h : 2 * l.i + 1 < length w = omega arith in
+    let e = c.in_ok-bytes.ensures in
+    (unhex_next w l.i h l.bytes _ (omega arith) e ∙ l.invariant.0, hex_next w l.i h _ e ∙ l.invariant.1, rest_next l.bytes _ l.i _ l.invariant.2)
 
-pub returns : goal.returns
-returns c = octets_done _ _ _ _ (omega arith) (omega arith) c.requires.1 c.loop-i.invariant.1 c.loop-i.invariant.2
+pub returns-clause-size : goal.returns-clause-size
+returns-clause-size c = let l = c.loop-i in octets_done _ l.bytes l.i (omega arith) (omega arith) (omega arith) l.invariant.1
+
+pub returns-clause-bytes : goal.returns-clause-bytes
+returns-clause-bytes c = let l = c.loop-i in unhex_done _ l.bytes l.i (omega arith) (omega arith) (omega arith) l.invariant.0

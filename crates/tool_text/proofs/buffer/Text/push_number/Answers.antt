@@ -1,0 +1,15 @@
+use Rattle.std.proofs.Common.{arith, sym, ap, ◌∙◌, ◌≡◌, ◌+◌, ◌-◌, length}
+use Rattle.std.proofs.lemmas.Slice.{take-put_mid}
+use lib.Seq.{length-take-le}
+use Rattle.tool_text.proofs.Lengths.{number_text, part_length}
+use Rattle.tool_text.proofs.buffer.Text.push_number.Goals as goal
+
+pub returns-clause-text : goal.returns-clause-text
+returns-clause-text c =
+    let i = c.self.inside in
+    let w = c.width.result in
+    let m : i.len ≡ length c.args.self.now = sym (length-take-le i.len i.bytes (omega arith)) ∙ ap length c.self.view_is in
+    let k = part_length i.bytes i.len (i.len + w - i.len) (omega arith) in
+    let e : length c.put_digits.new.places ≡ w = c.put_digits.auto.places ∙ k ∙ omega arith in
+    take-put_mid i.len _ i.bytes c.put_digits.new.places _ (omega arith) (omega arith)
+    ∙ number_text _ _ _ _ _ c.self.view_is c.put_digits.ensures (sym c.put_digits.auto.places ∙ e ∙ c.width.ensures.0)
