@@ -13,18 +13,10 @@ pub fn read_full<R: Read>(from: &mut R, buf: &mut [u8]) -> Result<usize>
     let mut at = 0;
     while at < buf.len() {
         match from.read(&mut buf[at..]) {
-            Ok(n) => {
-                if n == 0 {
-                    return Ok(at);
-                }
-                at += n;
-            }
-            Err(e) => {
-                if at == 0 {
-                    return Err(e);
-                }
-                return Ok(at);
-            }
+            Ok(0) => return Ok(at),
+            Ok(n) => at += n,
+            Err(e) if at == 0 => return Err(e),
+            Err(_) => return Ok(at),
         }
     }
     Ok(at)
