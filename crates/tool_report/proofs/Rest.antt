@@ -1,13 +1,10 @@
 -- The loop over the parameters of a message: what is written, and what is still to come.
 -- Assumes nothing.
 use mathlib.Core.Path.{◌≡◌, refl, sym, ap, ◌∙◌}
-use mathlib.Core.List.{List, [], ◌∷◌, ◌++◌}
+use mathlib.Core.List.{List, [], ◌∷◌, ◌++◌, append_assoc, append-nil}
 use Prim.Native.Nat.{ℕ, zero, suc, ◌+◌, ◌-◌, ◌*◌, ◌<◌, ◌≤◌}
-use native.Mathlib.Nat.{add-zero}
 use native.Mathlib.Omega.{arith}
 use lib.ListN.{length, length-append, take, drop, length-take}
-use Rattle.tool_text.specs.Put.{overlay, Put}
-use Rattle.tool_text.proofs.Puts.{over_append}
 use Rattle.codec_wire.specs.declared.Step.{Step}
 use Rattle.codec_wire.specs.declared.Step.TheVariants.{Param, End, Fault}
 use Rattle.codec_wire.specs.Walk.{Par, walk, step_at, part_of}
@@ -45,38 +42,33 @@ pars_part s at t l n e =
     let k : Next s at l n = step_next s at t l n e in
     rw (le-ltb l 4 (omega arith), le-ltb (length s) l (omega arith), le-ltb (length s - l) at (omega arith)) (pars_next s at t l n e)
 
--- the text of the parameters from a position on, put at the place reached, completes that of all
-pub record Rest (style : Style) (s before : List ℕ) (from : ℕ) (out : List ℕ) (at used : ℕ) : Type 0 where
-  pub bytes : overlay out used (pars_text style (walk s at).pars) ≡ overlay before from (pars_text style (walk s 8).pars)
-  pub place : used + length (pars_text style (walk s at).pars) ≡ from + length (pars_text style (walk s 8).pars)
+-- the text of the parameters from a position on completes that of all
+pub record Rest (style : Style) (s before out : List ℕ) (at : ℕ) : Type 0 where
+  pub text : out ++ pars_text style (walk s at).pars ≡ before ++ pars_text style (walk s 8).pars
 
-module _ {style : Style} {s before : List ℕ} {from : ℕ} {out : List ℕ} {at used : ℕ} (h : Rest style s before from out at used) where
-  pub rest_used : used ≤ from + 8 * length s
-  rest_used = let p = h.place in omega (arith, pars_most style s 8)
+module _ {style : Style} {s before out : List ℕ} {at : ℕ} (h : Rest style s before out at) where
+  lengths : length out + length (pars_text style (walk s at).pars) ≡ length before + length (pars_text style (walk s 8).pars)
+  lengths = sym (length-append out _) ∙ ap length h.text ∙ length-append before _
 
-  pub rest_stop : (w : Step) → step_at s at ≡ w → ((t l n : ℕ) → w ≡ Param t l n → ⊥) → Put before out from (pars_text style (walk s 8).pars) used
-  unfolding overlay pars_text
+  pub rest_used : length out ≤ length before + 8 * length s
+  rest_used = omega (arith, lengths, pars_most style s 8)
+
+  pub rest_stop : (w : Step) → step_at s at ≡ w → ((t l n : ℕ) → w ≡ Param t l n → ⊥) → out ≡ before ++ pars_text style (walk s 8).pars
+  unfolding pars_text
   rest_stop w e k =
       let z : (walk s at).pars ≡ [] = pars_stop s at w e k in
-      record { bytes = rw z at h.bytes; place = sym (add-zero used) ∙ (rw z at h.place) }
+      sym (append-nil out) ∙ (rw z at h.text)
 
   module _ (t l n : ℕ) (e : step_at s at ≡ Param t l n) where
     split : pars_text style (walk s at).pars ≡ par_text style (par t (part_of s at l)) ++ pars_text style (walk s n).pars
     unfolding pars_text
     split = ap (pars_text style) (pars_part s at t l n e)
 
-    pub rest_room : used + 2 * length (part_of s at l) ≤ from + 8 * length s
+    pub rest_room : length out + 2 * length (part_of s at l) ≤ length before + 8 * length s
     rest_room =
         let z = par_sized style (par t (part_of s at l)) in
-        let p = rw (split, length-append (par_text style (par t (part_of s at l))) (pars_text style (walk s n).pars)) at h.place in
+        let p = rw (split, length-append (par_text style (par t (part_of s at l))) (pars_text style (walk s n).pars)) at lengths in
         omega (arith, pars_most style s 8)
 
-    pub rest_next : (out₁ : List ℕ) (used₁ : ℕ) → Put out out₁ used (par_text style (par t (part_of s at l))) used₁ → Rest style s before from out₁ n used₁
-    rest_next out₁ used₁ k =
-        record {
-          bytes = rw (k.bytes, k.place, over_append out (par_text style (par t (part_of s at l))) (pars_text style (walk s n).pars) used) (ap (overlay out used) (sym split) ∙ h.bytes);
-          place =
-              let p = rw (split, length-append (par_text style (par t (part_of s at l))) (pars_text style (walk s n).pars)) at h.place in
-              let q = k.place in
-              omega arith;
-        }
+    pub rest_next : (more : List ℕ) → more ≡ out ++ par_text style (par t (part_of s at l)) → Rest style s before more n
+    rest_next more k = record { text = rw (k, append_assoc out) (ap (λ r. out ++ r) (sym split) ∙ h.text) }

@@ -7,47 +7,17 @@ use Prim.Native.Nat.{ℕ, suc, ◌+◌, ◌*◌, ◌<◌, ◌≤◌}
 use native.Mathlib.Omega.{arith}
 use lib.ListN.{length, length-append}
 use lib.Dec.{ltb}
-use borrow.Author.Tests.{eq-eqb, ne_eqb, le-ltb, lt-ltb}
-use Rattle.tool_text.specs.Put.{Put}
+use borrow.Author.Tests.{ne_eqb, le-ltb, lt-ltb}
 use Rattle.tool_text.specs.Digits.{decimal, places, hex}
-use Rattle.tool_text.proofs.Puts.{put_then, put_none}
 use Rattle.tool_text.proofs.Lengths.{length_decimal, length_hex}
-use Rattle.codec_wire.specs.Walk.{Par, walk}
+use Rattle.codec_wire.specs.Walk.{Par}
 use native.Mathlib.Decide.{dec_lt}
 use Rattle.codec_read.specs.declared.Reading.{Reading}
 use Rattle.codec_read.specs.Verdict.{verdict}
 use Rattle.codec_read.specs.Meaning.{reading_of, outcome}
 use Rattle.tool_report.specs.declared.Style.{Style}
 use Rattle.tool_report.specs.declared.Style.TheVariants.{Plain, Bars, Lines}
-use Rattle.tool_report.specs.Shown.{blank, colon, param_word, joint, two, fields, value, named, fields_in, par_text, pars_text, verdict_line, accepted_text, read_text, shown_text}
-
-pub joint_plain : (style : Style) → style ≡ Plain → joint style ≡ blank ∷ []
-unfolding joint
-joint_plain style e = rw e
-
-pub joint_bars : (style : Style) → style ≡ Bars → joint style ≡ blank ∷ 124 ∷ blank ∷ []
-unfolding joint
-joint_bars style e = rw e
-
-pub joint_lines : (style : Style) → style ≡ Lines → joint style ≡ 10 ∷ []
-unfolding joint
-joint_lines style e = rw e
-
-pub fields_put : {a b c d : List ℕ} {at m n o : ℕ} (t k : ℕ) (v : List ℕ) → k ≡ 4 + length v → Put a b at (two t colon k) m → Put b c m (colon ∷ []) n → Put c d n (hex v) o → Put a d at (fields t v) o
-unfolding fields
-fields_put t n v e h k l = put_then (rw e at h) (put_then k l)
-
-pub named_put : {a b c d : List ℕ} {at m n o : ℕ} (t k : ℕ) (v : List ℕ) → k ≡ 4 + length v → Put a b at param_word m → Put b c m (two t blank k) n → Put c d n (value v) o → Put a d at (named t v) o
-unfolding named
-named_put t n v e h k l = put_then h (put_then (rw e at k) l)
-
-pub value_none : (l v : List ℕ) (at : ℕ) → length v ≡ 0 → Put l l at (value v) at
-unfolding value
-value_none l v at e = rw (eq-eqb (length v) 0 e) (put_none l at)
-
-pub value_some : {a b c : List ℕ} {at m n : ℕ} (v : List ℕ) → (length v ≡ 0 → ⊥) → Put a b at (blank ∷ []) m → Put b c m (hex v) n → Put a c at (value v) n
-unfolding value
-value_some v e h k = rw (ne_eqb (length v) 0 e) (put_then h k)
+use Rattle.tool_report.specs.Shown.{blank, colon, joint, two, fields, value, named, fields_in, par_text}
 
 -- ---- lengths
 
@@ -121,27 +91,10 @@ long_verdict : (s : List ℕ) → 2048 < length s → verdict s ≡ 7
 unfolding verdict
 long_verdict s h = rw (le-ltb (length s) 8 (omega arith), lt-ltb 2048 (length s) h)
 
-pub accepted_short : (s : List ℕ) → (reading_of s).code ≡ 0 → length s ≤ 2048
+pub accepted_short : (s : List ℕ) (r : Reading) → r ≡ reading_of s → r.code ≡ 0 → length s ≤ 2048
 unfolding reading_of outcome
-accepted_short s e = go (dec_lt 2048 (length s))
+accepted_short s r q e = go (dec_lt 2048 (length s))
   where
     go : Dec (2048 < length s) → length s ≤ 2048
-    go (yes h) = let z : ◌≡◌ {A = ℕ} 7 0 = rw (long_verdict s h) at e in absurd (omega arith)
+    go (yes h) = let z : ◌≡◌ {A = ℕ} 7 0 = rw (q, long_verdict s h) at e in absurd (omega arith)
     go (no h) = omega arith
-
-module _ {a b : List ℕ} {at m : ℕ} (s : List ℕ) (r : Reading) (e : r ≡ reading_of s) where
-  pub read_some : {c : List ℕ} {n : ℕ} → r.code ≡ 0 → Put a b at (decimal r.code) m → Put b c m (pars_text Plain (walk s 8).pars) n → Put a c at (read_text s) n
-  unfolding read_text
-  read_some z h k = rw (← e, eq-eqb r.code 0 z) (put_then h k)
-
-  pub read_none : (r.code ≡ 0 → ⊥) → Put a b at (decimal r.code) m → Put a b at (read_text s) m
-  unfolding read_text
-  read_none z h = rw (← e, ne_eqb r.code 0 z) (put_then h (put_none b m))
-
-  pub shown_some : (style : Style) → r.code ≡ 0 → Put a b at (accepted_text style r.class r.msgtype s) m → Put a b at (shown_text style s) m
-  unfolding shown_text
-  shown_some style z h = rw (← e, eq-eqb r.code 0 z) h
-
-  pub shown_none : (style : Style) → (r.code ≡ 0 → ⊥) → Put a b at (verdict_line r.code) m → Put a b at (shown_text style s) m
-  unfolding shown_text
-  shown_none style z h = rw (← e, ne_eqb r.code 0 z) h

@@ -1,115 +1,89 @@
-// Scripts: one line in, its answer out, put into `out` from `at` on; each function returns the place after
-// it.
+// Scripts: one line in, its answer out, put behind the text so far.
 //
-// A further command is a case of `Command`, a line of `command_of`, an arm of `answer` and a
-// function of its own.
+// A further command is a case of `Command`, a line of `command_of` and an arm of `put_said`.
 #![tactic(auto)]
 
-ghost use Rattle.std.specs.Prelude.{◌≡◌, [], ◌∷◌, ◌+◌, ◌≤◌, length};
-ghost use Rattle.tool_text.specs.Put.{Put};
-ghost use Rattle.tool_report.specs.Shown.{read_text, shown_text};
-ghost use Rattle.tool_script.specs.Script.{bad_text, command_in, on_bytes, answer_of, answer_text, line_text, Answered};
+ghost use Rattle.std.specs.Prelude.{◌≡◌, ◌++◌, ◌+◌, ◌≤◌, length};
+ghost use Rattle.tool_text.specs.Inner.Room.{Room, Within};
+ghost use Rattle.tool_script.specs.Script.{command_in, said_by, on_bytes, answer_text, line_text};
 
-use tool_report::Style;
-use tool_text::{Size, bytes_of, first, is, put_byte, rest_of, word_of};
+use tool_report::{Style, put_read, put_shown};
+use tool_text::{Text, bytes_of, first, is, rest_of, word_of};
 
-#[derive(Drop)]
+// What is asked about the bytes of a message.
+#[derive(Clone, Copy)]
 pub enum Command {
     Read,
     Show,
-    Bad,
 }
 
-fn command_of(name: &[u8]) -> Command
+#[tactic(auto, using(std::proofs::Common::append_assoc), unfolding(crate::specs::Script::command_in))]
+fn command_of(name: &[u8]) -> Option<Command>
     ensures { result ≡ command_in name.now }
 {
     if is(name, b"read") {
-        return Command::Read;
+        return Some(Command::Read);
     }
     if is(name, b"show") {
-        return Command::Show;
+        return Some(Command::Show);
     }
-    Command::Bad
+    None
 }
 
-// A line that is no command.
-fn bad(out: &mut [u8; 65536], at: usize) -> usize
-    requires { at + 17000 ≤ 65536 }
-    ensures put { Put out.old out.new at bad_text result }
-    ensures value { result ≡ at + 1 }
-{
-    put_byte(out, at, b'?')
-}
-
-// `read HEX`
-fn read(hex: &[u8], bytes: &mut [u8; 32768], out: &mut [u8; 65536], at: usize) -> usize
-    requires { (at + 17000 ≤ 65536) × (length hex.now ≤ 65535) }
-    ensures answered { Answered bytes.old out.old out.new at (on_bytes read_text hex.now) result }
-    ensures upper_bound { result ≤ at + 17000 }
-{
-    let size = bytes_of(hex, bytes);
-    let Size::Count(n) = size else {
-        return bad(out, at);
-    };
-    tool_report::put_read(first(bytes, n), out, at)
-}
-
-// `show HEX`
-fn show(hex: &[u8], bytes: &mut [u8; 32768], out: &mut [u8; 65536], at: usize) -> usize
-    requires { (at + 17000 ≤ 65536) × (length hex.now ≤ 65535) }
-    ensures answered { Answered bytes.old out.old out.new at (on_bytes (shown_text Style.Bars) hex.now) result }
-    ensures upper_bound { result ≤ at + 17000 }
-{
-    let size = bytes_of(hex, bytes);
-    let Size::Count(n) = size else {
-        return bad(out, at);
-    };
-    tool_report::put_shown(Style::Bars, first(bytes, n), out, at)
-}
-
-// The answer of a command to what follows its name.
-fn answer(
-    command: Command,
-    rest: &[u8],
-    bytes: &mut [u8; 32768],
-    out: &mut [u8; 65536],
-    at: usize,
-) -> usize
-    requires { (at + 17000 ≤ 65536) × (length rest.now ≤ 65535) }
-    ensures answered { Answered bytes.old out.old out.new at (answer_of command rest.now) result }
-    ensures upper_bound { result ≤ at + 17000 }
+// What a command says of bytes.
+fn put_said(command: Command, s: &[u8], out: &mut Text)
+    requires { Room out.old }
+    ensures text { out.new ≡ out.old ++ said_by command s.now }
+    ensures upper_bound { Within out.old out.new }
 {
     match command {
-        Command::Read => read(rest, bytes, out, at),
-        Command::Show => show(rest, bytes, out, at),
-        Command::Bad => bad(out, at),
+        Command::Read => put_read(s, out),
+        Command::Show => put_shown(Style::Bars, s, out),
     }
 }
 
-// The answer to a line, without its end.
-fn answer_line(line: &[u8], bytes: &mut [u8; 32768], out: &mut [u8; 65536], at: usize) -> usize
-    requires { at + 17000 ≤ 65536 }
-    ensures answered { Answered bytes.old out.old out.new at (answer_text line.now) result }
-    ensures upper_bound { result ≤ at + 17000 }
+// The answer of a command to the word that follows its name: `?` where this is none of bytes.
+#[tactic(auto, using(std::proofs::Common::append_assoc), unfolding(crate::specs::Script::on_bytes))]
+fn answer(command: Command, hex: &[u8], bytes: &mut [u8; 32768], out: &mut Text)
+    requires { Room out.old × (length hex.now ≤ 65535) }
+    ensures text { out.new ≡ out.old ++ on_bytes (said_by command) hex.now }
+    ensures upper_bound { Within out.old out.new }
+{
+    match bytes_of(hex, bytes) {
+        Some(n) => put_said(command, first(bytes, n), out),
+        None => out.push(b'?'),
+    }
+}
+
+// The answer to a line, without its end: `?` where it is no command.
+#[tactic(auto, using(std::proofs::Common::append_assoc), unfolding(crate::specs::Script::answer_text))]
+fn answer_line(line: &[u8], bytes: &mut [u8; 32768], out: &mut Text)
+    requires { Room out.old }
+    ensures text { out.new ≡ out.old ++ answer_text line.now }
+    ensures upper_bound { Within out.old out.new }
 {
     if line.len() > 65535 {
-        return bad(out, at);
+        return out.push(b'?');
     }
-    let command = command_of(word_of(line));
-    answer(command, rest_of(line), bytes, out, at)
+    match command_of(word_of(line)) {
+        Some(command) => answer(command, rest_of(line), bytes, out),
+        None => out.push(b'?'),
+    }
 }
 
 // A line of a script: a blank line or a comment has no answer, and any other one line of it.
-pub fn run(line: &[u8], bytes: &mut [u8; 32768], out: &mut [u8; 65536], at: usize) -> usize
-    requires { at + 17001 ≤ 65536 }
-    ensures { Answered bytes.old out.old out.new at (line_text line.now) result }
+#[tactic(auto, using(std::proofs::Common::append_assoc), unfolding(crate::specs::Script::line_text))]
+pub fn run(line: &[u8], bytes: &mut [u8; 32768], out: &mut Text)
+    requires { length out.old + 17001 ≤ 65536 }
+    ensures text { out.new ≡ out.old ++ line_text line.now }
+    ensures upper_bound { length out.new ≤ length out.old + 17001 }
 {
-    if line.len() == 0 {
-        return at;
+    if line.is_empty() {
+        return;
     }
     if line[0] == b'#' {
-        return at;
+        return;
     }
-    let end = answer_line(line, bytes, out, at);
-    put_byte(out, end, b'\n')
+    answer_line(line, bytes, out);
+    out.push(b'\n');
 }

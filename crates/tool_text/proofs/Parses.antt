@@ -6,17 +6,17 @@ use lib.Dec.{ltb, eqb}
 use Rattle.std.specs.Prelude.{Option, Some, None, SomeIff, ◌-◌, ◌^◌}
 use Rattle.laws.specs.Inner.Choice.{at_lt, at_ge}
 use Rattle.std.proofs.lemmas.Option.{none-some, same_Some}
-use mathlib.Core.List.{List, [], ◌∷◌}
+use mathlib.Core.List.{List, [], ◌∷◌, ◌++◌, append_assoc, append-nil}
 use Prim.Native.Nat.{ℕ, suc, ◌+◌, ◌*◌, ◌/◌, ◌%◌, ◌<◌, ◌≤◌}
 use native.Mathlib.Omega.{arith}
 use native.Mathlib.Numerals.{add-one}
 use lib.ListN.{length, get_or, take, drop, set, drop_of_length-le}
-use lib.Seq.{drop-cons, sets-eq, take-append_seam}
+use lib.Seq.{drop-cons}
+use Rattle.std.proofs.lemmas.List.{take_more_set}
 use borrow.Author.Tests.{le-ltb, ne_eqb}
-use Rattle.tool_text.specs.Put.{overlay}
 use Rattle.tool_text.specs.Parse.{nibble_of, octet_of, is_hex, unhex, is_dash, octets, size_of}
 use Rattle.tool_text.specs.Word.{same}
-use Rattle.tool_text.specs.Inner.Parse.{nibble_in, octet_in, add_digit, number_from, number_of, Octets, Bytes}
+use Rattle.tool_text.specs.Inner.Parse.{nibble_in, octet_in, add_digit, number_from, number_of}
 
 pub number_next : (w : List ℕ) (i n m : ℕ) → i < length w → add_digit n (get_or w i 0) ≡ Some m → number_from m (drop (i + 1) w) ≡ number_from n (drop i w)
 unfolding number_from
@@ -100,9 +100,9 @@ module _ (w : List ℕ) (i : ℕ) (h : 2 * i + 1 < length w) where
   hex_stop e = rw (drop_two w i h, none_of _ _ (sym e))
 
   -- a byte is written; the rest of the word is still to come
-  pub unhex_next : (l : List ℕ) (v : ℕ) → Some v ≡ octet_in (get_or w (2 * i) 0) (get_or w (2 * i + 1) 0) → overlay (set l i v) (i + 1) (unhex (drop (2 * (i + 1)) w)) ≡ overlay l i (unhex (drop (2 * i) w))
-  unfolding unhex overlay
-  unhex_next l v e = let p = (some_of _ _ v (sym e)).1 in sym (rw (drop_two w i h, add-one i, p))
+  pub unhex_next : (l : List ℕ) (v : ℕ) → i < length l → Some v ≡ octet_in (get_or w (2 * i) 0) (get_or w (2 * i + 1) 0) → take (i + 1) (set l i v) ++ unhex (drop (2 * (i + 1)) w) ≡ take i l ++ unhex (drop (2 * i) w)
+  unfolding unhex
+  unhex_next l v k e = let p = (some_of _ _ v (sym e)).1 in sym (rw (drop_two w i h, take_more_set l i v k, append_assoc (take i l), p))
 
 pub number_empty : (w : List ℕ) → true ≡ eqb (length w) 0 → None ≡ number_of w
 unfolding number_of
@@ -112,39 +112,31 @@ pub number_done : (w : List ℕ) (i n : ℕ) → length w ≤ i → number_from 
 unfolding number_from
 number_done w i n h = rw (drop_of_length-le w {i = i} h)
 
-module _ (w before after : List ℕ) where
-  pub octets_stop : is_hex w ≡ false → Octets w before after None
-  unfolding octets
-  octets_stop e = record { size = sym (simp e); bytes = λ t. absurd (false≢true (sym e ∙ t)) }
+-- where the digits stop, and where all are read
+pub octets_stop : (w : List ℕ) → is_hex w ≡ false → None ≡ octets w
+unfolding octets
+octets_stop w e = sym (simp e)
 
-  pub octets_done : (i : ℕ) → length w / 2 ≤ i → i ≤ length w / 2 → length w % 2 ≡ 0
-      → overlay after i (unhex (drop (2 * i) w)) ≡ overlay before 0 (unhex w)
-      → is_hex (drop (2 * i) w) ≡ is_hex w
-      → Octets w before after (Some (length w / 2))
-  unfolding octets unhex is_hex overlay
-  octets_done i a b m e h =
-      let z : drop (2 * i) w ≡ [] = drop_of_length-le w {i = 2 * i} (omega arith) in
-      let t : true ≡ is_hex w = rw z at h in
-      record { size = sym (simp (sym t)); bytes = λ _. rw z at e }
+module _ (w l : List ℕ) (i : ℕ) (a : length w / 2 ≤ i) (b : i ≤ length w / 2) (m : length w % 2 ≡ 0) where
+  none_left : drop (2 * i) w ≡ []
+  none_left = drop_of_length-le w {i = 2 * i} (omega arith)
 
-  pub bytes_none : is_dash w ≡ false → true ≡ eqb (length w) 0 → Bytes w before after None
+  pub octets_done : is_hex (drop (2 * i) w) ≡ is_hex w → Some (length w / 2) ≡ octets w
+  unfolding octets is_hex
+  octets_done h = let t : true ≡ is_hex w = rw none_left at h in sym (simp (sym t))
+
+  pub unhex_done : take i l ++ unhex (drop (2 * i) w) ≡ unhex w → take (length w / 2) l ≡ unhex w
+  unfolding unhex
+  unhex_done h = let e : length w / 2 ≡ i = omega arith in let h' : take i l ++ [] ≡ unhex w = rw none_left at h in rw e (sym (append-nil (take i l)) ∙ h')
+
+module _ (w : List ℕ) (d : is_dash w ≡ false) where
+  pub size_none : true ≡ eqb (length w) 0 → None ≡ size_of w
   unfolding size_of
-  bytes_none d e = record { size = sym (simp (d, sym e)); bytes = λ n q. absurd (no_count n q) }
-    where
-      no_count : (n : ℕ) → None ≡ Some n → ⊥
-      no_count n q = let z : ◌≡◌ {A = ℕ} 0 1 = cc in omega arith
+  size_none e = sym (simp (d, sym e))
 
-  pub bytes_some : is_dash w ≡ false → false ≡ eqb (length w) 0 → (r : Option ℕ) → Octets w before after r → Bytes w before after r
-  unfolding size_of octets
-  bytes_some d e r o = record { size = o.size ∙ sym (simp (d, sym e)); bytes = λ n q. go (is_hex w) refl n q }
-    where
-      go : (t : Bool) → is_hex w ≡ t → (n : ℕ) → r ≡ Some n → after ≡ overlay before 0 (unhex w)
-      go true h n q = o.bytes h
-      go false h n q =
-          let s : r ≡ cond (is_hex w) (Some (length w / 2)) None = o.size in
-          let s' : r ≡ None = rw h at s in
-          let z : ◌≡◌ {A = ℕ} 0 1 = cc in
-          absurd (omega arith)
+  pub size_some : false ≡ eqb (length w) 0 → octets w ≡ size_of w
+  unfolding size_of
+  size_some e = sym (simp (d, sym e))
 
 -- an odd number of characters
 pub odd_stop : (w : List ℕ) → (length w % 2 ≡ 0 → ⊥) → is_hex w ≡ false
@@ -171,38 +163,17 @@ dash_same (x ∷ y ∷ w) = rw (ne_eqb (suc (suc (length w))) 1 (λ e. omega ari
     go true = refl
     go false = refl
 
-dash_one : (w : List ℕ) → is_dash w ≡ true → unhex w ≡ []
-unfolding is_dash unhex
-dash_one [] d = refl
-dash_one (x ∷ []) d = refl
-dash_one (x ∷ y ∷ w) d = absurd (false≢true (sym (ap (λ t. cond t (eqb x 45) false) (ne_eqb (suc (suc (length w))) 1 (λ e. omega arith))) ∙ d))
+-- a word that is one `-` says no bytes
+module _ (w : List ℕ) (d : is_dash w ≡ true) where
+  pub size_dash : Some 0 ≡ size_of w
+  unfolding size_of
+  size_dash = sym (simp d)
 
-pub bytes_dash : (w l : List ℕ) → is_dash w ≡ true → Bytes w l l (Some 0)
-unfolding size_of overlay
-bytes_dash w l d = record { size = sym (simp d); bytes = λ n q. sym (ap (overlay l 0) (dash_one w d)) }
-
--- ---- the bytes in the buffer
-
-length_unhex : (w : List ℕ) → length (unhex w) ≡ length w / 2
-unfolding unhex
-length_unhex [] = refl
-length_unhex (x ∷ []) = refl
-length_unhex (x ∷ y ∷ w) = let e = length_unhex w in omega arith
-
-size_unhex : (w : List ℕ) (n : ℕ) → size_of w ≡ Some n → length (unhex w) ≡ n
-unfolding size_of octets
-size_unhex w n = go (is_dash w) (eqb (length w) 0) (is_hex w) refl
-  where
-    go : (d z h : Bool) → is_dash w ≡ d → cond d (Some 0) (cond z None (cond h (Some (length w / 2)) None)) ≡ Some n → length (unhex w) ≡ n
-    go true z h e q = let m : 0 ≡ n = cc in ap length (dash_one w e) ∙ m
-    go false true h e q = let k : ◌≡◌ {A = ℕ} 0 1 = cc in absurd (omega arith)
-    go false false true e q = let m : length w / 2 ≡ n = cc in length_unhex w ∙ m
-    go false false false e q = let k : ◌≡◌ {A = ℕ} 0 1 = cc in absurd (omega arith)
-
--- where the buffer has room for them, the first bytes are the word's
-pub bytes_are : {w before after : List ℕ} {r : Option ℕ} (n : ℕ) → Bytes w before after r → r ≡ Some n → length w ≤ 2 * length before → take n after ≡ unhex w
-unfolding overlay
-bytes_are {w} {before} {after} {r} n h e b =
-    let m : length (unhex w) ≡ n = size_unhex w n (sym h.size ∙ e) in
-    let k : 0 + length (unhex w) ≤ length before = omega (arith, length_unhex w) in
-    rw (h.bytes n e, sets-eq (unhex w) before 0 k, ← m) (take-append_seam (unhex w) (drop (0 + length (unhex w)) before))
+  pub unhex_dash : [] ≡ unhex w
+  unfolding is_dash unhex
+  unhex_dash = go w d
+    where
+      go : (w : List ℕ) → is_dash w ≡ true → [] ≡ unhex w
+      go [] d = refl
+      go (x ∷ []) d = refl
+      go (x ∷ y ∷ w) d = absurd (false≢true (sym (ap (λ t. cond t (eqb x 45) false) (ne_eqb (suc (suc (length w))) 1 (λ e. omega arith))) ∙ d))

@@ -6,8 +6,8 @@ ghost use Rattle.tool_text.specs.Put.{Put};
 ghost use Rattle.tool_text.specs.Digits.{glyph, digits, places, decimal, pair, hex};
 ghost use Rattle.tool_text.specs.Word.{word_in, rest_in, same};
 ghost use Rattle.tool_text.specs.Inner.Word.{Blank};
-ghost use Rattle.tool_text.specs.Parse.{nibble_of, octet_of, is_dash};
-ghost use Rattle.tool_text.specs.Inner.Parse.{nibble_in, octet_in, add_digit, number_of, Bytes, Octets};
+ghost use Rattle.tool_text.specs.Parse.{unhex, octets, size_of};
+ghost use Rattle.tool_text.specs.Inner.Parse.{nibble_in, octet_in, add_digit, number_of};
 
 mod buffer;
 
@@ -175,7 +175,8 @@ pub fn octet(h: u8, l: u8) -> Option<u8>
 // A word of hex digits, or `-` for no bytes, put into the first bytes of a buffer: how many.
 pub fn bytes_of(w: &[u8], bytes: &mut [u8; 32768]) -> Option<usize>
     requires { length w.now ≤ 65536 }
-    ensures { Bytes w.now bytes.old bytes.new result }
+    ensures size { result ≡ size_of w.now }
+    ensures bytes { IfSome result (λ n. take n bytes.new ≡ unhex w.now) }
 {
     if is(w, b"-") {
         return Some(0);
@@ -189,7 +190,8 @@ pub fn bytes_of(w: &[u8], bytes: &mut [u8; 32768]) -> Option<usize>
 // Hex digits, put into the first bytes of a buffer with room for them: how many bytes.
 pub fn octets_of(w: &[u8], bytes: &mut [u8]) -> Option<usize>
     requires { length w.now / 2 ≤ length bytes.old }
-    ensures { Octets w.now bytes.old bytes.new result }
+    ensures size { result ≡ octets w.now }
+    ensures bytes { IfSome result (λ n. take n bytes.new ≡ unhex w.now) }
 {
     let n = w.len() / 2;
     if w.len() % 2 != 0 {

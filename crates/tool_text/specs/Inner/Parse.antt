@@ -1,8 +1,7 @@
 -- Laws of specs/Parse.antt, and definitions that only code and proofs use.
 -- Assumes nothing.
-use Rattle.std.specs.Prelude.{◌≡◌, true, cond, List, [], ◌∷◌, ℕ, ◌+◌, ◌-◌, ◌*◌, length, ltb, eqb, Option, Some, None}
-use Rattle.tool_text.specs.Put.{overlay}
-use Rattle.tool_text.specs.Parse.{nibble_of, octet_of, is_hex, unhex, octets, size_of}
+use Rattle.std.specs.Prelude.{cond, List, [], ◌∷◌, ℕ, ◌+◌, ◌-◌, ◌*◌, length, ltb, eqb, Option, Some, None}
+use Rattle.tool_text.specs.Parse.{nibble_of, octet_of}
 
 -- the value of a hex digit, and the byte of two
 abbrev pub nibble_in : ℕ → Option ℕ
@@ -31,12 +30,3 @@ number_from n (b ∷ bs) = on_number (add_digit n b) (λ m. number_from m bs)
 -- a word as a decimal number: one digit at least, leading zeros are fine
 unfoldable pub number_of : List ℕ → Option ℕ
 number_of w = cond (eqb (length w) 0) None (number_from 0 w)
-
--- the answer, and, where the word is one of bytes, these at the start of the buffer
-pub record Octets (w before after : List ℕ) (r : Option ℕ) : Type 0 where
-  pub size : r ≡ octets w
-  pub bytes : is_hex w ≡ true → after ≡ overlay before 0 (unhex w)
-
-pub record Bytes (w before after : List ℕ) (r : Option ℕ) : Type 0 where
-  pub size : r ≡ size_of w
-  pub bytes : (n : ℕ) → r ≡ Some n → after ≡ overlay before 0 (unhex w)
