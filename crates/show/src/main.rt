@@ -4,19 +4,15 @@
 use std::io;
 use tool_input::read_full;
 use tool_report::Style;
-use tool_text::{first, put_byte};
+use tool_text::Text;
 
-// Writes the first bytes of a buffer. The only error is that of writing.
-fn write_first(rt: &impl Print, out: &[u8; 65536], n: usize) -> io::Result<()> {
-    rt.write_all(first(out, n))
-}
-
-// No message has more than 2,048 bytes, so of a longer input the first 65,536 are enough.
+// No message has more than 2,048 bytes, so of a longer input the first 65,536 are enough. The only error is
+// that of reading or writing.
 fn main(rt: HostRuntime) -> io::Result<()> {
     let mut input = [0u8; 65536];
     let n = read_full(&mut rt.stdin(), &mut input)?;
-    let mut out = [0u8; 65536];
-    let end = tool_report::put_shown(Style::Lines, &input[..n], &mut out, 0);
-    let size = put_byte(&mut out, end, b'\n');
-    write_first(&rt, &out, size)
+    let mut out = Text::new();
+    tool_report::put_shown(Style::Lines, &input[..n], &mut out);
+    out.push(b'\n');
+    rt.write_all(out.as_bytes())
 }

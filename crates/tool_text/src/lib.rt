@@ -192,6 +192,7 @@ pub fn octets_of(w: &[u8], bytes: &mut [u8]) -> Option<usize>
     requires { length w.now / 2 ≤ length bytes.old }
     ensures size { result ≡ octets w.now }
     ensures bytes { IfSome result (λ n. take n bytes.new ≡ unhex w.now) }
+    ensures in_bounds { IfSome result (λ n. n ≤ length bytes.new) }
 {
     let n = w.len() / 2;
     if w.len() % 2 != 0 {
