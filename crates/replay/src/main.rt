@@ -69,6 +69,7 @@ impl Replay {
 
     // The blocks of the input. Nothing says that the input ends, so the loop has a last block, behind any that
     // an input has.
+    // Kept: no heap, so blocks in fixed memory and not std's lines.
     fn take_input(&mut self, rt: &(impl Input + Print)) -> io::Result<()> {
         let mut input = rt.reader();
         let mut block = [0u8; 65536];

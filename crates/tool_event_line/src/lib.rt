@@ -1,7 +1,7 @@
 // The event lines of a script: what they say, and the text of what an event answers.
 #![tactic(auto)]
 
-ghost use Rattle.std.specs.Prelude.{◌+◌, ◌≤◌, length};
+ghost use Rattle.std.specs.Prelude.{◌+◌, ◌≤◌, length, IfSome};
 
 use tool_text::{Text, bytes_of, first, number_of, rest_of, word_of};
 
@@ -17,14 +17,14 @@ pub enum EventKind {
 }
 
 // What an event line says. The index is that of an ASP, an AS or a link place, and 0 for a message of the
-// link side; `words` is the length of the lent list as it is written; the message is empty where there is
-// none.
+// link side; so many words are lent to the event; the message is empty where there is none.
 #[derive(Clone, Copy)]
 pub struct Event<'a> {
     pub kind: EventKind,
     pub index: u32,
-    pub words: u32,
+    pub words: usize,
     pub message: &'a [u8],
+    ghost few: { words ≤ 2048 },
 }
 
 // ---- Reading
@@ -46,11 +46,11 @@ pub fn is_event(line: &[u8]) -> bool {
     kind_of(word_of(line)).is_some()
 }
 
-// The words that are lent to an event: at most 2,048.
-pub fn lent(n: u32) -> usize
-    ensures { result ≤ 2048 }
+// `LISTLEN`: the words that are lent to an event, at most 2,048.
+fn words_of(word: &[u8]) -> Option<usize>
+    ensures { IfSome result (λ n. n ≤ 2048) }
 {
-    n.min(2048) as usize
+    Some(number_of(word)?.min(2048) as usize)
 }
 
 // `LISTLEN HEX`
@@ -62,7 +62,7 @@ fn listed<'a>(
 ) -> Option<Event<'a>>
     requires { length rest.now ≤ 65535 }
 {
-    let words = number_of(word_of(rest))?;
+    let words = words_of(word_of(rest))?;
     let size = bytes_of(rest_of(rest), bytes)?;
     Some(Event {
         kind,
@@ -91,7 +91,7 @@ pub fn event_of<'a>(line: &[u8], bytes: &'a mut [u8; 32768]) -> Option<Event<'a>
             Some(Event {
                 kind,
                 index: number_of(word_of(rest))?,
-                words: number_of(rest_of(rest))?,
+                words: words_of(rest_of(rest))?,
                 message: &[],
             })
         }
@@ -124,6 +124,7 @@ fn put_actions(out: &mut Text, actions: &[[u32; 4]])
 
 // `N COUNT (a,c,s,v) ..`, four words for each action, or `R NUMBER`. No event has more than 386 orders
 // (Rule 8.7).
+// Kept: the C interface (include/m2ua.h) has a refusal as a number, 0 for none.
 pub fn put_outcome(out: &mut Text, code: u32, words: &[u32])
     requires { (length out.old + 17800 ≤ 65536) × (length words.now ≤ 1544) }
     ensures { length out.new ≤ length out.old + 17800 }

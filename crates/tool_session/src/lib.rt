@@ -7,7 +7,7 @@
 ghost use Rattle.std.specs.Prelude.{◌≡◌, ◌+◌, ◌*◌, ◌≤◌, ◌<◌, length, IfSome};
 
 use state_tables::Gateway;
-use tool_event_line::{event_of, is_event, lent, put_outcome, put_reached};
+use tool_event_line::{event_of, is_event, put_outcome, put_reached};
 use tool_text::{Text, bytes_of, first, is, number_of, rest_of, word_of};
 
 mod hold;
@@ -61,28 +61,23 @@ impl Session {
         }
     }
 
-    // A line of a script: its answer, with the line's end.
+    // A line of a script: its answer, `?` where it is malformed, and the line's end.
     pub fn run(&mut self, line: &[u8], out: &mut Text)
         requires { length out.old + 18001 ≤ 65536 }
         ensures { length out.new ≤ length out.old + 18001 }
     {
         match command_of(line) {
-            Some(command) if line.len() <= 65535 => self.answer_line(command, line, out),
+            Some(command) if line.len() <= 65535 => {
+                if self.answer(command, line, out).is_none() {
+                    out.push(b'?');
+                }
+                out.push(b'\n');
+            }
             _ => tool_script::run(line, &mut self.bytes, out),
         }
     }
 
-    // The answer to a line of a command, `?` where it is malformed, and the line's end.
-    fn answer_line(&mut self, command: Command, line: &[u8], out: &mut Text)
-        requires { (length out.old + 18001 ≤ 65536) × (length line.now ≤ 65535) }
-        ensures { length out.new ≤ length out.old + 18001 }
-    {
-        if self.answer(command, line, out).is_none() {
-            out.push(b'?');
-        }
-        out.push(b'\n');
-    }
-
+    // The answer to a line of a command; none where it is malformed.
     fn answer(&mut self, command: Command, line: &[u8], out: &mut Text) -> Option<()>
         requires { (length out.old + 17900 ≤ 65536) × (length line.now ≤ 65535) }
         ensures { length out.new ≤ length out.old + 17900 }
@@ -131,7 +126,7 @@ impl Session {
             e.index,
             e.message,
             self.hold.lent(),
-            &mut list[..lent(e.words)],
+            &mut list[..e.words],
             self.gateway,
         );
         self.gateway = next.node.gateway;
@@ -148,7 +143,7 @@ impl Session {
             e.kind,
             e.index,
             e.message,
-            lent(e.words),
+            e.words,
             self.hold.lends(),
             self.gateway,
         ))
