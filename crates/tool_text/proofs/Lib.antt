@@ -1,4 +1,3 @@
 pub mod Lengths
-pub mod Puts
 pub mod Parses
 pub mod Words

@@ -3,8 +3,7 @@
 use mathlib.Core.Path.{◌≡◌, refl, sym, ap, ◌∙◌}
 use mathlib.Core.Bool.{Bool, true, false, cond, false≢true}
 use lib.Dec.{ltb, eqb}
-use Rattle.std.specs.Prelude.{Option, Some, None, SomeIff, ◌-◌, ◌^◌}
-use Rattle.laws.specs.Inner.Choice.{at_lt, at_ge}
+use Rattle.std.specs.Prelude.{Some, None}
 use Rattle.std.proofs.lemmas.Option.{none-some, same_Some}
 use mathlib.Core.List.{List, [], ◌∷◌, ◌++◌, append_assoc, append-nil}
 use Prim.Native.Nat.{ℕ, suc, ◌+◌, ◌*◌, ◌/◌, ◌%◌, ◌<◌, ◌≤◌}
@@ -13,10 +12,10 @@ use native.Mathlib.Numerals.{add-one}
 use lib.ListN.{length, get_or, take, drop, set, drop_of_length-le}
 use lib.Seq.{drop-cons}
 use Rattle.std.proofs.lemmas.List.{take_more_set}
-use borrow.Author.Tests.{le-ltb, ne_eqb}
-use Rattle.tool_text.specs.Parse.{nibble_of, octet_of, is_hex, unhex, is_dash, octets, size_of}
+use borrow.Author.Tests.{ne_eqb}
+use Rattle.tool_text.specs.Parse.{octet_of, is_hex, unhex, is_dash, octets}
 use Rattle.tool_text.specs.Word.{same}
-use Rattle.tool_text.specs.Inner.Parse.{nibble_in, octet_in, add_digit, number_from, number_of}
+use Rattle.tool_text.specs.Inner.Parse.{octet_in, add_digit, number_from, number_of}
 
 pub number_next : (w : List ℕ) (i n m : ℕ) → i < length w → add_digit n (get_or w i 0) ≡ Some m → number_from m (drop (i + 1) w) ≡ number_from n (drop i w)
 unfolding number_from
@@ -30,36 +29,6 @@ pub number_some : (w : List ℕ) → false ≡ eqb (length w) 0 → number_from 
 unfolding number_of
 number_some w h = sym (simp (sym h))
 
--- a further digit: what is no digit, and what doesn't fit
-module _ (n b : ℕ) where
-  pub digit_low : b < 48 → None ≡ add_digit n b
-  unfolding add_digit
-  digit_low h = at_lt _ _ b 48 h refl
-
-  pub digit_high : 57 < b → None ≡ add_digit n b
-  unfolding add_digit
-  digit_high h = at_ge _ _ b 48 (omega arith) (at_lt _ _ 57 b h refl)
-
-  module _ (h : 48 ≤ b) (k : b ≤ 57) where
-    pub digit_wide : 4294967295 < n * 10 + (b - 48) → None ≡ add_digit n b
-    unfolding add_digit
-    digit_wide m = at_ge _ _ b 48 h (at_ge _ _ 57 b k (at_lt _ _ 4294967295 (n * 10 + (b - 48)) m refl))
-
-    pub digit_fits : n * 10 + (b - 48) ≤ 4294967295 → Some (n * 10 + (b - 48)) ≡ add_digit n b
-    unfolding add_digit
-    digit_fits m = at_ge _ _ b 48 h (at_ge _ _ 57 b k (at_ge _ _ 4294967295 (n * 10 + (b - 48)) m refl))
-
-    -- as the checked sum says
-    pub digit_more : (r : Option ℕ) → SomeIff r (n * 10 + (b - 48) < 2 ^ 32) (n * 10 + (b - 48)) → r ≡ add_digit n b
-    digit_more (Some x) e = let q = e.0 in rw e.1 (digit_fits (omega arith))
-    digit_more None e = digit_wide (omega arith)
-
-pub nibble_some : (b x : ℕ) → x ≡ nibble_of b → x ≤ 15 → Some x ≡ nibble_in b
-nibble_some b x e h = sym (rw (← e, le-ltb 15 x h))
-
-pub nibble_none : (b : ℕ) → 16 ≡ nibble_of b → None ≡ nibble_in b
-nibble_none b e = let q : nibble_of b ≡ 16 = sym e in sym (rw q)
-
 some_of : (t : Bool) (x y : ℕ) → cond t None (Some x) ≡ Some y → (t ≡ false) × (x ≡ y)
 some_of true x y q = absurd (none-some y q)
 some_of false x y q = (refl, same_Some x y q)
@@ -67,22 +36,6 @@ some_of false x y q = (refl, same_Some x y q)
 none_of : (t : Bool) (x : ℕ) → cond t None (Some x) ≡ None → t ≡ true
 none_of true x q = refl
 none_of false x q = absurd (none-some x (sym q))
-
-pub octet_first : (h l : ℕ) → None ≡ nibble_in h → None ≡ octet_in h l
-unfolding octet_of
-octet_first h l e = sym (rw (none_of _ _ (sym e)))
-
-pub octet_last : (h l x : ℕ) → Some x ≡ nibble_in h → None ≡ nibble_in l → None ≡ octet_in h l
-unfolding octet_of
-octet_last h l x e f = sym (rw ((some_of _ _ x (sym e)).0, none_of _ _ (sym f)))
-
-pub octet_both : (h l x y : ℕ) → Some x ≡ nibble_in h → x < 16 → Some y ≡ nibble_in l → y < 16 → Some (x * 16 + y) ≡ octet_in h l
-unfolding octet_of
-octet_both h l x y e g f k =
-    let p = some_of _ _ x (sym e) in
-    let q = some_of _ _ y (sym f) in
-    let u : ltb 255 (x * 16 + y) ≡ false = le-ltb 255 (x * 16 + y) (omega arith) in
-    sym (rw (p.0, q.0, p.1, q.1, u))
 
 -- two characters of a word
 pub drop_two : (w : List ℕ) (i : ℕ) → 2 * i + 1 < length w → drop (2 * i) w ≡ get_or w (2 * i) 0 ∷ get_or w (2 * i + 1) 0 ∷ drop (2 * (i + 1)) w
@@ -129,15 +82,6 @@ module _ (w l : List ℕ) (i : ℕ) (a : length w / 2 ≤ i) (b : i ≤ length w
   unfolding unhex
   unhex_done h = let e : length w / 2 ≡ i = omega arith in let h' : take i l ++ [] ≡ unhex w = rw none_left at h in rw e (sym (append-nil (take i l)) ∙ h')
 
-module _ (w : List ℕ) (d : is_dash w ≡ false) where
-  pub size_none : true ≡ eqb (length w) 0 → None ≡ size_of w
-  unfolding size_of
-  size_none e = sym (simp (d, sym e))
-
-  pub size_some : false ≡ eqb (length w) 0 → octets w ≡ size_of w
-  unfolding size_of
-  size_some e = sym (simp (d, sym e))
-
 -- an odd number of characters
 pub odd_stop : (w : List ℕ) → (length w % 2 ≡ 0 → ⊥) → is_hex w ≡ false
 unfolding is_hex
@@ -164,16 +108,8 @@ dash_same (x ∷ y ∷ w) = rw (ne_eqb (suc (suc (length w))) 1 (λ e. omega ari
     go false = refl
 
 -- a word that is one `-` says no bytes
-module _ (w : List ℕ) (d : is_dash w ≡ true) where
-  pub size_dash : Some 0 ≡ size_of w
-  unfolding size_of
-  size_dash = sym (simp d)
-
-  pub unhex_dash : [] ≡ unhex w
-  unfolding is_dash unhex
-  unhex_dash = go w d
-    where
-      go : (w : List ℕ) → is_dash w ≡ true → [] ≡ unhex w
-      go [] d = refl
-      go (x ∷ []) d = refl
-      go (x ∷ y ∷ w) d = absurd (false≢true (sym (ap (λ t. cond t (eqb x 45) false) (ne_eqb (suc (suc (length w))) 1 (λ e. omega arith))) ∙ d))
+pub unhex_dash : (w : List ℕ) → is_dash w ≡ true → [] ≡ unhex w
+unfolding is_dash unhex
+unhex_dash [] d = refl
+unhex_dash (x ∷ []) d = refl
+unhex_dash (x ∷ y ∷ w) d = absurd (false≢true (sym (ap (λ t. cond t (eqb x 45) false) (ne_eqb (suc (suc (length w))) 1 (λ e. omega arith))) ∙ d))

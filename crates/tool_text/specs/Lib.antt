@@ -1,4 +1,3 @@
-pub mod Put
 pub mod Digits
 pub mod Parse
 pub mod Word

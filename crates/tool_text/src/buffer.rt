@@ -1,9 +1,9 @@
 // Text that is put together byte by byte, in a buffer with room for 65,536.
 
-ghost use Rattle.std.specs.Prelude.{◌≡◌, ◌+◌, ◌*◌, ◌-◌, ◌≤◌, ◌<◌, length, take, [], ◌∷◌, ◌++◌};
-ghost use Rattle.tool_text.specs.Digits.{digits, decimal, hex};
+ghost use Rattle.std.specs.Prelude.{◌≡◌, ◌+◌, ◌*◌, ◌-◌, ◌%◌, ◌≤◌, ◌<◌, length, take, [], ◌∷◌, ◌++◌};
+ghost use Rattle.tool_text.specs.Digits.{glyph, digits, places, decimal, hex};
 
-use crate::{digit, first, last_digit, width};
+use crate::first;
 use std::marker::Model;
 
 // Clauses see the text itself. What stands behind it in the buffer is nobody's.
@@ -125,13 +125,41 @@ impl Text {
     }
 }
 
+// The character of a digit below 16.
+#[tactic(auto, unfolding(crate::specs::Digits::glyph))]
+fn digit(x: u8) -> u8
+    requires { x < 16 }
+    ensures { result ≡ glyph x }
+{
+    if x < 10 { b'0' + x } else { b'a' + (x - 10) }
+}
+
+// How many decimal digits a number has.
+#[tactic(auto, unfolding(crate::specs::Digits::places))]
+fn width(n: u32) -> usize
+    ensures { (result ≡ places n) × (0 < result) × (result ≤ 10) }
+{
+    match n {
+        ..10 => 1,
+        ..100 => 2,
+        ..1000 => 3,
+        ..10000 => 4,
+        ..100000 => 5,
+        ..1000000 => 6,
+        ..10000000 => 7,
+        ..100000000 => 8,
+        ..1000000000 => 9,
+        _ => 10,
+    }
+}
+
 // The last decimal digits of a number, as many as there are places.
 fn put_digits(places: &mut [u8], n: u32)
     ensures { places.new ≡ digits (length places.old) n }
 {
     let mut rest = n;
     for i in (0..places.len()).rev() {
-        places[i] = b'0' + last_digit(rest);
+        places[i] = b'0' + (rest % 10) as u8;
         rest /= 10;
     }
 }

@@ -1,9 +1,7 @@
-// Text in and out: the words of a line, decimal numbers and lower-case hex.
+// Text out, and the words of a line in: decimal numbers and lower-case hex.
 #![tactic(auto)]
 
 ghost use Rattle.std.specs.Prelude.{◌≡◌, ◌≢◌, ◌==◌, position, IfSome, ℕ, ◌+◌, ◌*◌, ◌-◌, ◌/◌, ◌%◌, ◌≤◌, ◌<◌, length, take, slice_index, [], ◌∷◌, ◌++◌};
-ghost use Rattle.tool_text.specs.Put.{Put};
-ghost use Rattle.tool_text.specs.Digits.{glyph, digits, places, decimal, pair, hex};
 ghost use Rattle.tool_text.specs.Word.{word_in, rest_in, same};
 ghost use Rattle.tool_text.specs.Inner.Word.{Blank};
 ghost use Rattle.tool_text.specs.Parse.{unhex, octets, size_of};
@@ -13,122 +11,9 @@ mod buffer;
 
 pub use buffer::Text;
 
-// ---- Writing. Each function puts its text into `out` from `at` on and returns the place after it.
-
-pub fn put_byte(out: &mut [u8; 65536], at: usize, b: u8) -> usize
-    requires { at < 65536 }
-    ensures { Put out.old out.new at (b ∷ []) result }
-{
-    out[at] = b;
-    at + 1
-}
-
-pub fn put_bytes(out: &mut [u8; 65536], at: usize, s: &[u8]) -> usize
-    requires { at + length s.now ≤ 65536 }
-    ensures { Put out.old out.new at s.now result }
-{
-    let mut i = 0;
-    while i < s.len() {
-        out[at + i] = s[i];
-        i += 1;
-    }
-    at + i
-}
-
-// The character of a digit below 16.
-fn digit(x: u8) -> u8
-    requires { x < 16 }
-    ensures { result ≡ glyph x }
-{
-    if x < 10 { b'0' + x } else { b'a' + (x - 10) }
-}
-
-// How many decimal digits a number has.
-fn width(n: u32) -> usize
-    ensures { (result ≡ places n) × (0 < result) × (result ≤ 10) }
-{
-    match n {
-        ..10 => 1,
-        ..100 => 2,
-        ..1000 => 3,
-        ..10000 => 4,
-        ..100000 => 5,
-        ..1000000 => 6,
-        ..10000000 => 7,
-        ..100000000 => 8,
-        ..1000000000 => 9,
-        _ => 10,
-    }
-}
-
-// The last k decimal digits of a number.
-fn put_digits(out: &mut [u8; 65536], at: usize, n: u32, k: usize)
-    requires { at + k ≤ 65536 }
-    ensures { Put out.old out.new at (digits k n) (at + k) }
-{
-    let mut i = k;
-    let mut rest = n;
-    while i > 0 {
-        i -= 1;
-        out[at + i] = 48 + last_digit(rest);
-        rest /= 10;
-    }
-}
-
-fn last_digit(n: u32) -> u8
-    ensures { (result ≡ n % 10) × (result < 10) }
-{
-    (n % 10) as u8
-}
-
-// A number in decimal: at most ten characters.
-pub fn put_number(out: &mut [u8; 65536], at: usize, n: u32) -> usize
-    requires { at + 10 ≤ 65536 }
-    ensures put { Put out.old out.new at (decimal n) result }
-    ensures lower_bound { (at < result) × (result ≤ at + 10) }
-{
-    let k = width(n);
-    put_digits(out, at, n, k);
-    at + k
-}
-
-// A number, and a character after it.
-pub fn put_field(out: &mut [u8; 65536], at: usize, n: u32, end: u8) -> usize
-    requires { at + 11 ≤ 65536 }
-    ensures put { Put out.old out.new at (decimal n ++ (end ∷ [])) result }
-    ensures lower_bound { (at < result) × (result ≤ at + 11) }
-{
-    let next = put_number(out, at, n);
-    put_byte(out, next, end)
-}
-
-// A byte as two hex digits.
-fn put_pair(out: &mut [u8; 65536], at: usize, b: u8)
-    requires { at + 2 ≤ 65536 }
-    ensures { Put out.old out.new at (pair b) (at + 2) }
-{
-    out[at] = digit(b / 16);
-    out[at + 1] = digit(b % 16);
-}
-
-// Bytes in lower-case hex, two characters for each.
-pub fn put_hex(out: &mut [u8; 65536], at: usize, s: &[u8]) -> usize
-    requires { at + 2 * length s.now ≤ 65536 }
-    ensures put { Put out.old out.new at (hex s.now) result }
-    ensures value { result ≡ at + 2 * length s.now }
-{
-    let mut i = 0;
-    while i < s.len() {
-        put_pair(out, at + 2 * i, s[i]);
-        i += 1;
-    }
-    at + 2 * i
-}
-
-// ---- Reading.
-
 // A number with one more decimal digit; none where the character is no digit or the number doesn't fit 32
 // bits.
+#[tactic(auto, unfolding(crate::specs::Inner::Parse::add_digit))]
 fn add_digit(n: u32, b: u8) -> Option<u32>
     ensures { result ≡ add_digit n b }
 {
@@ -154,6 +39,7 @@ pub fn number_of(w: &[u8]) -> Option<u32>
 }
 
 // The value of a lower-case hex digit.
+#[tactic(auto, unfolding(crate::specs::Parse::nibble_of))]
 fn nibble(b: u8) -> Option<u8>
     ensures value { result ≡ nibble_in b }
     ensures small { IfSome result (λ x. x < 16) }
@@ -166,6 +52,7 @@ fn nibble(b: u8) -> Option<u8>
 }
 
 // The byte of two hex digits.
+#[tactic(auto, unfolding(crate::specs::Parse::octet_of))]
 pub fn octet(h: u8, l: u8) -> Option<u8>
     ensures { result ≡ octet_in h l }
 {
@@ -173,6 +60,7 @@ pub fn octet(h: u8, l: u8) -> Option<u8>
 }
 
 // A word of hex digits, or `-` for no bytes, put into the first bytes of a buffer: how many.
+#[tactic(auto, using(crate::proofs::Parses::dash_same, crate::proofs::Parses::unhex_dash), unfolding(crate::specs::Parse::size_of))]
 pub fn bytes_of(w: &[u8], bytes: &mut [u8; 32768]) -> Option<usize>
     requires { length w.now ≤ 65536 }
     ensures size { result ≡ size_of w.now }
@@ -251,25 +139,11 @@ pub fn find(s: &[u8], from: usize, b: u8) -> usize
 }
 
 // Two words are the same.
+#[tactic(auto, using(crate::proofs::Words::same_is))]
 pub fn is(word: &[u8], name: &[u8]) -> bool
     ensures { result ≡ same word.now name.now }
 {
     word == name
-}
-
-// ---- Lines.
-
-// More of a line: as much of a part as there is room for.
-pub fn collect(line: &mut [u8; 65536], held: usize, part: &[u8]) -> usize
-    requires { held ≤ 65536 }
-    ensures put { Put line.old line.new held (take (65536 - held) part.now) result }
-    ensures upper_bound { result ≤ 65536 }
-{
-    let room = 65536 - held;
-    if part.len() <= room {
-        return put_bytes(line, held, part);
-    }
-    put_bytes(line, held, &part[..room])
 }
 
 // The first bytes of a buffer; all of it where it has no more.

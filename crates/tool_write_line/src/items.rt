@@ -4,7 +4,7 @@ ghost use Rattle.std.specs.Prelude.{◌≡◌, ◌≤◌, [], IfSome};
 
 use crate::tag_of;
 use std::marker::Model;
-use tool_text::{find, first, number_of, octets_of};
+use tool_text::{first, number_of, octets_of};
 
 // Tags, the lengths of the values, and the values one after the other. Of a list of more than 512 items the
 // first 512 are kept, and the values of all: it has more than 2,048 bytes either way.
@@ -57,10 +57,7 @@ impl<'a> Items<'a> {
 
     // `TAG:HEX`
     pub fn take(&mut self, item: &[u8]) -> Option<()> {
-        let colon = find(item, 0, b':');
-        if colon == item.len() {
-            return None;
-        }
+        let colon = item.iter().position(|b| *b == b':')?;
         let tag = number_of(&item[..colon])?;
         let n = self.take_value(&item[colon + 1..])?;
         if self.count < 512 {
