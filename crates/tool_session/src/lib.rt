@@ -1,31 +1,29 @@
 // A script line by line: what goes from line to line, and the commands beside `read` and `show`.
 //
-// A further command is a case of `Command`, a line of `command_of`, an arm of `answer` and a
-// function of its own, which writes at most 18,000 characters and hands the next state back.
+// A further command is a case of `Command`, a line of `command_of`, an arm of `answer` and mostly a method of
+// its own; its answer has at most 17,900 characters.
 #![tactic(auto)]
 
-ghost use Rattle.std.specs.Prelude.{◌≡◌, ◌+◌, ◌*◌, ◌≤◌, ◌<◌, length};
+ghost use Rattle.std.specs.Prelude.{◌≡◌, ◌+◌, ◌*◌, ◌≤◌, ◌<◌, length, IfSome};
 
-use abi_node::Next;
-use codec_write::Written;
-use state_plan::Loaded;
 use state_tables::Gateway;
-use tool_event_line::{Event, Parsed, event_of, is_event, lent, put_outcome, put_reached};
-use tool_text::{
-    Number, Size, bytes_of, first, is, number_of, put_byte, put_hex, put_number, rest_of, word_of,
-};
+use tool_event_line::{event_of, is_event, put_outcome, put_reached};
+use tool_text::{Text, bytes_of, first, is, number_of, rest_of, word_of};
 
-// What goes from line to line: how much of the output buffer is filled, how many bytes of a hold are lent,
-// and the gateway's state.
-#[derive(Clone, Copy)]
-pub struct State {
-    pub used: usize,
-    pub lends: u32,
-    pub gateway: Gateway,
+mod hold;
+
+use hold::Hold;
+
+// What goes from line to line: the gateway's state and the hold; and the buffer for the bytes of a line.
+#[derive(Drop)]
+pub struct Session {
+    gateway: Gateway,
+    hold: Hold,
+    bytes: [u8; 32768],
 }
 
-#[derive(Drop)]
-pub enum Command {
+#[derive(Clone, Copy)]
+enum Command {
     Plan,
     State,
     Write,
@@ -35,460 +33,155 @@ pub enum Command {
     Hold,
     Paint,
     Held,
-    Other,
-}
-
-// The start: nothing is written, the hold that is kept is lent, and the gateway is the one of zeros.
-pub fn start() -> State
-    ensures { result.used ≡ 0 }
-{
-    State {
-        used: 0,
-        lends: 34944,
-        gateway: Gateway::zeros(),
-    }
-}
-
-// The output buffer is filled up to a place.
-pub fn at(s: State, used: usize) -> State
-    ensures { result.used ≡ used }
-{
-    let mut t = s;
-    t.used = used;
-    t
 }
 
 // The command of a line. `state` has no words, so it is the line itself.
-fn command_of(line: &[u8]) -> Command {
-    let name = word_of(line);
-    if is(name, b"plan") {
-        return Command::Plan;
-    }
-    if is(name, b"write") {
-        return Command::Write;
-    }
-    if is(line, b"state") {
-        return Command::State;
-    }
-    if is_event(line) {
-        return Command::Event;
-    }
-    if is(name, b"reach") {
-        return Command::Reach;
-    }
-    if is(name, b"bytes") {
-        return Command::Bytes;
-    }
-    if is(name, b"hold") {
-        return Command::Hold;
-    }
-    if is(name, b"paint") {
-        return Command::Paint;
-    }
-    if is(name, b"held") {
-        return Command::Held;
-    }
-    Command::Other
-}
-
-// ---- `plan HEX`
-
-// The answer to a file; its gateway becomes the current one.
-fn loaded(l: Loaded, out: &mut [u8; 65536], s: State) -> State
-    requires { s.used + 18000 ≤ 65536 }
-    ensures { result.used ≤ s.used + 18000 }
-{
-    let next = put_number(out, s.used, l.code);
-    let gateway = l.gateway;
-    State {
-        used: next,
-        lends: s.lends,
-        gateway: gateway,
+fn command_of(line: &[u8]) -> Option<Command> {
+    match word_of(line) {
+        b"plan" => Some(Command::Plan),
+        b"write" => Some(Command::Write),
+        b"reach" => Some(Command::Reach),
+        b"bytes" => Some(Command::Bytes),
+        b"hold" => Some(Command::Hold),
+        b"paint" => Some(Command::Paint),
+        b"held" => Some(Command::Held),
+        _ if is(line, b"state") => Some(Command::State),
+        _ if is_event(line) => Some(Command::Event),
+        _ => None,
     }
 }
 
-fn plan(hex: &[u8], bytes: &mut [u8; 32768], out: &mut [u8; 65536], s: State) -> State
-    requires { (s.used + 18000 ≤ 65536) × (length hex.now ≤ 65535) }
-    ensures { result.used ≤ s.used + 18000 }
-{
-    let size = bytes_of(hex, bytes);
-    let Size::Count(n) = size else {
-        return bad(out, s);
-    };
-    loaded(state_plan::load(first(bytes, n)), out, s)
-}
-
-// A line that is no command.
-fn bad(out: &mut [u8; 65536], s: State) -> State
-    requires { s.used + 18000 ≤ 65536 }
-    ensures { result.used ≤ s.used + 18000 }
-{
-    at(s, put_byte(out, s.used, b'?'))
-}
-
-// ---- `state`
-
-fn show_state(out: &mut [u8; 65536], s: State) -> State
-    requires { s.used + 18000 ≤ 65536 }
-    ensures { result.used ≤ s.used + 18000 }
-{
-    let g = s.gateway;
-    at(s, tool_state_line::put_state(out, s.used, g))
-}
-
-// ---- `write CLASS TYPE BUFLEN LIST`
-
-fn write(rest: &[u8], bytes: &mut [u8; 32768], out: &mut [u8; 65536], s: State) -> State
-    requires { s.used + 18000 ≤ 65536 }
-    ensures { result.used ≤ s.used + 18000 }
-{
-    at(s, tool_write_line::put_message(rest, bytes, out, s.used))
-}
-
-// ---- `msg`, `lost`, `recovery`, `up`, `down`, `linkmsg`
-
-// The text of what an event hands back; its gateway becomes the current one.
-fn told(o: Next, list: &[u32; 2048], out: &mut [u8; 65536], s: State) -> State
-    requires { (s.used + 18000 ≤ 65536) × (o.count ≤ 386) }
-    ensures { result.used ≤ s.used + 18000 }
-{
-    let next = put_outcome(out, s.used, o.refusal, o.count as u32, list);
-    let node = o.node;
-    let gateway = node.gateway;
-    State {
-        used: next,
-        lends: s.lends,
-        gateway: gateway,
+impl Session {
+    // The gateway is the one of zeros.
+    pub fn new() -> Self {
+        Session {
+            gateway: Gateway::zeros(),
+            hold: Hold::new(),
+            bytes: [0; 32768],
+        }
     }
-}
 
-// The bytes of the hold that is lent: at most 65,536.
-fn lent_bytes(n: u32) -> usize
-    ensures { result ≤ 65536 }
-{
-    if n < 65536 { n as usize } else { 65536 }
-}
-
-// The event with a hold of so many bytes: the one that is kept where it has as many, else another.
-fn run_with(
-    e: Event,
-    msg: &[u8],
-    hold: &mut [u8; 34944],
-    size: usize,
-    words: &mut [u32],
-    g: Gateway,
-) -> Next
-    requires { size ≤ 65536 }
-    ensures { result.count ≤ 386 }
-{
-    let kind = e.kind;
-    if size == 34944 {
-        return tool_event_run::happen(kind, e.index, msg, hold, words, g);
+    // A line of a script: its answer, `?` where it is malformed, and the line's end.
+    pub fn run(&mut self, line: &[u8], out: &mut Text)
+        requires { length out.old + 18001 ≤ 65536 }
+        ensures { length out.new ≤ length out.old + 18001 }
+    {
+        match command_of(line) {
+            Some(command) if line.len() <= 65535 => {
+                if self.answer(command, line, out).is_none() {
+                    out.push(b'?');
+                }
+                out.push(b'\n');
+            }
+            _ => tool_script::run(line, &mut self.bytes, out),
+        }
     }
-    let mut other = [0u8; 65536];
-    tool_event_run::happen(kind, e.index, msg, &mut other[..size], words, g)
-}
 
-fn happen(
-    e: Event,
-    bytes: &[u8; 32768],
-    hold: &mut [u8; 34944],
-    out: &mut [u8; 65536],
-    s: State,
-) -> State
-    requires { s.used + 18000 ≤ 65536 }
-    ensures { result.used ≤ s.used + 18000 }
-{
-    let mut list = [0u32; 2048];
-    let n = lent(e.words);
-    let size = lent_bytes(s.lends);
-    let g = s.gateway;
-    let o = run_with(e, first(bytes, e.size), hold, size, &mut list[..n], g);
-    told(o, &list, out, s)
-}
-
-fn event(
-    line: &[u8],
-    bytes: &mut [u8; 32768],
-    hold: &mut [u8; 34944],
-    out: &mut [u8; 65536],
-    s: State,
-) -> State
-    requires { (s.used + 18000 ≤ 65536) × (length line.now ≤ 65535) }
-    ensures { result.used ≤ s.used + 18000 }
-{
-    let parsed = event_of(line, bytes);
-    let Parsed::Line(e) = parsed else {
-        return bad(out, s);
-    };
-    happen(e, bytes, hold, out, s)
-}
-
-// ---- `reach` with one of these lines
-
-// The ASes that an event reaches; the gateway stays as it is.
-fn show_reach(e: Event, bytes: &[u8; 32768], out: &mut [u8; 65536], s: State) -> State
-    requires { s.used + 18000 ≤ 65536 }
-    ensures { result.used ≤ s.used + 18000 }
-{
-    let room = lent(e.words);
-    let kind = e.kind;
-    let g = s.gateway;
-    let size = lent_bytes(s.lends);
-    let row = tool_event_run::reached_by(kind, e.index, first(bytes, e.size), room, size, g);
-    at(s, put_reached(out, s.used, &row))
-}
-
-fn reach(rest: &[u8], bytes: &mut [u8; 32768], out: &mut [u8; 65536], s: State) -> State
-    requires { (s.used + 18000 ≤ 65536) × (length rest.now ≤ 65535) }
-    ensures { result.used ≤ s.used + 18000 }
-{
-    let parsed = event_of(rest, bytes);
-    let Parsed::Line(e) = parsed else {
-        return bad(out, s);
-    };
-    show_reach(e, bytes, out, s)
-}
-
-// ---- `bytes PLACE BUFLEN` with one of these lines
-
-// The text of a message that is written.
-fn shown(w: Written, message: &[u8; 8192], out: &mut [u8; 65536], s: State) -> State
-    requires { s.used + 18000 ≤ 65536 }
-    ensures { result.used ≤ s.used + 18000 }
-{
-    at(s, tool_write_line::put_written(w, message, out, s.used))
-}
-
-// The action with a hold of so many bytes, as an event's.
-fn write_with<'a>(
-    e: Event,
-    place: u32,
-    msg: &'a [u8],
-    hold: &'a [u8; 34944],
-    size: usize,
-    out: &mut [u8],
-    g: Gateway,
-) -> Written {
-    let kind = e.kind;
-    if size == 34944 {
-        return tool_event_run::written_by(kind, e.index, msg, hold, place, out, g);
+    // The answer to a line of a command; none where it is malformed.
+    fn answer(&mut self, command: Command, line: &[u8], out: &mut Text) -> Option<()>
+        requires { (length out.old + 17900 ≤ 65536) × (length line.now ≤ 65535) }
+        ensures { length out.new ≤ length out.old + 17900 }
+    {
+        let rest = rest_of(line);
+        match command {
+            Command::Plan => out.push_number(self.plan(rest)?),
+            Command::State => tool_state_line::put_state(out, &self.gateway),
+            Command::Write => tool_write_line::put_message(rest, &mut self.bytes, out),
+            Command::Event => self.event(line, out)?,
+            Command::Reach => put_reached(out, &self.reached(rest)?),
+            Command::Bytes => self.action(rest, out)?,
+            Command::Hold => {
+                self.hold.lend(number_of(rest)?);
+                out.push(b'0');
+            }
+            Command::Paint => {
+                self.hold.paint(u8::try_from(number_of(rest)?).ok()?);
+                out.push(b'0');
+            }
+            Command::Held => out.push_hex(self.held(rest)?),
+        }
+        Some(())
     }
-    let other = [0u8; 65536];
-    tool_event_run::written_by(kind, e.index, msg, first(&other, size), place, out, g)
-}
 
-// An action of an event as bytes; the gateway stays as it is.
-fn show_bytes<'a>(
-    e: Event,
-    place: u32,
-    room: u32,
-    bytes: &'a [u8; 32768],
-    hold: &'a [u8; 34944],
-    out: &mut [u8; 65536],
-    s: State,
-) -> State
-    requires { s.used + 18000 ≤ 65536 }
-    ensures { result.used ≤ s.used + 18000 }
-{
-    let mut message = [0u8; 8192];
-    let n = tool_write_line::lent(room as usize);
-    let size = lent_bytes(s.lends);
-    let g = s.gateway;
-    let w = write_with(
-        e,
-        place,
-        first(bytes, e.size),
-        hold,
-        size,
-        &mut message[..n],
-        g,
-    );
-    shown(w, &message, out, s)
-}
-
-// The place among its actions, the buffer's length and the event.
-fn one_action(
-    rest: &[u8],
-    bytes: &mut [u8; 32768],
-    hold: &[u8; 34944],
-    out: &mut [u8; 65536],
-    s: State,
-) -> State
-    requires { (s.used + 18000 ≤ 65536) × (length rest.now ≤ 65535) }
-    ensures { result.used ≤ s.used + 18000 }
-{
-    let number = number_of(word_of(rest));
-    let Number::Value(place) = number else {
-        return bad(out, s);
-    };
-    let after = rest_of(rest);
-    let length = number_of(word_of(after));
-    let Number::Value(room) = length else {
-        return bad(out, s);
-    };
-    let parsed = event_of(rest_of(after), bytes);
-    let Parsed::Line(e) = parsed else {
-        return bad(out, s);
-    };
-    show_bytes(e, place, room, bytes, hold, out, s)
-}
-
-// ---- `hold LEN`, `paint N`, `held A K`
-
-// The answer `0`.
-fn done(out: &mut [u8; 65536], s: State) -> State
-    requires { s.used + 18000 ≤ 65536 }
-    ensures { result.used ≤ s.used + 18000 }
-{
-    at(s, put_byte(out, s.used, b'0'))
-}
-
-// How many bytes the events that follow are lent.
-fn lend(rest: &[u8], out: &mut [u8; 65536], s: State) -> State
-    requires { s.used + 18000 ≤ 65536 }
-    ensures { result.used ≤ s.used + 18000 }
-{
-    let number = number_of(rest);
-    let Number::Value(n) = number else {
-        return bad(out, s);
-    };
-    let mut t = s;
-    t.lends = n;
-    done(out, t)
-}
-
-// Every byte of the hold that is kept becomes x.
-fn fill(hold: &mut [u8; 34944], x: u8) {
-    for i in 0..34944usize {
-        hold[i] = x;
+    // `plan HEX`: the answer to a file; its gateway becomes the current one.
+    fn plan(&mut self, hex: &[u8]) -> Option<u32>
+        requires { length hex.now ≤ 65535 }
+    {
+        let n = bytes_of(hex, &mut self.bytes)?;
+        let loaded = state_plan::load(first(&self.bytes, n));
+        self.gateway = loaded.gateway;
+        Some(loaded.code)
     }
-}
 
-fn paint(rest: &[u8], hold: &mut [u8; 34944], out: &mut [u8; 65536], s: State) -> State
-    requires { s.used + 18000 ≤ 65536 }
-    ensures { result.used ≤ s.used + 18000 }
-{
-    let number = number_of(rest);
-    let Number::Value(n) = number else {
-        return bad(out, s);
-    };
-    if n > 255 {
-        return bad(out, s);
+    // `msg`, `lost`, `recovery`, `up`, `down`, `linkmsg`: what the event hands back; its gateway becomes the
+    // current one.
+    fn event(&mut self, line: &[u8], out: &mut Text) -> Option<()>
+        requires { (length out.old + 17800 ≤ 65536) × (length line.now ≤ 65535) }
+        ensures { length out.new ≤ length out.old + 17800 }
+    {
+        let e = event_of(line, &mut self.bytes)?;
+        let mut list = [0u32; 2048];
+        let next = tool_event_run::happen(
+            e.kind,
+            e.index,
+            e.message,
+            self.hold.lent(),
+            &mut list[..e.words],
+            self.gateway,
+        );
+        self.gateway = next.node.gateway;
+        put_outcome(out, next.refusal, first(&list, 4 * next.count));
+        Some(())
     }
-    fill(hold, n as u8);
-    done(out, s)
-}
 
-// The bytes of place k of AS a (Rule 5.22).
-fn show_place(hold: &[u8; 34944], a: usize, k: usize, out: &mut [u8; 65536], s: State) -> State
-    requires { (s.used + 18000 ≤ 65536) × (a < 16) × (k < 8) }
-    ensures { result.used ≤ s.used + 18000 }
-{
-    let from = a * 2184 + k * 273;
-    let to = from + 273;
-    let all: &[u8] = hold;
-    at(s, put_hex(out, s.used, &all[from..to]))
-}
-
-// The place, the last word.
-fn held_at(a: u32, rest: &[u8], hold: &[u8; 34944], out: &mut [u8; 65536], s: State) -> State
-    requires { (s.used + 18000 ≤ 65536) × (a < 16) }
-    ensures { result.used ≤ s.used + 18000 }
-{
-    let number = number_of(rest);
-    let Number::Value(k) = number else {
-        return bad(out, s);
-    };
-    if k > 7 {
-        return bad(out, s);
+    // `reach` with one of these lines: the ASes that the event reaches; the gateway stays as it is.
+    fn reached(&mut self, line: &[u8]) -> Option<[bool; 16]>
+        requires { length line.now ≤ 65535 }
+    {
+        let e = event_of(line, &mut self.bytes)?;
+        Some(tool_event_run::reached_by(
+            e.kind,
+            e.index,
+            e.message,
+            e.words,
+            self.hold.lends(),
+            self.gateway,
+        ))
     }
-    show_place(hold, a as usize, k as usize, out, s)
-}
 
-fn held(rest: &[u8], hold: &[u8; 34944], out: &mut [u8; 65536], s: State) -> State
-    requires { s.used + 18000 ≤ 65536 }
-    ensures { result.used ≤ s.used + 18000 }
-{
-    let number = number_of(word_of(rest));
-    let Number::Value(a) = number else {
-        return bad(out, s);
-    };
-    if a > 15 {
-        return bad(out, s);
+    // `bytes PLACE BUFLEN` with one of these lines: the action of the event as bytes; the gateway stays as it
+    // is.
+    fn action(&mut self, rest: &[u8], out: &mut Text) -> Option<()>
+        requires { (length out.old + 17000 ≤ 65536) × (length rest.now ≤ 65535) }
+        ensures { length out.new ≤ length out.old + 17000 }
+    {
+        let place = number_of(word_of(rest))?;
+        let after = rest_of(rest);
+        let room = number_of(word_of(after))?;
+        let e = event_of(rest_of(after), &mut self.bytes)?;
+        let mut message = [0u8; 8192];
+        let written = tool_event_run::written_by(
+            e.kind,
+            e.index,
+            e.message,
+            self.hold.lent(),
+            place,
+            &mut message[..room.min(8192) as usize],
+            self.gateway,
+        );
+        tool_write_line::put_written(written, &message, out);
+        Some(())
     }
-    held_at(a, rest_of(rest), hold, out, s)
-}
 
-// ---- Lines
-
-// The answer to a line of a command.
-fn answer(
-    command: Command,
-    line: &[u8],
-    bytes: &mut [u8; 32768],
-    hold: &mut [u8; 34944],
-    out: &mut [u8; 65536],
-    s: State,
-) -> State
-    requires { (s.used + 18000 ≤ 65536) × (length line.now ≤ 65535) }
-    ensures { result.used ≤ s.used + 18000 }
-{
-    match command {
-        Command::Plan => plan(rest_of(line), bytes, out, s),
-        Command::State => show_state(out, s),
-        Command::Write => write(rest_of(line), bytes, out, s),
-        Command::Event => event(line, bytes, hold, out, s),
-        Command::Reach => reach(rest_of(line), bytes, out, s),
-        Command::Bytes => one_action(rest_of(line), bytes, hold, out, s),
-        Command::Hold => lend(rest_of(line), out, s),
-        Command::Paint => paint(rest_of(line), hold, out, s),
-        Command::Held => held(rest_of(line), hold, out, s),
-        Command::Other => bad(out, s),
+    // `held A K`: the bytes of place k of AS a.
+    fn held(&self, rest: &[u8]) -> Option<&[u8]>
+        ensures { IfSome result (λ s. length s.now ≡ 273) }
+    {
+        let a = number_of(word_of(rest))?;
+        let k = number_of(rest_of(rest))?;
+        if a > 15 || k > 7 {
+            return None;
+        }
+        Some(self.hold.place(a as usize, k as usize))
     }
-}
-
-// The answer and the line's end.
-fn answer_line(
-    command: Command,
-    line: &[u8],
-    bytes: &mut [u8; 32768],
-    hold: &mut [u8; 34944],
-    out: &mut [u8; 65536],
-    s: State,
-) -> State
-    requires { (s.used + 18001 ≤ 65536) × (length line.now ≤ 65535) }
-    ensures { result.used ≤ s.used + 18001 }
-{
-    let t = answer(command, line, bytes, hold, out, s);
-    at(t, put_byte(out, t.used, b'\n'))
-}
-
-// A line that is no command of this crate.
-fn other(line: &[u8], bytes: &mut [u8; 32768], out: &mut [u8; 65536], s: State) -> State
-    requires { s.used + 18001 ≤ 65536 }
-    ensures { result.used ≤ s.used + 18001 }
-{
-    at(s, tool_script::run(line, bytes, out, s.used))
-}
-
-// A line of a script, with the hold that is kept.
-pub fn run(
-    line: &[u8],
-    bytes: &mut [u8; 32768],
-    hold: &mut [u8; 34944],
-    out: &mut [u8; 65536],
-    s: State,
-) -> State
-    requires { s.used + 18001 ≤ 65536 }
-    ensures { result.used ≤ s.used + 18001 }
-{
-    if line.len() > 65535 {
-        return other(line, bytes, out, s);
-    }
-    let command = command_of(line);
-    if let Command::Other = command {
-        return other(line, bytes, out, s);
-    }
-    answer_line(command, line, bytes, hold, out, s)
 }

@@ -79,6 +79,18 @@ impl Text {
         self.push_bytes(first(part, room));
     }
 
+    // A comma, where something stands behind a place: what follows is not the first of its list.
+    pub fn push_comma(&mut self, start: usize)
+        requires { length self.old < 65536 }
+        ensures further { start < length self.old → self.new ≡ self.old ++ 44 ∷ [] }
+        ensures first { length self.old ≤ start → self.new ≡ self.old }
+        ensures lower_bound { (length self.old ≤ length self.new) × (length self.new ≤ length self.old + 1) }
+    {
+        if self.len > start {
+            self.push(b',');
+        }
+    }
+
     // A number in decimal: at most ten characters.
     pub fn push_number(&mut self, n: u32)
         requires { length self.old + 10 ≤ 65536 }
