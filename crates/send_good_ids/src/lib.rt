@@ -17,7 +17,7 @@ ghost use Rattle.send_good_ids.specs.Inner.Made.{good_form, ModeFits, GoodMessag
 
 use codec_select::Which;
 use codec_wire::{HEADER, Step};
-use send_message::Form;
+use send_message::{Form, Owners};
 
 // ---- the places that are named: the mark at a place says up to where it and those behind it are
 
@@ -284,16 +284,10 @@ fn good_form() -> Form
     Form {
         class: 4,
         msgtype: 1,
-        one: false,
-        tag: 0,
-        number: 0,
-        held: false,
-        heldtag: 0,
-        two: false,
-        tag2: 0,
-        number2: 0,
-        listed: true,
-        owned: 1,
+        one: None,
+        held: None,
+        two: None,
+        listed: Some(1),
         first: Which::Mode,
         after: Which::Nothing,
     }
@@ -313,5 +307,10 @@ pub fn put_good<'a>(
 {
     let column = good_places(msg, links, mine, iid, owner);
     let form = good_form();
-    send_message::put_rest(out, HEADER, msg, iid, &column, links, form)
+    let marked = Owners {
+        iid,
+        owner: &column,
+        links,
+    };
+    send_message::put_rest(out, HEADER, msg, marked, form)
 }

@@ -4,7 +4,7 @@ use Rattle.send_good_ids.proofs.put_good.Goals as goal
 pub put_rest-requires : goal.put_rest-requires
 put_rest-requires c =
     let p = c.requires in
-    (p.1.few, made_fits _ c.good_places-column.result _ _ _ c.good_form-form.ensures p.1.few p.2 c.args.out.now p.0)
+    made_fits _ c.good_places-column.result _ _ _ c.good_form-form.ensures p.1.few p.2 c.args.out.now p.0
 
 pub returns : goal.returns
 returns c =
