@@ -19,10 +19,6 @@ use Rattle.codec_select.specs.Inner.Picks.{PutBytes, PutPars}
 use Rattle.codec_select.proofs.Runs.{one_bytes, one_length, none_length}
 use Rattle.send_message.specs.Inner.Form.{owns, id_at, ids_in, ids_par_in, as_pars, list_size, listed_size}
 
-pub one_small : (b : Bool) → one b ≤ 1
-one_small true = omega arith
-one_small false = omega arith
-
 -- a byte is compared with the last byte of a number, and the number is one byte
 pub is_owner : (o a : ℕ) → o < 256 → (eqb o (a % 256) && ltb a 256) ≡ eqb o a
 is_owner o a h = go (dec_lt a 256)

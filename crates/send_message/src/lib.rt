@@ -19,6 +19,7 @@ use rules_action::{
     MGMT_ERROR, MGMT_NOTIFY, USER_DATA,
 };
 
+// Kept: Batch and Handled are structs of the C interface (include/m2ua.h), with a number for the refusal.
 // What a call did that writes many actions: 0, how many actions it went through, and the bytes of their
 // messages; or the number of the refusal and zeros.
 #[repr(C)]
