@@ -15,7 +15,7 @@ ghost use Rattle.send_good_ids.specs.Inner.Made.{good_form, ModeFits, GoodMessag
 
 use codec_select::Which;
 use codec_wire::{HEADER, Step};
-use send_message::Form;
+use send_message::{Form, Owners};
 use state_lookup::{Identifiers, Links};
 use state_sets::AsSet;
 
@@ -240,16 +240,10 @@ fn good_form() -> Form
     Form {
         class: 4,
         msgtype: 1,
-        one: false,
-        tag: 0,
-        number: 0,
-        held: false,
-        heldtag: 0,
-        two: false,
-        tag2: 0,
-        number2: 0,
-        listed: true,
-        owned: 1,
+        one: None,
+        held: None,
+        two: None,
+        listed: Some(1),
         first: Which::Mode,
         after: Which::Nothing,
     }
@@ -262,13 +256,10 @@ pub fn put_good(out: &mut [u8; 544], msg: &[u8], links: Links, mine: AsSet) -> u
 {
     let column = good_places(msg, links, mine);
     let form = good_form();
-    send_message::put_rest(
-        out,
-        HEADER,
-        msg,
-        links.ids.iid,
-        &column,
-        links.ids.count,
-        form,
-    )
+    let marked = Owners {
+        iid: links.ids.iid,
+        owner: &column,
+        links: links.ids.count,
+    };
+    send_message::put_rest(out, HEADER, msg, marked, form)
 }

@@ -1,14 +1,15 @@
 -- The identifiers of an AS's links as bytes, and the parameter that lists them.
 -- Assumes nothing.
 use mathlib.Core.Path.{◌≡◌, refl, sym, ap, ◌∙◌}
-use mathlib.Core.Bool.{Bool, true, false, cond}
+use mathlib.Core.Bool.{Bool, true, false, cond, ◌&&◌}
 use mathlib.Core.List.{List, [], ◌∷◌, ◌++◌, append-nil}
 use Prim.Native.Nat.{ℕ, zero, suc, ◌+◌, ◌-◌, ◌*◌, ◌%◌, ◌<◌, ◌≤◌}
 use native.Mathlib.Omega.{arith}
 use native.Mathlib.Decide.{dec_lt, ℕ_discrete}
 use lib.ListN.{length, length-append}
-use lib.Dec.{eqb}
-use borrow.Author.Tests.{eq-eqb, ne_eqb}
+use lib.Dec.{eqb, ltb}
+use borrow.Author.Tests.{eq-eqb, ne_eqb, lt-ltb, le-ltb}
+use Rattle.std.specs.Prelude.{Option, Some, None}
 use Rattle.laws.specs.Below.{concat_below, count_below, one}
 use Rattle.laws.specs.Inner.Below.{concat_none, concat_more, count_more}
 use Rattle.laws.specs.Columns.{number_at}
@@ -16,8 +17,23 @@ use Rattle.codec_wire.specs.Walk.{Par}
 use Rattle.codec_put.specs.Bytes.{par, par_size, par_bytes, pars_bytes, bytes16, bytes32}
 use Rattle.codec_select.specs.Inner.Picks.{PutBytes, PutPars}
 use Rattle.codec_select.proofs.Runs.{one_bytes, one_length, none_length}
-use Rattle.send_message.specs.Inner.Form.{owns, id_at, ids_in, ids_par_in, listed_pars, listed_size}
-use Rattle.send_message.specs.declared.Form.{Form}
+use Rattle.send_message.specs.Inner.Form.{owns, id_at, ids_in, ids_par_in, as_pars, list_size, listed_size}
+
+-- a byte is compared with the last byte of a number, and the number is one byte
+pub is_owner : (o a : ℕ) → o < 256 → (eqb o (a % 256) && ltb a 256) ≡ eqb o a
+is_owner o a h = go (dec_lt a 256)
+  where
+    last : (b : Bool) → (b && true) ≡ b
+    last true = refl
+    last false = refl
+
+    none : (b : Bool) → (b && false) ≡ false
+    none true = refl
+    none false = refl
+
+    go : Dec (a < 256) → (eqb o (a % 256) && ltb a 256) ≡ eqb o a
+    go (yes l) = let e : a % 256 ≡ a = omega arith in rw (e, lt-ltb a 256 l) (last (eqb o a))
+    go (no l) = rw (le-ltb a 256 (omega arith), ne_eqb o a (λ z. l (omega arith))) (none (eqb o (a % 256)))
 
 module _ (iid owner : List ℕ) (a : ℕ) where
   pub id_length : (l : ℕ) → length (id_at iid owner a l) ≡ 4 * one (owns owner a l)
@@ -26,6 +42,12 @@ module _ (iid owner : List ℕ) (a : ℕ) where
       go : (b : Bool) → length (cond b (bytes32 (number_at iid l)) []) ≡ 4 * one b
       go true = refl
       go false = refl
+
+  pub id_some : (l : ℕ) → number_at owner l ≡ a → id_at iid owner a l ≡ bytes32 (number_at iid l)
+  id_some l e = rw (eq-eqb (number_at owner l) a e)
+
+  pub id_none : (l : ℕ) → (number_at owner l ≡ a → ⊥) → id_at iid owner a l ≡ []
+  id_none l e = rw (ne_eqb (number_at owner l) a e)
 
   pub ids_length : (n : ℕ) → length (ids_in iid owner n a) ≡ 4 * count_below (owns owner a) n
   unfolding ids_in concat_below count_below
@@ -66,56 +88,52 @@ ids_bytes ids n e m =
     one_bytes (par 0x1 ids) ∙ rw (z, e) (ap (λ (x : List ℕ). bytes16 0x1 ++ (bytes16 (4 + length ids) ++ x)) (append-nil ids))
 
 -- its size tells whether there is one
-pub record Lists (iid owner : List ℕ) (n : ℕ) (f : Form) (size : ℕ) : Type 0 where
-  pub pars : listed_pars iid owner n f ≡ par 0x1 (ids_in iid owner n f.owned) ∷ []
-  pub size_is : size ≡ 4 + length (ids_in iid owner n f.owned)
-  pub whole : length (ids_in iid owner n f.owned) % 4 ≡ 0
-
-module _ (iid owner : List ℕ) (n : ℕ) (f : Form) where
+module _ (iid owner : List ℕ) (n a : ℕ) where
   abbrev k : ℕ
-  k = count_below (owns owner f.owned) n
+  k = count_below (owns owner a) n
 
-  len : length (ids_in iid owner n f.owned) ≡ 4 * k
-  len = ids_length iid owner f.owned n
+  len : length (ids_in iid owner n a) ≡ 4 * k
+  len = ids_length iid owner a n
 
-  pub listed_some : (listed_size owner n f.listed f.owned ≡ 0 → ⊥) → Lists iid owner n f (listed_size owner n f.listed f.owned)
-  unfolding listed_size listed_pars ids_par_in
-  listed_some h = go f.listed refl h (ℕ_discrete k 0)
+  pub list_none : k ≡ 0 → ids_par_in iid owner n a ≡ []
+  unfolding ids_par_in
+  list_none z = let l = len in rw (eq-eqb (length (ids_in iid owner n a)) 0 (omega arith))
+
+  pub list_some : (k ≡ 0 → ⊥) → ids_par_in iid owner n a ≡ par 0x1 (ids_in iid owner n a) ∷ []
+  unfolding ids_par_in
+  list_some z = let l = len in rw (ne_eqb (length (ids_in iid owner n a)) 0 (λ y. z (omega arith)))
+
+  pub list_length : length (pars_bytes (ids_par_in iid owner n a)) ≡ list_size k
+  list_length = go (ℕ_discrete k 0)
     where
-      go : (b : Bool) → f.listed ≡ b → (cond b (cond (eqb k 0) 0 (4 + 4 * k)) 0 ≡ 0 → ⊥) → Dec (k ≡ 0) → Lists iid owner n f (cond f.listed (cond (eqb k 0) 0 (4 + 4 * k)) 0)
-      go false e w d = absurd (w refl)
-      go true e w (yes z) = absurd (w (rw (eq-eqb k 0 z)))
-      go true e w (no z) =
-          let l = len in
-          record {
-            pars = rw (e, ne_eqb (length (ids_in iid owner n f.owned)) 0 (λ y. z (omega arith)));
-            size_is = rw (e, ne_eqb k 0 z) (omega arith);
-            whole = omega arith;
-          }
-
-  pub listed_none : listed_size owner n f.listed f.owned ≡ 0 → listed_pars iid owner n f ≡ []
-  unfolding listed_size listed_pars ids_par_in
-  listed_none h = go f.listed h (ℕ_discrete k 0)
-    where
-      go : (b : Bool) → cond b (cond (eqb k 0) 0 (4 + 4 * k)) 0 ≡ 0 → Dec (k ≡ 0) → cond b (cond (eqb (length (ids_in iid owner n f.owned)) 0) [] (par 0x1 (ids_in iid owner n f.owned) ∷ [])) [] ≡ []
-      go false e d = refl
-      go true e (yes z) = let l = len in rw (eq-eqb (length (ids_in iid owner n f.owned)) 0 (omega arith))
-      go true e (no z) = let q : 4 + 4 * k ≡ 0 = rw (ne_eqb k 0 z) at e in let w : ⊥ = omega arith in absurd w
-
-  pub listed_length : length (pars_bytes (listed_pars iid owner n f)) ≡ listed_size owner n f.listed f.owned
-  listed_length = go (ℕ_discrete (listed_size owner n f.listed f.owned) 0)
-    where
-      go : Dec (listed_size owner n f.listed f.owned ≡ 0) → length (pars_bytes (listed_pars iid owner n f)) ≡ listed_size owner n f.listed f.owned
-      go (yes z) = ap (λ (x : List Par). length (pars_bytes x)) (listed_none z) ∙ none_length ∙ sym z
+      go : Dec (k ≡ 0) → length (pars_bytes (ids_par_in iid owner n a)) ≡ list_size k
+      go (yes z) = ap (λ (x : List Par). length (pars_bytes x)) (list_none z) ∙ none_length ∙ rw z
       go (no z) =
-          let h = listed_some z in
-          let w = h.whole in
-          let s = h.size_is in
-          ap (λ (x : List Par). length (pars_bytes x)) h.pars ∙ one_length (par 0x1 (ids_in iid owner n f.owned)) ∙ omega arith
+          let l = len in
+          ap (λ (x : List Par). length (pars_bytes x)) (list_some z) ∙ one_length (par 0x1 (ids_in iid owner n a)) ∙ rw (ne_eqb k 0 z) (omega arith)
 
-  -- the same of a number that is its size
-  pub listed_at : (m : ℕ) → m ≡ listed_size owner n f.listed f.owned → (m ≡ 0 → ⊥) → Lists iid owner n f m
-  listed_at m e h = rw e (listed_some (λ z. h (e ∙ z)))
+  -- a number that is its size
+  pub size_none : (m : ℕ) → m ≡ list_size k → m ≡ 0 → k ≡ 0
+  size_none m e z = go (ℕ_discrete k 0)
+    where
+      go : Dec (k ≡ 0) → k ≡ 0
+      go (yes y) = y
+      go (no y) = let q : 4 + 4 * k ≡ 0 = rw (ne_eqb k 0 y) at (sym e ∙ z) in let w : ⊥ = omega arith in absurd w
 
-  pub listed_put : (m : ℕ) → Lists iid owner n f m → (out : List ℕ) (at r : ℕ) (out' : List ℕ) → PutBytes out at ((bytes16 0x1 ++ bytes16 m) ++ ids_in iid owner n f.owned) r out' → PutPars out at (listed_pars iid owner n f) r out'
-  listed_put m h out at r out' w = rw (h.pars, ids_bytes (ids_in iid owner n f.owned) m h.size_is h.whole) w
+  pub size_some : (m : ℕ) → m ≡ list_size k → (m ≡ 0 → ⊥) → (m ≡ 4 + length (ids_in iid owner n a)) × (k ≡ 0 → ⊥)
+  size_some m e z = go (ℕ_discrete k 0)
+    where
+      go : Dec (k ≡ 0) → (m ≡ 4 + length (ids_in iid owner n a)) × (k ≡ 0 → ⊥)
+      go (yes y) = absurd (z (e ∙ rw y))
+      go (no y) = let l = len in let q : m ≡ 4 + 4 * k = e ∙ rw (ne_eqb k 0 y) in (omega arith, y)
+
+  pub list_put : (m : ℕ) → m ≡ list_size k → (m ≡ 0 → ⊥) → (out : List ℕ) (at r : ℕ) (out' : List ℕ) → PutBytes out at ((bytes16 0x1 ++ bytes16 m) ++ ids_in iid owner n a) r out' → PutPars out at (ids_par_in iid owner n a) r out'
+  list_put m e z out at r out' w =
+      let s = size_some m e z in
+      let l = len in
+      rw (list_some s.1, ids_bytes (ids_in iid owner n a) m s.0 (omega arith)) w
+
+pub listed_length : (iid owner : List ℕ) (n : ℕ) (listed : Option ℕ) → length (pars_bytes (as_pars iid owner n listed)) ≡ listed_size owner n listed
+unfolding listed_size
+listed_length iid owner n None = none_length
+listed_length iid owner n (Some a) = list_length iid owner n a

@@ -1,22 +1,25 @@
 // The messages that actions to ASPs go out as (Rules 8.8 to 8.16).
 #![tactic(auto)]
 
-ghost use Rattle.std.specs.Prelude.{◌≡◌, cond, [], ◌++◌, ◌+◌, ◌≤◌, length};
-ghost use Rattle.laws.specs.Below.{when, count_below, one};
+ghost use Rattle.std.specs.Prelude.{◌≡◌, ◌++◌, ◌+◌, ◌≤◌, length};
+ghost use Rattle.laws.specs.Below.{count_below};
 ghost use Rattle.codec_wire.specs.Walk.{walk};
-ghost use Rattle.codec_put.specs.Bytes.{overlay, bytes32, par, pars_bytes};
+ghost use Rattle.codec_put.specs.Bytes.{overlay, pars_bytes};
 ghost use Rattle.codec_write.specs.Encode.{size_of, encode};
 ghost use Rattle.codec_select.specs.Inner.Picks.{PutBytes, PutPars};
-ghost use Rattle.send_message.specs.Message.{number_par};
-ghost use Rattle.send_message.specs.Inner.Form.{owns, ids_in, held_pars, said_pars, listed_pars, copied_pars, form_pars, data_size, listed_size, FormFits, numbered, saying, releasing, listing, copying, form_of};
+ghost use Rattle.send_message.specs.Inner.Form.{owns, ids_in, number_pars, data_pars, held_pars, said_pars, as_pars, listed_pars, copied_pars, form_pars, data_size, listed_size, FormFits, bare, saying, releasing, listing, copying, form_of};
+
+mod owners;
 
 use codec_select::Which;
 use codec_wire::HEADER;
+pub use owners::Owners;
 use rules_action::{
     ASP_ACTIVE_ACK, ASP_DOWN_ACK, ASP_INACTIVE_ACK, ASP_UP_ACK, Action, BEAT_ACK, DATA_ACK,
     MGMT_ERROR, MGMT_NOTIFY, USER_DATA,
 };
 
+// Kept: Batch and Handled are structs of the C interface (include/m2ua.h), with a number for the refusal.
 // What a call did that writes many actions: 0, how many actions it went through, and the bytes of their
 // messages; or the number of the refusal and zeros.
 #[repr(C)]
@@ -49,80 +52,74 @@ const CORRELATION: u16 = 0x13;
 // The code of an Error that says which identifier was refused (Rule 8.9).
 const REFUSED_IDENTIFIER: u32 = 2;
 
-// A unit that was held, but for its bytes: the tag of its data, and its correlation id where it is marked
+// A parameter that is one number.
+#[derive(Clone, Copy)]
+pub struct Number {
+    pub tag: u16,
+    pub value: u32,
+}
+
+// A unit that was held, but for its bytes: the tag of its data, and its correlation id where it has one
 // (Rule 5.21).
 #[derive(Clone, Copy)]
 pub struct Unit {
     pub tag: u16,
-    pub marked: bool,
-    pub correlation: u32,
+    pub correlation: Option<u32>,
 }
 
-// What the message of an action is made of: a parameter of one number, the data of a unit, another number,
-// the identifiers of an AS, and the received parameters of two selections, each of them or not.
+// What the message of an action is made of: a parameter of one number, the data of a unit by its tag, another
+// number, the identifiers of an AS by its index, and the received parameters of two selections, each of them
+// or not.
 #[derive(Clone, Copy)]
 pub struct Form {
     pub class: u8,
     pub msgtype: u8,
-    pub one: bool,
-    pub tag: u16,
-    pub number: u32,
-    pub held: bool,
-    pub heldtag: u16,
-    pub two: bool,
-    pub tag2: u16,
-    pub number2: u32,
-    pub listed: bool,
-    pub owned: usize,
+    pub one: Option<Number>,
+    pub held: Option<u16>,
+    pub two: Option<Number>,
+    pub listed: Option<usize>,
     pub first: Which,
     pub after: Which,
 }
 
 // ---- the form of an action
 
-// One number, or two, and where `listed` the identifiers of an AS.
-fn numbers(
-    classtype: u32,
-    tag: u16,
-    number: u32,
-    two: bool,
-    tag2: u16,
-    number2: u32,
-    listed: bool,
-    owned: usize,
-) -> Form
-    ensures { result ≡ numbered classtype tag number two tag2 number2 listed owned }
+// No parameters.
+fn bare(classtype: u32) -> Form
+    ensures { result ≡ bare classtype }
 {
     Form {
         class: (classtype / 256 % 256) as u8,
         msgtype: (classtype % 256) as u8,
-        one: true,
-        tag,
-        number,
-        held: false,
-        heldtag: 0,
-        two,
-        tag2,
-        number2,
-        listed,
-        owned,
+        one: None,
+        held: None,
+        two: None,
+        listed: None,
         first: Which::Nothing,
         after: Which::Nothing,
     }
 }
 
 // One number, or two.
-fn say(classtype: u32, tag: u16, number: u32, two: bool, tag2: u16, number2: u32) -> Form
-    ensures { result ≡ saying classtype tag number two tag2 number2 }
+fn say(classtype: u32, one: Number, two: Option<Number>) -> Form
+    ensures { result ≡ saying classtype one two }
 {
-    numbers(classtype, tag, number, two, tag2, number2, false, 0)
+    Form {
+        one: Some(one),
+        two,
+        ..bare(classtype)
+    }
 }
 
 // One number, and the identifiers of an AS.
-fn list(classtype: u32, tag: u16, number: u32, owned: u32) -> Form
-    ensures { result ≡ listing classtype tag number owned }
+fn list(classtype: u32, one: Number, a: u32) -> Form
+    ensures { result ≡ listing classtype one a }
 {
-    numbers(classtype, tag, number, false, 0, 0, true, owned as usize)
+    Form {
+        one: Some(one),
+        listed: Some(a as usize),
+        ..bare(classtype)
+    }
 }
 
 // The identifier of a link, a unit of that link that was held, and its correlation id where it has one
@@ -131,20 +128,16 @@ fn release(classtype: u32, link: u32, u: Unit) -> Form
     ensures { result ≡ releasing classtype link u }
 {
     Form {
-        class: (classtype / 256 % 256) as u8,
-        msgtype: (classtype % 256) as u8,
-        one: true,
-        tag: IDS,
-        number: link,
-        held: true,
-        heldtag: u.tag,
-        two: u.marked,
-        tag2: CORRELATION,
-        number2: u.correlation,
-        listed: false,
-        owned: 0,
-        first: Which::Nothing,
-        after: Which::Nothing,
+        one: Some(Number {
+            tag: IDS,
+            value: link,
+        }),
+        held: Some(u.tag),
+        two: u.correlation.map(|value| Number {
+            tag: CORRELATION,
+            value,
+        }),
+        ..bare(classtype)
     }
 }
 
@@ -153,20 +146,9 @@ fn copy(classtype: u32, first: Which, after: Which) -> Form
     ensures { result ≡ copying classtype first after }
 {
     Form {
-        class: (classtype / 256 % 256) as u8,
-        msgtype: (classtype % 256) as u8,
-        one: false,
-        tag: 0,
-        number: 0,
-        held: false,
-        heldtag: 0,
-        two: false,
-        tag2: 0,
-        number2: 0,
-        listed: false,
-        owned: 0,
         first,
         after,
+        ..bare(classtype)
     }
 }
 
@@ -182,17 +164,19 @@ pub fn form_of(passed: bool, o: Action, u: Unit) -> Form
         return copy(ct, Which::All, Which::Nothing);
     }
     if ct == MGMT_ERROR {
-        return say(
-            ct,
-            ERROR_CODE,
+        let code = Number {
+            tag: ERROR_CODE,
             value,
-            value == REFUSED_IDENTIFIER,
-            IDS,
-            subject,
-        );
+        };
+        let refused = Number {
+            tag: IDS,
+            value: subject,
+        };
+        return say(ct, code, (value == REFUSED_IDENTIFIER).then_some(refused));
     }
     if ct == MGMT_NOTIFY {
-        return list(ct, STATUS, value, subject);
+        let status = Number { tag: STATUS, value };
+        return list(ct, status, subject);
     }
     if (ct == ASP_UP_ACK) | (ct == ASP_DOWN_ACK) {
         return copy(ct, Which::Nothing, Which::Nothing);
@@ -206,121 +190,96 @@ pub fn form_of(passed: bool, o: Action, u: Unit) -> Form
     if ct == USER_DATA {
         return release(ct, subject, u);
     }
-    say(ct, IDS, subject, ct == DATA_ACK, CORRELATION, value)
+    let link = Number {
+        tag: IDS,
+        value: subject,
+    };
+    let correlation = Number {
+        tag: CORRELATION,
+        value,
+    };
+    say(ct, link, (ct == DATA_ACK).then_some(correlation))
 }
 
 // ---- its length
 
-fn one_if(t: bool) -> u8
-    ensures { (result ≡ one t) × (result ≤ 1) }
+// How many of the links AS a owns. An owner is a byte, and 16 are compared at once with the last byte of a,
+// which is all of a where it is one byte.
+fn count_owned<'a>(owners: Owners<'a>, a: usize) -> usize
+    ensures { (result ≡ count_below (owns owners.entry.owner.now a) owners.entry.links) × (result ≤ 128) }
 {
-    if t { 1 } else { 0 }
-}
-
-// How many of the first links AS a owns: a number of one byte is compared with 16 owners at once.
-fn count_byte(owner: &[u8; 128], links: usize, a: u8) -> usize
-    requires { links ≤ 128 }
-    ensures { (result ≡ count_below (owns owner.now a) links) × (result ≤ 128) }
-{
+    let last = (a % 256) as u8;
+    let is_byte = a < 256;
     let mut n: u8 = 0;
-    for l in 0..links {
-        n = n + one_if(owner[l] == a);
+    for l in 0..owners.links {
+        let owner = owners.owner[l];
+        n += u8::from((owner == last) & is_byte);
     }
-    state_tables::wide(n)
-}
-
-// The same of any number.
-fn count_wide(owner: &[u8; 128], links: usize, a: usize) -> usize
-    requires { links ≤ 128 }
-    ensures { (result ≡ count_below (owns owner.now a) links) × (result ≤ 128) }
-{
-    let mut n: usize = 0;
-    for l in 0..links {
-        n = n + state_tables::unit(state_tables::wide(owner[l]) == a);
-    }
-    n
-}
-
-fn count_owned(owner: &[u8; 128], links: usize, a: usize) -> usize
-    requires { links ≤ 128 }
-    ensures { (result ≡ count_below (owns owner.now a) links) × (result ≤ 128) }
-{
-    if a < 256 {
-        return count_byte(owner, links, a as u8);
-    }
-    count_wide(owner, links, a)
+    usize::from(n)
 }
 
 // The bytes of the parameter that lists them.
-fn listed_size(owner: &[u8; 128], links: usize, listed: bool, a: usize) -> usize
-    requires { links ≤ 128 }
-    ensures { (result ≡ listed_size owner.now links listed a) × (result ≤ 516) }
+fn listed_size<'a>(owners: Owners<'a>, listed: Option<usize>) -> usize
+    ensures { (result ≡ listed_size owners.entry.owner.now owners.entry.links listed) × (result ≤ 516) }
 {
-    if listed {
-        let n = count_owned(owner, links, a);
-        if n == 0 {
-            return 0;
-        }
-        return 4 + 4 * n;
+    let Some(a) = listed else {
+        return 0;
+    };
+    let n = count_owned(owners, a);
+    if n == 0 {
+        return 0;
     }
-    0
+    4 + 4 * n
 }
 
 // The bytes of the parameter of a unit's data, whose value has n.
-fn data_size(held: bool, n: usize) -> usize
+fn data_size(held: Option<u16>, n: usize) -> usize
     requires { n ≤ 65531 }
     ensures { (result ≡ data_size held n) × (result ≤ 65536) }
 {
-    if held {
-        return (n + 7) / 4 * 4;
-    }
-    0
+    let Some(_) = held else {
+        return 0;
+    };
+    (n + 7) / 4 * 4
 }
 
 // The length of the message of a form; `body` is the data of a unit.
-pub fn size_of<'a>(
-    f: Form,
-    msg: &[u8],
-    body: &[u8],
-    iid: &'a [u32; 128],
-    owner: &'a [u8; 128],
-    links: usize,
-) -> usize
-    requires { (links ≤ 128) × (length body.now ≤ 65531) × (size_of (form_pars iid.now owner.now links (walk msg.now 8).pars body.now f) ≤ 2048) }
-    ensures { result ≡ size_of (form_pars iid.now owner.now links (walk msg.now 8).pars body.now f) }
+pub fn size_of<'a>(f: Form, msg: &[u8], body: &[u8], owners: Owners<'a>) -> usize
+    requires { (length body.now ≤ 65531) × (size_of (form_pars owners.iid.now owners.owner.now owners.links (walk msg.now 8).pars body.now f) ≤ 2048) }
+    ensures { result ≡ size_of (form_pars owners.entry.iid.now owners.entry.owner.now owners.entry.links (walk msg.now 8).pars body.now f) }
 {
     let first = f.first;
     let after = f.after;
-    let numbers = 8 * state_tables::unit(f.one)
+    let numbers = 8 * usize::from(f.one.is_some())
         + data_size(f.held, body.len())
-        + 8 * state_tables::unit(f.two);
-    let ids = listed_size(owner, links, f.listed, f.owned);
+        + 8 * usize::from(f.two.is_some());
+    let ids = listed_size(owners, f.listed);
     let copies = codec_select::picked_size(msg, first);
     HEADER + numbers + ids + copies + codec_select::picked_size(msg, after)
 }
 
 // ---- its bytes
 
-// A parameter of one number where it is wanted; the position after it.
-fn put_number_if(out: &mut [u8], at: usize, yes: bool, tag: u16, n: u32) -> usize
-    requires { at + length (pars_bytes (when yes (number_par tag n))) ≤ length out.old }
-    ensures { PutPars out.old at (when yes (number_par tag n)) result out.new }
+// A parameter of one number where there is one; the position after it.
+fn put_number_if(out: &mut [u8], at: usize, n: Option<Number>) -> usize
+    requires { at + length (pars_bytes (number_pars n)) ≤ length out.old }
+    ensures { PutPars out.old at (number_pars n) result out.new }
 {
-    if yes {
-        return codec_put::put_number(out, at, tag, n);
-    }
-    at
+    let Some(n) = n else {
+        return at;
+    };
+    codec_put::put_number(out, at, n.tag, n.value)
 }
 
-// The data of a unit where it is wanted; the position after it.
-fn put_data_if(out: &mut [u8], at: usize, yes: bool, tag: u16, body: &[u8]) -> usize
-    requires { (length body.now ≤ 65531) × (at + length (pars_bytes (when yes (par tag body.now))) ≤ length out.old) }
-    ensures { PutPars out.old at (when yes (par tag body.now)) result out.new }
+// The data of a unit where there is one; the position after it.
+fn put_data_if(out: &mut [u8], at: usize, tag: Option<u16>, body: &[u8]) -> usize
+    requires { (length body.now ≤ 65531) × (at + length (pars_bytes (data_pars body.now tag)) ≤ length out.old) }
+    ensures { PutPars out.old at (data_pars body.now tag) result out.new }
 {
-    if yes {
-        return codec_put::put_param(out, at, tag, body);
-    }
-    at
+    let Some(tag) = tag else {
+        return at;
+    };
+    codec_put::put_param(out, at, tag, body)
 }
 
 // The data of a unit and the second number.
@@ -328,8 +287,8 @@ fn put_unit(out: &mut [u8], at: usize, body: &[u8], f: Form) -> usize
     requires { (length body.now ≤ 65531) × (at + length (pars_bytes (held_pars body.now f)) ≤ length out.old) }
     ensures { PutPars out.old at (held_pars body.now f) result out.new }
 {
-    let next = put_data_if(out, at, f.held, f.heldtag, body);
-    put_number_if(out, next, f.two, f.tag2, f.number2)
+    let next = put_data_if(out, at, f.held, body);
+    put_number_if(out, next, f.two)
 }
 
 // The parameters of one number each, with the data of a unit between them.
@@ -337,60 +296,39 @@ fn put_said(out: &mut [u8], at: usize, body: &[u8], f: Form) -> usize
     requires { (length body.now ≤ 65531) × (at + length (pars_bytes (said_pars body.now f)) ≤ length out.old) }
     ensures { PutPars out.old at (said_pars body.now f) result out.new }
 {
-    let next = put_number_if(out, at, f.one, f.tag, f.number);
+    let next = put_number_if(out, at, f.one);
     put_unit(out, next, body, f)
 }
 
-// An identifier where it is wanted; the position after it.
-fn put_id_if(out: &mut [u8], at: usize, yes: bool, n: u32) -> usize
-    requires { at + length (cond yes (bytes32 n) []) ≤ length out.old }
-    ensures { PutBytes out.old at (cond yes (bytes32 n) []) result out.new }
-{
-    if yes {
-        codec_put::put32(out, at, n);
-        return at + 4;
-    }
-    at
-}
-
 // The identifiers of AS a's links, one after the other; the position after them.
-fn put_owned<'a>(
-    out: &mut [u8],
-    from: usize,
-    iid: &'a [u32; 128],
-    owner: &'a [u8; 128],
-    links: usize,
-    a: usize,
-) -> usize
-    requires { (links ≤ 128) × (from + length (ids_in iid.now owner.now links a) ≤ length out.old) }
-    ensures { PutBytes out.old from (ids_in iid.now owner.now links a) result out.new }
+fn put_owned<'a>(out: &mut [u8], from: usize, owners: Owners<'a>, a: usize) -> usize
+    requires { from + length (ids_in owners.iid.now owners.owner.now owners.links a) ≤ length out.old }
+    ensures { PutBytes out.old from (ids_in owners.entry.iid.now owners.entry.owner.now owners.entry.links a) result out.new }
 {
     let mut at = from;
-    for l in 0..links {
-        at = put_id_if(out, at, state_tables::wide(owner[l]) == a, iid[l]);
+    for l in 0..owners.links {
+        if usize::from(owners.owner[l]) == a {
+            codec_put::put32(out, at, owners.iid[l]);
+            at += 4;
+        }
     }
     at
 }
 
 // The parameter that lists them, of so many bytes; none where there are none.
-fn put_listed<'a>(
-    out: &mut [u8],
-    at: usize,
-    iid: &'a [u32; 128],
-    owner: &'a [u8; 128],
-    links: usize,
-    f: Form,
-) -> usize
-    requires { (links ≤ 128) × (at + length (pars_bytes (listed_pars iid.now owner.now links f)) ≤ length out.old) }
-    ensures { PutPars out.old at (listed_pars iid.now owner.now links f) result out.new }
+fn put_listed<'a>(out: &mut [u8], at: usize, owners: Owners<'a>, listed: Option<usize>) -> usize
+    requires { at + length (pars_bytes (as_pars owners.iid.now owners.owner.now owners.links listed)) ≤ length out.old }
+    ensures { PutPars out.old at (as_pars owners.entry.iid.now owners.entry.owner.now owners.entry.links listed) result out.new }
 {
-    let a = f.owned;
-    let n = listed_size(owner, links, f.listed, a);
+    let Some(a) = listed else {
+        return at;
+    };
+    let n = listed_size(owners, listed);
     if n == 0 {
         return at;
     }
     codec_put::put_head(out, at, IDS, n as u16);
-    put_owned(out, at + 4, iid, owner, links, a)
+    put_owned(out, at + 4, owners, a)
 }
 
 // The parameters of the received message.
@@ -405,19 +343,11 @@ fn put_copies(out: &mut [u8], at: usize, msg: &[u8], f: Form) -> usize
 }
 
 // The identifiers of an AS, and behind them the parameters of the received message.
-pub fn put_rest<'a>(
-    out: &mut [u8],
-    at: usize,
-    msg: &[u8],
-    iid: &'a [u32; 128],
-    owner: &'a [u8; 128],
-    links: usize,
-    f: Form,
-) -> usize
-    requires { (links ≤ 128) × (at + length (pars_bytes (listed_pars iid.now owner.now links f ++ copied_pars (walk msg.now 8).pars f)) ≤ length out.old) }
-    ensures { PutPars out.old at (listed_pars iid.now owner.now links f ++ copied_pars (walk msg.now 8).pars f) result out.new }
+pub fn put_rest<'a>(out: &mut [u8], at: usize, msg: &[u8], owners: Owners<'a>, f: Form) -> usize
+    requires { at + length (pars_bytes (listed_pars owners.iid.now owners.owner.now owners.links f ++ copied_pars (walk msg.now 8).pars f)) ≤ length out.old }
+    ensures { PutPars out.old at (listed_pars owners.entry.iid.now owners.entry.owner.now owners.entry.links f ++ copied_pars (walk msg.now 8).pars f) result out.new }
 {
-    let next = put_listed(out, at, iid, owner, links, f);
+    let next = put_listed(out, at, owners, f.listed);
     put_copies(out, next, msg, f)
 }
 
@@ -427,16 +357,14 @@ fn put_pars<'a>(
     at: usize,
     msg: &[u8],
     body: &[u8],
-    iid: &'a [u32; 128],
-    owner: &'a [u8; 128],
-    links: usize,
+    owners: Owners<'a>,
     f: Form,
 ) -> usize
-    requires { (links ≤ 128) × (length body.now ≤ 65531) × (at + length (pars_bytes (form_pars iid.now owner.now links (walk msg.now 8).pars body.now f)) ≤ length out.old) }
-    ensures { PutPars out.old at (form_pars iid.now owner.now links (walk msg.now 8).pars body.now f) result out.new }
+    requires { (length body.now ≤ 65531) × (at + length (pars_bytes (form_pars owners.iid.now owners.owner.now owners.links (walk msg.now 8).pars body.now f)) ≤ length out.old) }
+    ensures { PutPars out.old at (form_pars owners.entry.iid.now owners.entry.owner.now owners.entry.links (walk msg.now 8).pars body.now f) result out.new }
 {
     let next = put_said(out, at, body, f);
-    put_rest(out, next, msg, iid, owner, links, f)
+    put_rest(out, next, msg, owners, f)
 }
 
 // The message of a form, whose length the caller has, written at a position; the position after it. `msg` is
@@ -446,15 +374,13 @@ pub fn put_form<'a>(
     size: usize,
     msg: &[u8],
     body: &[u8],
-    iid: &'a [u32; 128],
-    owner: &'a [u8; 128],
-    links: usize,
+    owners: Owners<'a>,
     out: &mut [u8],
     at: usize,
 ) -> usize
-    requires { FormFits iid.now owner.now links (walk msg.now 8).pars body.now f size at out.old }
-    ensures { (result ≡ at + size) × (out.new ≡ overlay out.old at (encode f.class f.msgtype (form_pars iid.now owner.now links (walk msg.now 8).pars body.now f))) }
+    requires { FormFits owners.iid.now owners.owner.now owners.links (walk msg.now 8).pars body.now f size at out.old }
+    ensures { (result ≡ at + size) × (out.new ≡ overlay out.old at (encode f.class f.msgtype (form_pars owners.entry.iid.now owners.entry.owner.now owners.entry.links (walk msg.now 8).pars body.now f))) }
 {
     codec_put::put_header(out, at, f.class, f.msgtype, size as u32);
-    put_pars(out, at + HEADER, msg, body, iid, owner, links, f)
+    put_pars(out, at + HEADER, msg, body, owners, f)
 }

@@ -13,30 +13,47 @@ ghost use Rattle.state_tables.specs.State.{gateway_of, units_of};
 ghost use Rattle.send_message.specs.Send.{Sends, SendsMany};
 ghost use Rattle.send_message.specs.Handle.{Handles};
 ghost use Rattle.send_message.specs.Inner.Kinds.{lent_by};
-ghost use Rattle.send_orders.specs.Inner.Part.{part_of, part_made, PutIf, Fits, lent_of, part_in, Ready};
+ghost use Rattle.send_orders.specs.Inner.Part.{part_of, PutIf, made_from, FitsIn, Again, lent_in, part_in, Ready};
 ghost use Rattle.send_orders.specs.Inner.Alike.{are_alike, repeats_in};
 ghost use Rattle.send_orders.specs.Inner.Parts.{is_part_in};
 ghost use Rattle.send_orders.specs.Inner.Batch.{Ended};
-ghost use Rattle.send_orders.specs.Inner.Many.{batch_of};
-ghost use Rattle.send_orders.specs.Inner.Behind.{lines_of, CanWrite, Wrote};
+ghost use Rattle.send_orders.specs.Inner.Refusals.{number, some_reached, batch_of, sent_of, written_of, handled_of};
+ghost use Rattle.send_orders.specs.Inner.Behind.{lines_in, CanWrite, Wrote};
 ghost use Rattle.send_orders.specs.Inner.Handled.{code_of};
 
 use codec_write::Written;
 use rules_action::{ASP_ACTIVE_ACK, ASP_INACTIVE_ACK, Action, MGMT_ERROR, USER_DATA};
-use send_message::{Batch, Handled};
-use send_unit::Sent;
+use send_message::{Batch, Handled, Owners};
+use send_unit::{Columns, Sent};
 
-// A list of words that is short; a buffer that is; no action at the place that goes to an ASP.
+// The number of an event's refusal for want of words.
 const SHORT_LIST: u32 = 101;
-
-const SHORT_BUFFER: u32 = 103;
-
-const NO_SUCH_ACTION: u32 = 104;
 
 const LINK_SIDE: u32 = 255;
 
 // Room for the messages of every event: 2,048 bytes for each of 386 actions.
 const ROOM_BYTES: usize = 790528;
+
+// Why no message is written: the event is refused, for this number; the buffer is short; there is no action at
+// the place that goes to an ASP.
+#[derive(Clone, Copy)]
+pub enum Refusal {
+    Event(u32),
+    ShortBuffer,
+    NoSuchAction,
+}
+
+impl From<Refusal> for u32 {
+    fn from(r: Refusal) -> u32
+        ensures { result ≡ number r }
+    {
+        match r {
+            Refusal::Event(n) => n,
+            Refusal::ShortBuffer => 103,
+            Refusal::NoSuchAction => 104,
+        }
+    }
+}
 
 // The message whose parameters go out again: none where the event has none.
 #[tactic(auto, unfolding(send_message::specs::Inner::Kinds::lent_by))]
@@ -100,91 +117,71 @@ fn repeated<'a>(part: bool, kind: u32, msg: &'a [u8], good: &'a [u8]) -> &'a [u8
     received(kind, msg)
 }
 
+// What messages are made of beside the units: the links, the message whose parameters go out again, and the
+// hold.
+#[derive(Clone, Copy)]
+pub struct Sources<'a, 'b> {
+    pub owners: Owners<'a>,
+    pub msg: &'b [u8],
+    pub hold: &'b [u8],
+}
+
 // How many bytes are written for an action: none where it goes to the link side.
-fn part_size<'a>(
-    x: Sent,
-    msg: &[u8],
-    body: &[u8],
-    iid: &'a [u32; 128],
-    owner: &'a [u8; 128],
-    links: usize,
-) -> usize
-    requires { (links ≤ 128) × (length body.now ≤ 273) × (length (part_of iid.now owner.now links msg.now body.now x) ≤ 2048) }
-    ensures { result ≡ length (part_of iid.now owner.now links msg.now body.now x) }
+fn part_size<'a>(x: Sent, msg: &[u8], body: &[u8], owners: Owners<'a>) -> usize
+    requires { (length body.now ≤ 273) × (length (part_of owners.iid.now owners.owner.now owners.links msg.now body.now x) ≤ 2048) }
+    ensures { result ≡ length (part_of owners.entry.iid.now owners.entry.owner.now owners.entry.links msg.now body.now x) }
 {
     let o = x.o;
     if o.to == LINK_SIDE {
         return 0;
     }
-    let u = x.unit;
-    send_message::size_of(
-        send_message::form_of(x.passed, o, u),
-        msg,
-        body,
-        iid,
-        owner,
-        links,
-    )
+    let form = send_message::form_of(x.passed, o, x.unit);
+    send_message::size_of(form, msg, body, owners)
 }
 
-// An action whose message is made: its unit's index, whether it passes the received message on, how many
-// links there are, and where it goes.
-#[derive(Drop)]
+// An action whose message is made: its unit's index, whether it passes the received message on, and where it
+// goes.
+#[derive(Clone, Copy)]
 pub struct Turn {
     pub o: Action,
     pub index: usize,
     pub passed: bool,
-    pub links: usize,
     pub at: usize,
 }
 
 // What is written for an action, where it goes in; the bytes that it has.
-fn put_new<'a, 'b>(
-    t: Turn,
-    msg: &'b [u8],
-    hold: &'b [u8],
-    iid: &'a [u32; 128],
-    owner: &'a [u8; 128],
-    tags: &'a [u16; 128],
-    lengths: &'a [u16; 128],
-    marks: &'a [u16; 128],
-    correlations: &'a [u32; 128],
-    out: &mut [u8],
-) -> usize
-    requires { Fits iid.now owner.now tags.now lengths.now marks.now correlations.now t msg.now hold.now out.old }
-    ensures { PutIf out.old t.at (part_made iid.now owner.now tags.now lengths.now marks.now correlations.now t.links msg.now hold.now t.passed t.index t.o) result out.new }
+fn put_new<'a, 'b, 'c>(t: Turn, s: Sources<'a, 'b>, units: Columns<'c>, out: &mut [u8]) -> usize
+    requires { FitsIn s units t out.old }
+    ensures { PutIf out.old t.at (made_from s.entry units.entry t) result out.new }
 {
     let o = t.o;
-    let x = send_unit::sent_at(o, t.passed, t.index, tags, lengths, marks, correlations);
-    let shown = send_unit::body(msg, hold, x.held, x.from, x.to);
-    let size = part_size(x, msg, shown, iid, owner, t.links);
+    let x = send_unit::sent_at(o, t.passed, t.index, units);
+    let shown = send_unit::body(s.msg, s.hold, x.held);
+    let size = part_size(x, s.msg, shown, s.owners);
     if out.len() - t.at < size {
         return size;
     }
     if o.to == LINK_SIDE {
         return size;
     }
-    let u = x.unit;
-    let form = send_message::form_of(x.passed, o, u);
-    send_message::put_form(form, size, msg, shown, iid, owner, t.links, out, t.at);
+    let form = send_message::form_of(x.passed, o, x.unit);
+    send_message::put_form(form, size, s.msg, shown, s.owners, out, t.at);
     size
 }
 
 // How far a batch came: actions gone through, bytes written.
-#[derive(Drop)]
-struct Reached {
+#[derive(Clone, Copy)]
+pub struct Reached {
     count: usize,
     length: usize,
 }
 
-// What a batch goes through: so many actions, from a place on, whether they pass the received message on, and
-// how many links there are.
-#[derive(Drop)]
+// What a batch goes through: so many actions, from a place on, and whether they pass the received message on.
+#[derive(Clone, Copy)]
 pub struct Run {
     pub count: usize,
     pub place: usize,
     pub passed: bool,
-    pub links: usize,
 }
 
 // Whether two actions have the same message: both go to an ASP, nothing but the ASP differs, and neither
@@ -215,29 +212,17 @@ fn repeats(words: &[u32; 1544], place: usize, n: usize, passed: bool) -> bool
     )
 }
 
-// The size bytes before a position, at most 2,048, written from there on again. They go through a block, as
-// in put_block of crate codec_put.
+// The size bytes before a position, written from there on again.
 fn again(out: &mut [u8], at: usize, size: usize)
-    requires { (size ≤ 2048) × (size ≤ at) × (at + size ≤ length out.old) }
+    requires { (size ≤ at) × (at + size ≤ length out.old) }
     ensures { out.new ≡ overlay out.old at (take size (drop (at - size) out.old)) }
 {
-    let from = at - size;
-    let mut block = [0u8; 2048];
-    let mut i: usize = 0;
-    while i < size {
-        block[i] = out[from + i];
-        i += 1;
-    }
-    let mut j: usize = 0;
-    while j < size {
-        out[at + j] = block[j];
-        j += 1;
-    }
+    out.copy_within(at - size..at, at);
 }
 
 // The same, where they go in; how many they are.
 fn put_again(out: &mut [u8], at: usize, size: usize) -> usize
-    requires { (size ≤ 2048) × (size ≤ at) × (at ≤ length out.old) }
+    requires { (size ≤ at) × (at ≤ length out.old) }
     ensures { PutIf out.old at (take size (drop (at - size) out.old)) result out.new }
 {
     if out.len() - at < size {
@@ -247,72 +232,55 @@ fn put_again(out: &mut [u8], at: usize, size: usize) -> usize
     size
 }
 
+// What is written for an action, where it goes in; the bytes that it has. Where the action before it has the
+// same message, of so many bytes, these are copied and not made anew.
+fn put_turn<'a, 'b, 'c>(
+    t: Turn,
+    before: Option<usize>,
+    s: Sources<'a, 'b>,
+    units: Columns<'c>,
+    out: &mut [u8],
+) -> usize
+    requires { FitsIn s units t out.old × Again out.old t.at (made_from s units t) before }
+    ensures { PutIf out.old t.at (made_from s.entry units.entry t) result out.new }
+{
+    let Some(size) = before else {
+        return put_new(t, s, units, out);
+    };
+    put_again(out, t.at, size)
+}
+
 // From a place on what is written for each action, one behind the other, and its length: up to the last
-// action, the last length of the list, or the first message that does not go in. Where an action differs from
-// the one before it in the ASP alone, the bytes are copied and not made anew. `list` has the indices of the
+// action, the last length of the list, or the first message that does not go in. `list` has the indices of the
 // units that go out, of which d are out.
-fn put_many<'a, 'b>(
+fn put_many<'a, 'b, 'c>(
     run: Run,
     words: &[u32; 1544],
     list: &[u8],
-    msg: &'b [u8],
-    hold: &'b [u8],
-    iid: &'a [u32; 128],
-    owner: &'a [u8; 128],
-    tags: &'a [u16; 128],
-    lengths: &'a [u16; 128],
-    marks: &'a [u16; 128],
-    correlations: &'a [u32; 128],
+    s: Sources<'a, 'b>,
+    units: Columns<'c>,
     lens: &mut [u32],
     out: &mut [u8],
 ) -> Reached
-    requires { Ready (lent_of run words.now list.now msg.now hold.now iid.now owner.now tags.now lengths.now marks.now correlations.now) }
+    requires { Ready (lent_in run words.now list.now s units) }
     ensures few { run.place + result.count ≤ run.count }
-    ensures ended { Ended (λ j. part_in (lent_of run words.now list.now msg.now hold.now iid.now owner.now tags.now lengths.now marks.now correlations.now) (run.place + j)) (λ m. leb run.count (run.place + m)) lens.old out.old result.count result.length lens.new out.new }
+    ensures ended { Ended (λ j. part_in (lent_in run words.now list.now s.entry units.entry) (run.place + j)) (λ m. leb run.count (run.place + m)) lens.old out.old result.count result.length lens.new out.new }
 {
-    let count = run.count;
     let place = run.place;
+    let most = (run.count - place).min(lens.len());
     let mut d = send_unit::data_before(words, place);
-    let mut n: usize = 0;
     let mut at: usize = 0;
     let mut size: usize = 0;
-    loop {
-        if count <= place + n {
-            return Reached {
-                count: n,
-                length: at,
-            };
-        }
-        if lens.len() <= n {
-            return Reached {
-                count: n,
-                length: at,
-            };
-        }
+    for n in 0..most {
         let o = send_unit::action_at(words, place + n);
-        if repeats(words, place, n, run.passed) {
-            size = put_again(out, at, size);
-        } else {
-            let turn = Turn {
-                o,
-                index: send_unit::index_at(list, d),
-                passed: run.passed,
-                links: run.links,
-                at,
-            };
-            size = put_new(
-                turn,
-                msg,
-                hold,
-                iid,
-                owner,
-                tags,
-                lengths,
-                marks,
-                correlations,
-                out,
-            );
-        }
+        let turn = Turn {
+            o,
+            index: send_unit::index_at(list, d),
+            passed: run.passed,
+            at,
+        };
+        let before = repeats(words, place, n, run.passed).then_some(size);
+        size = put_turn(turn, before, s, units, out);
         if out.len() - at < size {
             return Reached {
                 count: n,
@@ -320,15 +288,18 @@ fn put_many<'a, 'b>(
             };
         }
         lens[n] = size as u32;
-        d += state_tables::unit(send_unit::is_data(o));
+        d += usize::from(send_unit::is_data(o));
         at += size;
-        n += 1;
+    }
+    Reached {
+        count: most,
+        length: at,
     }
 }
 
 // What an event gave: its kind and index, the number of its actions, the place from which on they are
 // written, and how many links there are.
-#[derive(Drop)]
+#[derive(Clone, Copy)]
 pub struct Given {
     pub kind: u32,
     pub index: usize,
@@ -337,77 +308,92 @@ pub struct Given {
     pub links: u8,
 }
 
-// The same for an event that was run: `was` and `after` are the counts of units held before and behind it;
-// all else that is lent is as it was before.
-fn put_from<'a, 'b>(
+// The state before an event that was run, as far as messages are made of it but for the units, and the counts
+// of units held behind the event.
+#[derive(Clone, Copy)]
+pub struct Before<'a> {
+    pub member: &'a [u8; 256],
+    pub iid: &'a [u32; 128],
+    pub owner: &'a [u8; 128],
+    pub after: &'a [u8; 16],
+}
+
+// The same for an event that was run.
+fn put_from<'a, 'b, 'c>(
     t: Given,
     words: &[u32; 1544],
     msg: &'b [u8],
     hold: &'b [u8],
-    member: &'a [u8; 256],
-    iid: &'a [u32; 128],
-    owner: &'a [u8; 128],
-    was: &'a [u8; 16],
-    after: &'a [u8; 16],
-    tags: &'a [u16; 128],
-    lengths: &'a [u16; 128],
-    marks: &'a [u16; 128],
-    correlations: &'a [u32; 128],
+    b: Before<'a>,
+    units: Columns<'c>,
     lens: &mut [u32],
     out: &mut [u8],
 ) -> Reached
-    requires { CanWrite t (lines_of member.now iid.now owner.now was.now after.now tags.now lengths.now marks.now correlations.now) words.now msg.now hold.now }
+    requires { CanWrite t (lines_in b units) words.now msg.now hold.now }
     ensures few { t.place + result.count ≤ t.count }
-    ensures wrote { Wrote t (lines_of member.now iid.now owner.now was.now after.now tags.now lengths.now marks.now correlations.now) words.now msg.now hold.now lens.old out.old result.count result.length lens.new out.new }
+    ensures wrote { Wrote t (lines_in b.entry units.entry) words.now msg.now hold.now lens.old out.old result.count result.length lens.new out.new }
 {
     let kind = t.kind;
     let run = Run {
         count: t.count,
         place: t.place,
         passed: kind == event_asked::LINK_MESSAGE,
-        links: state_tables::wide(t.links),
     };
-    let list = send_unit::gone(was, after);
+    let owners = Owners {
+        iid: b.iid,
+        owner: b.owner,
+        links: usize::from(t.links),
+    };
+    let list = send_unit::gone(units.counts, b.after);
     let part = (kind == event_asked::MESSAGE) & in_part(words, t.count);
     let mut block = [0u8; 544];
     let good = good_if(
-        part, &mut block, msg, run.links, t.index, member, iid, owner,
+        part,
+        &mut block,
+        msg,
+        owners.links,
+        t.index,
+        b.member,
+        b.iid,
+        b.owner,
     );
-    let lent = repeated(part, kind, msg, &block[..good]);
-    put_many(
-        run,
-        words,
-        &list,
-        lent,
+    let sources = Sources {
+        owners,
+        msg: repeated(part, kind, msg, &block[..good]),
         hold,
-        iid,
-        owner,
-        tags,
-        lengths,
-        marks,
-        correlations,
-        lens,
-        out,
-    )
+    };
+    put_many(run, words, &list, sources, units, lens, out)
 }
 
 // ---- the actions of an event that is not kept: the state is only read
 
-// What is handed back of a batch: 103 where not one action went in.
-fn batch_of(r: Reached) -> Batch
-    ensures { result ≡ batch_of r.count r.length }
+// Kept: the entries m2ua_.._at take the state column by column, as the C interface (include/m2ua.h) has it.
+
+// Whether an action went in.
+fn some_reached(r: Reached) -> Result<Reached, Refusal>
+    ensures { result ≡ some_reached r }
 {
     if r.count == 0 {
-        return Batch {
-            code: SHORT_BUFFER,
+        return Err(Refusal::ShortBuffer);
+    }
+    Ok(r)
+}
+
+// What is handed back of a batch.
+fn batch_of(r: Result<Reached, Refusal>) -> Batch
+    ensures { result ≡ batch_of r }
+{
+    match r {
+        Ok(reached) => Batch {
+            code: 0,
+            count: reached.count,
+            length: reached.length,
+        },
+        Err(refusal) => Batch {
+            code: u32::from(refusal),
             count: 0,
             length: 0,
-        };
-    }
-    Batch {
-        code: 0,
-        count: r.count,
-        length: r.length,
+        },
     }
 }
 
@@ -488,18 +474,10 @@ pub fn m2ua_orders_at<'a>(
         &mut words,
     );
     if done.refusal != 0 {
-        return Batch {
-            code: done.refusal,
-            count: 0,
-            length: 0,
-        };
+        return batch_of(Err(Refusal::Event(done.refusal)));
     }
     if done.count <= place {
-        return Batch {
-            code: NO_SUCH_ACTION,
-            count: 0,
-            length: 0,
-        };
+        return batch_of(Err(Refusal::NoSuchAction));
     }
     let given = Given {
         kind,
@@ -508,24 +486,47 @@ pub fn m2ua_orders_at<'a>(
         place,
         links,
     };
-    let reached = put_from(
-        given,
-        &words,
-        msg,
-        hold,
+    let units = Columns {
+        counts: count,
+        tags: tag,
+        lengths: len,
+        marks: marked,
+        correlations: correlation,
+    };
+    let before = Before {
         member,
         iid,
         owner,
-        count,
-        &new_count,
-        tag,
-        len,
-        marked,
-        correlation,
-        lens,
-        out,
-    );
-    batch_of(reached)
+        after: &new_count,
+    };
+    let reached = put_from(given, &words, msg, hold, before, units, lens, out);
+    batch_of(some_reached(reached))
+}
+
+// The bytes of the one action of a batch; those of an action to the link side are none.
+fn sent_of(b: Batch) -> Result<usize, Refusal>
+    ensures { result ≡ sent_of b }
+{
+    if b.code != 0 {
+        return Err(Refusal::Event(b.code));
+    }
+    if b.length == 0 {
+        return Err(Refusal::NoSuchAction);
+    }
+    Ok(b.length)
+}
+
+// What is handed back of one action.
+fn written_of(r: Result<usize, Refusal>) -> Written
+    ensures { result ≡ written_of r }
+{
+    match r {
+        Ok(length) => Written { code: 0, length },
+        Err(refusal) => Written {
+            code: u32::from(refusal),
+            length: 0,
+        },
+    }
 }
 
 // The message of the action at a place of an event's actions, written at a buffer's start (Rule 8.15): the
@@ -592,34 +593,37 @@ pub fn m2ua_order_at<'a>(
         &mut one,
         out,
     );
-    if batch.code != 0 {
-        return Written {
-            code: batch.code,
-            length: 0,
-        };
-    }
-    if batch.length == 0 {
-        return Written {
-            code: NO_SUCH_ACTION,
-            length: 0,
-        };
-    }
-    Written {
-        code: 0,
-        length: batch.length,
-    }
+    written_of(sent_of(batch))
 }
 
 // ---- the event and its messages in one call
 
 // The refusal of the one call: it lends a list of words that is too short only where the buffer is.
-fn code_of(refusal: u32) -> u32
-    ensures { result ≡ code_of refusal }
+fn refused(refusal: u32) -> Refusal
+    ensures { number result ≡ code_of refusal }
 {
     if refusal == SHORT_LIST {
-        return SHORT_BUFFER;
+        return Refusal::ShortBuffer;
     }
-    refusal
+    Refusal::Event(refusal)
+}
+
+// What is handed back of all.
+fn handled_of(r: Result<Reached, Refusal>) -> Handled
+    ensures { result ≡ handled_of r }
+{
+    match r {
+        Ok(reached) => Handled {
+            refusal: 0,
+            count: reached.count,
+            length: reached.length,
+        },
+        Err(refusal) => Handled {
+            refusal: u32::from(refusal),
+            count: 0,
+            length: 0,
+        },
+    }
 }
 
 // The event, on the state where it lies, and the messages of all its actions (Rule 8.20). What the bytes
@@ -690,13 +694,9 @@ pub fn m2ua_handle_at<'a>(
             size,
             &mut no_words,
         );
-        return Handled {
-            refusal: code_of(done.refusal),
-            count: 0,
-            length: 0,
-        };
+        return handled_of(Err(refused(done.refusal)));
     }
-    let was = *count;
+    let counts = *count;
     let tags = *tag;
     let lengths = *len;
     let marks = *marked;
@@ -731,18 +731,13 @@ pub fn m2ua_handle_at<'a>(
         words,
     );
     if done.refusal != 0 {
-        return Handled {
-            refusal: code_of(done.refusal),
-            count: 0,
-            length: 0,
-        };
+        return handled_of(Err(refused(done.refusal)));
     }
     if done.count == 0 {
-        return Handled {
-            refusal: 0,
+        return handled_of(Ok(Reached {
             count: 0,
             length: 0,
-        };
+        }));
     }
     let given = Given {
         kind,
@@ -751,26 +746,19 @@ pub fn m2ua_handle_at<'a>(
         place: 0,
         links,
     };
-    let reached = put_from(
-        given,
-        words,
-        msg,
-        hold,
+    let units = Columns {
+        counts: &counts,
+        tags: &tags,
+        lengths: &lengths,
+        marks: &marks,
+        correlations: &correlations,
+    };
+    let before = Before {
         member,
         iid,
         owner,
-        &was,
-        count,
-        &tags,
-        &lengths,
-        &marks,
-        &correlations,
-        lens,
-        out,
-    );
-    Handled {
-        refusal: 0,
-        count: reached.count,
-        length: reached.length,
-    }
+        after: count,
+    };
+    let reached = put_from(given, words, msg, hold, before, units, lens, out);
+    handled_of(Ok(reached))
 }

@@ -2,6 +2,8 @@
 // name in crate send_orders and promises the same.
 #![tactic(auto)]
 
+// Kept: the state column by column, as the C interface (include/m2ua.h) has it.
+
 ghost use Rattle.event_asked.specs.Happened.{happened};
 ghost use Rattle.state_tables.specs.State.{gateway_of, units_of};
 ghost use Rattle.send_message.specs.Send.{Sends, SendsMany};

@@ -2,14 +2,14 @@
 // that it sends (Rules 8.14 and 8.18).
 #![tactic(auto)]
 
-ghost use Rattle.std.specs.Prelude.{◌≡◌, true, cond, ◌+◌, ◌-◌, ◌*◌, ◌<◌, ◌≤◌, length, take, drop};
-ghost use Rattle.laws.specs.Below.{when};
+ghost use Rattle.std.specs.Prelude.{◌≡◌, true, ◌+◌, ◌<◌, ◌≤◌, length};
+ghost use Rattle.std.specs.Bool.{then_some};
 ghost use Rattle.laws.specs.Columns.{number_at};
 ghost use Rattle.codec_select.specs.Inner.Picks.{PutBytes};
 ghost use Rattle.rules_event.specs.Sent.{is_data};
 ghost use Rattle.send_unit.specs.Inner.Words.{action_in, data_in};
 ghost use Rattle.send_unit.specs.Inner.Units.{gone_row, gone_list};
-ghost use Rattle.send_unit.specs.Inner.Made.{held_of, sent_of};
+ghost use Rattle.send_unit.specs.Inner.Made.{held_of, lies_at, sent_in, LiesIn, shown_of};
 
 use rules_action::{Action, USER_DATA};
 use send_message::Unit;
@@ -50,21 +50,9 @@ pub fn data_before(words: &[u32; 1544], n: usize) -> usize
 {
     let mut d: usize = 0;
     for m in 0..n {
-        d = d + state_tables::unit(is_data(action_at(words, m)));
+        d += usize::from(is_data(action_at(words, m)));
     }
     d
-}
-
-// The index of a unit in a list, where it is wanted; the place after it.
-fn add_if(list: &mut [u8], n: usize, yes: bool, i: usize) -> usize
-    requires { (n < length list.old) × (i < 256) }
-    ensures { PutBytes list.old n (when yes i) result list.new }
-{
-    if yes {
-        list[n] = i as u8;
-        return n + 1;
-    }
-    n
 }
 
 // Those of the units that AS a has let go, which had so many before and has so many after.
@@ -80,7 +68,10 @@ fn add_row(list: &mut [u8], n: usize, a: usize, before: u8, after: u8) -> usize
     }
     let mut at = n;
     for k in 0..8usize {
-        at = add_if(list, at, k < state_tables::wide(before), a * 8 + k);
+        if k < usize::from(before) {
+            list[at] = (a * 8 + k) as u8;
+            at += 1;
+        }
     }
     at
 }
@@ -101,10 +92,7 @@ pub fn gone<'a>(before: &'a [u8; 16], after: &'a [u8; 16]) -> [u8; 128]
 pub fn index_at(list: &[u8], d: usize) -> usize
     ensures { result ≡ number_at list.now d }
 {
-    if d < list.len() {
-        return state_tables::wide(list[d]);
-    }
-    0
+    list.get(d).map_or(0, |i| usize::from(*i))
 }
 
 // The index of the unit that the action at place n sends, where it sends one.
@@ -114,88 +102,85 @@ pub fn unit_for<'a>(
     n: usize,
     before: &'a [u8; 16],
     after: &'a [u8; 16],
-) -> usize
+) -> Option<usize>
     requires { n ≤ 386 }
-    ensures { result ≡ cond held (number_at (gone_list before.now after.now) (data_in words.now n)) 0 }
+    ensures { result ≡ then_some held (number_at (gone_list before.now after.now) (data_in words.now n)) }
 {
     if held {
         let list = gone(before, after);
-        return index_at(&list, data_before(words, n));
+        return Some(index_at(&list, data_before(words, n)));
     }
-    0
+    None
 }
 
-// An action, and what its message is made of: whether it passes the received message on; and whether it sends
-// a unit, from where to where that lies in the hold, and the unit.
+// Where the bytes of a unit lie in the hold.
+#[derive(Clone, Copy)]
+pub struct Extent {
+    pub from: usize,
+    pub to: usize,
+}
+
+// An action, and what its message is made of: whether it passes the received message on; and where the bytes
+// of the unit lie that it sends, where it sends one, and the unit.
 #[derive(Clone, Copy)]
 pub struct Sent {
     pub o: Action,
     pub passed: bool,
-    pub held: bool,
-    pub from: usize,
-    pub to: usize,
+    pub held: Option<Extent>,
     pub unit: Unit,
 }
 
-// Where the bytes of the unit at index i begin; 0 where none is wanted.
-fn start_if(held: bool, i: usize) -> usize
-    requires { i < 128 }
-    ensures { (result ≡ cond held (i * 273) 0) × (result ≤ 34671) }
-{
-    if held {
-        return i * PLACE;
-    }
-    0
+// The units that are held, as columns: how many of each AS, and what messages are made of.
+#[derive(Clone, Copy)]
+pub struct Columns<'a> {
+    pub counts: &'a [u8; 16],
+    pub tags: &'a [u16; 128],
+    pub lengths: &'a [u16; 128],
+    pub marks: &'a [u16; 128],
+    pub correlations: &'a [u32; 128],
 }
 
-// Where they end, of a parameter of so many bytes.
-fn stop_if(held: bool, from: usize, len: u16) -> usize
-    requires { (from ≤ 34671) × (held ≡ true → 4 ≤ len) }
-    ensures { result ≡ cond held (from + len - 4) from }
+// Where the unit at index i lies, whose parameter has so many bytes.
+fn lies_at(i: usize, len: u16) -> Extent
+    requires { (i < 128) × (4 ≤ len) }
+    ensures { result ≡ lies_at i len }
 {
-    if held {
-        return from + len as usize - 4;
+    let from = i * PLACE;
+    Extent {
+        from,
+        to: from + usize::from(len) - 4,
     }
-    from
 }
 
 // An action with all that; i is the index of the unit that it sends, if it sends one.
-pub fn sent_at<'a>(
-    o: Action,
-    passed: bool,
-    i: usize,
-    tags: &'a [u16; 128],
-    lengths: &'a [u16; 128],
-    marks: &'a [u16; 128],
-    correlations: &'a [u32; 128],
-) -> Sent
-    requires { (i < 128) × (held_of passed o ≡ true → 4 ≤ number_at lengths.now i) }
-    ensures { result ≡ sent_of tags.now lengths.now marks.now correlations.now passed i o }
+pub fn sent_at<'a>(o: Action, passed: bool, i: usize, units: Columns<'a>) -> Sent
+    requires { (i < 128) × (held_of passed o ≡ true → 4 ≤ number_at units.lengths.now i) }
+    ensures { result ≡ sent_in units.entry passed i o }
 {
-    let held = is_data(o) & !passed;
-    let from = start_if(held, i);
-    let to = stop_if(held, from, lengths[i]);
+    let held = if is_data(o) & !passed {
+        Some(lies_at(i, units.lengths[i]))
+    } else {
+        None
+    };
     Sent {
         o,
         passed,
         held,
-        from,
-        to,
         unit: Unit {
-            tag: tags[i],
-            marked: marks[i] == 1,
-            correlation: correlations[i],
+            tag: units.tags[i],
+            correlation: (units.marks[i] == 1).then_some(units.correlations[i]),
         },
     }
 }
 
-// The data that its message shows: a part of the hold where the unit was held, else of the received message.
-pub fn body<'a>(msg: &'a [u8], hold: &'a [u8], held: bool, from: usize, to: usize) -> &'a [u8]
-    requires { (from ≤ to) × (to ≤ length (cond held hold.now msg.now)) }
-    ensures { result.now ≡ cond held (take (to - from) (drop from hold.now)) (take (to - from) (drop from msg.now)) }
+// The data that its message shows: a part of the hold where a unit was held, else the empty part of the
+// received message.
+pub fn body<'a>(msg: &'a [u8], hold: &'a [u8], held: Option<Extent>) -> &'a [u8]
+    requires { LiesIn hold.now held }
+    ensures { result.now ≡ shown_of hold.now held }
 {
-    if held {
-        return &hold[from..to];
-    }
-    &msg[from..to]
+    let Some(lies) = held else {
+        return &msg[..0];
+    };
+    &hold[lies.from..lies.to]
 }

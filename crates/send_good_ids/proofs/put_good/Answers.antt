@@ -4,8 +4,7 @@ use Rattle.send_good_ids.proofs.put_good.Goals as goal
 pub put_rest-requires : goal.put_rest-requires
 put_rest-requires c =
     let p = c.requires in
-    let few = c.args.links.ids.few in
-    (few, made_fits _ c.good_places-column.result _ _ _ c.good_form-form.ensures few p.1 c.args.out.now p.0)
+    made_fits _ c.good_places-column.result _ _ _ c.good_form-form.ensures c.args.links.ids.few p.1 c.args.out.now p.0
 
 pub returns : goal.returns
 returns c =

@@ -1,6 +1,6 @@
 -- The message that names the good identifiers of another one alone.
 -- Assumes nothing.
-use Rattle.std.specs.Prelude.{◌≡◌, refl, Bool, true, false, cond, ◌&&◌, length, take, drop}
+use Rattle.std.specs.Prelude.{◌≡◌, refl, Some, None, Bool, true, false, cond, ◌&&◌, length, take, drop}
 use Rattle.std.proofs.Common.{sym, ap, ◌∙◌, arith, length-append, take_at, length-take-le}
 use mathlib.Core.List.{List, [], ◌++◌, append-nil}
 use Prim.Native.Nat.{ℕ, ◌+◌, ◌*◌, ◌≤◌}
@@ -30,16 +30,10 @@ good_form =
     record {
       class = 4;
       msgtype = 1;
-      one = false;
-      tag = 0;
-      number = 0;
-      held = false;
-      heldtag = 0;
-      two = false;
-      tag2 = 0;
-      number2 = 0;
-      listed = true;
-      owned = 1;
+      one = None;
+      held = None;
+      two = None;
+      listed = Some 1;
       first = Mode;
       after = Nothing;
     }

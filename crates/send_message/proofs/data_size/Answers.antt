@@ -1,13 +1,11 @@
-use mathlib.Core.Path.{refl}
 use native.Mathlib.Omega.{arith}
-use Rattle.laws.specs.Inner.Choice.{at_yes, at_no}
 use Rattle.send_message.specs.Inner.Form.{data_size}
 use Rattle.send_message.proofs.data_size.Goals as goal
 
-pub returns-then-held : goal.returns-then-held
+pub returns-in_default : goal.returns-in_default
 unfolding data_size
-returns-then-held c = (at_yes _ _ _ c.if-held.true (omega arith), omega arith)
+returns-in_default c = rw c.in_default.is (omega arith, omega arith)
 
 pub returns : goal.returns
 unfolding data_size
-returns c = (at_no _ _ _ c.if-held.false refl, omega arith)
+returns c = rw c.in-Some.is (omega arith, omega arith)

@@ -8,7 +8,7 @@ returns-then-passed c = search choices depth 30
 
 pub returns-then-ct-eq-MGMT_ERROR : goal.returns-then-ct-eq-MGMT_ERROR
 unfolding form_of
-returns-then-ct-eq-MGMT_ERROR c = search choices depth 30
+returns-then-ct-eq-MGMT_ERROR c = let e = rw c.then_some.ensures at c.say.ensures in search choices depth 30
 
 pub returns-then-ct-eq-MGMT_NOTIFY : goal.returns-then-ct-eq-MGMT_NOTIFY
 unfolding form_of
@@ -32,4 +32,4 @@ returns-then-ct-eq-USER_DATA c = search choices depth 30
 
 pub returns : goal.returns
 unfolding form_of
-returns c = search choices depth 30
+returns c = let e = rw c.then_some-2.ensures at c.say-2.ensures in search choices depth 30

@@ -12,20 +12,20 @@ use Rattle.send_message.proofs.put_form.Goals as goal
 pub put_header-requires : goal.put_header-requires
 put_header-requires c = let a = c.args in
     let p = c.requires in
-    let e = size_is (form_pars a.iid.now a.owner.now a.links (walk a.msg.now 8).pars a.body.now a.f) in
+    let e = size_is (form_pars a.owners.iid.now a.owners.owner.now a.owners.links (walk a.msg.now 8).pars a.body.now a.f) in
     omega arith
 
 pub put_pars-requires : goal.put_pars-requires
 put_pars-requires c = let a = c.args in
     let p = c.requires in
-    let e = size_is (form_pars a.iid.now a.owner.now a.links (walk a.msg.now 8).pars a.body.now a.f) in
+    let e = size_is (form_pars a.owners.iid.now a.owners.owner.now a.owners.links (walk a.msg.now 8).pars a.body.now a.f) in
     let l = ap length c.put_header.ensures ∙ length_over _ _ _ in
-    (omega arith, p.short, omega arith)
+    (p.short, omega arith)
 
 pub returns : goal.returns
 returns c = let a = c.args in
     let p = c.requires in
-    let ps = form_pars a.iid.now a.owner.now a.links (walk a.msg.now 8).pars a.body.now a.f in
+    let ps = form_pars a.owners.iid.now a.owners.owner.now a.owners.links (walk a.msg.now 8).pars a.body.now a.f in
     let e = size_is ps in
     let w = c.put_pars.ensures in
     let n = w.next in (

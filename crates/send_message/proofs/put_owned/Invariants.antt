@@ -4,7 +4,7 @@ use Rattle.send_message.specs.Inner.Form.{ids_in}
 use Rattle.send_message.proofs.put_owned.Given as goal
 
 abbrev pub invariant-loop-l : goal.invariant-loop-l
-invariant-loop-l l = PutBytes l.initial.out l.from (ids_in l.iid l.owner l.l l.a) l.at l.out × (l.l ≤ l.links) × (l.links ≤ 128)
+invariant-loop-l l = PutBytes l.initial.out l.from (ids_in l.owners.iid.now l.owners.owner.now l.l l.a) l.at l.out × (l.l ≤ l.owners.links) × (l.owners.links ≤ 128)
 
 abbrev pub decreases-loop-l : goal.decreases-loop-l
-decreases-loop-l l = l.links - l.l
+decreases-loop-l l = l.owners.links - l.l

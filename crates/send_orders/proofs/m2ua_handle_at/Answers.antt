@@ -28,17 +28,17 @@ same_hold g k {all} {lens = lens} {out} {lens'} {out'} {n} {at} e x = subst (λ 
 pub returns-then-out-lt-ROOM_BYTES : goal.returns-then-out-lt-ROOM_BYTES
 returns-then-out-lt-ROOM_BYTES c =
     let a = c.args in
-    handles_short _ (happened a.kind a.i a.msg.now) a.hold.now a.words.now a.lens.now a.out.now (omega arith) c.run-done.ensures c.code_of.ensures
+    rw c.handled_of.ensures (handles_short _ (happened a.kind a.i a.msg.now) a.hold.now a.words.now a.lens.now a.out.now (omega arith) c.run-done.ensures c.refused.ensures)
 
 pub returns-then-done-ne0 : goal.returns-then-done-ne0
 returns-then-done-ne0 c =
     let a = c.args in
-    handles_refused _ (happened a.kind a.i a.msg.now) a.hold.now a.words.now a.lens.now a.out.now (search rules) (omega arith) c.run-done-2.ensures c.if-done-ne0.true c.code_of-then-done-ne0.ensures
+    rw c.handled_of-then-done-ne0.ensures (handles_refused _ (happened a.kind a.i a.msg.now) a.hold.now a.words.now a.lens.now a.out.now (search rules) (omega arith) c.run-done-2.ensures c.if-done-ne0.true c.refused-then-done-ne0.ensures)
 
 pub returns-then-done-eq0 : goal.returns-then-done-eq0
 returns-then-done-eq0 c =
     let a = c.args in
-    handles_quiet _ (happened a.kind a.i a.msg.now) a.hold.now a.words.now a.lens.now a.out.now (search rules) (omega arith) c.run-done-2.ensures c.if-done-ne0.false c.if-done-eq0.true
+    rw c.handled_of-then-done-eq0.ensures (handles_quiet _ (happened a.kind a.i a.msg.now) a.hold.now a.words.now a.lens.now a.out.now (search rules) (omega arith) c.run-done-2.ensures c.if-done-ne0.false c.if-done-eq0.true)
 
 pub put_from-reached-requires : goal.put_from-reached-requires
 put_from-reached-requires c =
@@ -59,5 +59,5 @@ returns c =
     let room : 790528 ≤ length a.out.now = omega arith in
     let p = c.put_from-reached.ensures in
     let t = ran_on e (ran_handled _ k a.hold.now a.words.now a.lens.now a.out.now (search rules) room m c.if-done-ne0.false) in
-    handles_all _ k a.hold.now a.words.now a.lens.now a.out.now (search rules) room m (search rules) c.if-done-ne0.false (omega (arith, p.few))
-    (same_hold _ k e (written a.msg.now a.kind a.i 0 t p.wrote))
+    rw c.handled_of-2.ensures (handles_all _ k a.hold.now a.words.now a.lens.now a.out.now (search rules) room m (search rules) c.if-done-ne0.false (omega (arith, p.few))
+    (same_hold _ k e (written a.msg.now a.kind a.i 0 t p.wrote)))

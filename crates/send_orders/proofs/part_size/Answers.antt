@@ -7,7 +7,7 @@ pub returns-then-o-eq-LINK_SIDE : goal.returns-then-o-eq-LINK_SIDE
 returns-then-o-eq-LINK_SIDE c = side_size _ _ _ _ _ _ c.if-o-eq-LINK_SIDE.true
 
 pub size_of-requires : goal.size_of-requires
-size_of-requires c = let a = c.args in let p = c.requires in (p.0, omega (arith, p.1), rw c.form_of.ensures (omega (arith, p.2, asp_size a.iid.now a.owner.now a.links a.msg.now a.body.now a.x c.if-o-eq-LINK_SIDE.false)))
+size_of-requires c = let a = c.args in let p = c.requires in (omega (arith, p.0), rw c.form_of-form.ensures (omega (arith, p.1, asp_size a.owners.iid.now a.owners.owner.now a.owners.links a.msg.now a.body.now a.x c.if-o-eq-LINK_SIDE.false)))
 
 pub returns : goal.returns
-returns c = c.size_of.ensures ∙ rw c.form_of.ensures (sym (asp_size _ _ _ _ _ _ c.if-o-eq-LINK_SIDE.false))
+returns c = c.size_of.ensures ∙ rw c.form_of-form.ensures (sym (asp_size _ _ _ _ _ _ c.if-o-eq-LINK_SIDE.false))

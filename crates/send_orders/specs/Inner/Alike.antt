@@ -84,6 +84,6 @@ repeats_part v m l h = go (ℕ_discrete m 0)
         let k = v.run.place + (m - 1) in (
           omega arith,
           sym (part_of_lem v j _ _ l refl refl)
-              ∙ alike_part v.iid v.owner v.run.links v.msg _ _ (sent_in j) (sent_in k) refl (rw (ne_eqb m 0 z, q) at h)
+              ∙ alike_part v.iid v.owner v.links v.msg _ _ (sent_in j) (sent_in k) refl (rw (ne_eqb m 0 z, q) at h)
               ∙ part_of_lem v k _ _ (omega arith) refl refl,
         )

@@ -7,6 +7,8 @@ use Rattle.state_tables.specs.declared.Units.{Units}
 use Rattle.rules_event.specs.Sent.{actions_on}
 use Rattle.event_asked.specs.Happened.{happened}
 use Rattle.send_message.specs.Send.{part_at}
+use Rattle.send_unit.specs.declared.Columns.{Columns}
+use Rattle.send_orders.specs.declared.Before.{Before}
 use Rattle.send_orders.specs.declared.Given.{Given}
 use Rattle.send_orders.specs.Inner.Batch.{Ended}
 use Rattle.send_orders.specs.Inner.Ran.{Ran}
@@ -61,6 +63,9 @@ lines_of member iid owner was after tags lengths marks correlations =
       marks = marks;
       correlations = correlations;
     }
+
+abbrev pub lines_in : Before → Columns → Lines
+lines_in b u = lines_of b.member.now b.iid.now b.owner.now u.counts.now b.after.now u.tags.now u.lengths.now u.marks.now u.correlations.now
 
 -- a state before the event that has them, and one behind it
 abbrev pub before : Given → Lines → Gateway → Gateway

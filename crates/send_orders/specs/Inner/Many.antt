@@ -23,13 +23,9 @@ use Rattle.send_unit.specs.Inner.Words.{data_in}
 use Rattle.send_unit.specs.Inner.Units.{gone_list, index_small}
 use Rattle.send_orders.specs.Inner.Part.{Lent, lent_of, part_in, Ready}
 use Rattle.send_orders.specs.Inner.There.{not_sent}
-use Rattle.send_orders.specs.Inner.Refusals.{refused_first, accepted_rest}
+use Rattle.send_orders.specs.Inner.Refusals.{some_reached, batch_of, refused_first, accepted_rest}
 use Rattle.send_orders.specs.Inner.Batch.{Ended, ends_in, ends}
 use Rattle.send_orders.specs.Inner.Ran.{Ran, part_called, long_called}
-
--- what is handed back of n actions and so many bytes: 103 where there is none
-unfoldable pub batch_of : ℕ → ℕ → Batch
-batch_of n at = cond (eqb n 0) (record { code = 103; count = 0; length = 0 }) (record { code = 0; count = n; length = at })
 
 module _ (g : Gateway) (h : List ℕ) (k : EventKind) (n : ℕ) (lens out : List ℕ) where
   many_none : (code : ℕ) → code ≡ batch_code g h k n (length lens) (length out) → (code ≡ 0 → ⊥) → SendsMany g h k n lens out (record { code = code; count = 0; length = 0 }) lens out
@@ -58,11 +54,11 @@ module _ (g : Gateway) (h : List ℕ) (k : EventKind) (n : ℕ) (lens out : List
       code_of_lem : batch_code g h k n (length lens) (length out) ≡ 103 if eqb m 0
       code_of_lem = behind ∙ rw (lt-leb (length (actions_on g k)) n (omega (arith, there, t.count_is)), ← fits)
 
-      pub many_done : SendsMany g h k n lens out (batch_of m at) lens' out'
-      unfolding batch_of parts part_lengths concat_below
+      pub many_done : SendsMany g h k n lens out (batch_of (some_reached (record { count = m; length = at }))) lens' out'
+      unfolding some_reached parts part_lengths concat_below
       many_done = go (ℕ_discrete m 0)
         where
-          go : Dec (m ≡ 0) → SendsMany g h k n lens out (batch_of m at) lens' out'
+          go : Dec (m ≡ 0) → SendsMany g h k n lens out (batch_of (some_reached (record { count = m; length = at }))) lens' out'
           go (yes z) =
               rw (eq-eqb m 0 z)
               (record {
@@ -86,7 +82,7 @@ module _ (g : Gateway) (h : List ℕ) (k : EventKind) (n : ℕ) (lens out : List
 
 module _ (g : Gateway) (h : List ℕ) (kind i : ℕ) (s : List ℕ) {count : ℕ} {ws : List ℕ} {after : Gateway} (t : Ran g h (happened kind i s) count ws after) (x : List ℕ) {m : ℕ} {list : List ℕ} (em : m ≡ g.links) (lends : (j : ℕ) → j < count → Lends g (happened kind i s) x (action_at (actions_on g (happened kind i s)) j)) (el : list ≡ gone_list g.held.count after.held.count) (n : ℕ) where
   abbrev pub lent_to : Lent
-  lent_to = lent_of (record { count = count; place = n; passed = eqb kind 5; links = m }) ws list x h g.iid g.owner g.held.tag g.held.length g.held.marked g.held.correlation
+  lent_to = lent_of (record { count = count; place = n; passed = eqb kind 5 }) ws list x h g.iid g.owner m g.held.tag g.held.length g.held.marked g.held.correlation
 
   index_is : (j : ℕ) → number_at list (data_in ws j) ≡ number_at (gone_list g.held.count after.held.count) (data_in ws j)
   index_is j = ap (λ (l : List ℕ). number_at l (data_in ws j)) el
@@ -100,12 +96,11 @@ module _ (g : Gateway) (h : List ℕ) (kind i : ℕ) (s : List ℕ) {count : ℕ
       go (yes l) = rw (lt-ltb j count l) (part_called g h kind i s t j l x em (lends j l) refl (λ z. index_is j))
       go (no l) = rw (le-ltb j count (omega arith)) (sym (not_sent g h (happened kind i s) j (rw (le-ltb j (length (actions_on g (happened kind i s))) (omega (arith, t.count_is))))))
 
-  pub ready : n ≤ count → g.links ≤ 128 → Ready lent_to
-  ready there few =
+  pub ready : n ≤ count → Ready lent_to
+  ready there =
       record {
         few = t.few;
         there = there;
-        links = rw em few;
         whole = t.whole;
         indices = λ d. rw el (index_small g.held.count after.held.count d);
         long = λ j l e. long_called g h kind i s t j l refl (λ z. index_is j) e;

@@ -1,10 +1,10 @@
 -- One action: what the entry for many actions promises, of a list of one length.
 -- Assumes nothing.
-use Rattle.std.specs.Prelude.{ℕ, ◌+◌, ◌<◌, ◌≤◌, ◌≡◌, Bool, cond, not, ◌||◌, List, [], eqb, leb, ltb}
+use Rattle.std.specs.Prelude.{Ok, Err, ℕ, ◌+◌, ◌<◌, ◌≤◌, ◌≡◌, Bool, cond, not, ◌||◌, List, [], eqb, leb, ltb}
 use Rattle.std.proofs.Math.Path.{refl, sym, ap}
 use Rattle.std.proofs.Common.{◌∙◌, arith, add-zero}
 use Rattle.std.proofs.Math.Bool.{true, false}
-use Rattle.std.proofs.Math.Decide.{dec_lt}
+use Rattle.std.proofs.Math.Decide.{ℕ_discrete, dec_lt}
 use Rattle.std.proofs.Math.ListN.{length}
 use borrow.Author.Tests.{eq-eqb, ne_eqb, lt-leb, le-leb, le-ltb, ltb-true}
 use Rattle.laws.specs.Choice.{◌or_else◌, ◌if◌}
@@ -23,6 +23,8 @@ use Rattle.rules_event.specs.Sent.{actions_on, is_sent}
 use Rattle.send_message.specs.Message.{sent_bytes}
 use Rattle.send_message.specs.Send.{message_at, send_code, Sends, part_at, parts, ends_at, fitting, batch_code, SendsMany}
 use Rattle.send_message.specs.declared.Batch.{Batch}
+use Rattle.send_orders.specs.declared.Refusal.TheVariants.{Event, NoSuchAction}
+use Rattle.send_orders.specs.Inner.Refusals.{sent_of, written_of}
 use Rattle.send_orders.specs.Inner.There.{is_sent_lem, not_sent}
 
 -- the first of at least one number that a test holds for, where it holds for 1
@@ -190,3 +192,13 @@ module _ (g : Gateway) (h : List ℕ) (k : EventKind) (n : ℕ) (out : List ℕ)
               bytes_are = bytes_one ∙ ap (overlay out 0) (is_sent_lem g h k n e);
             }
         go false e = absurd (y (length_one ∙ ap length (not_sent g h k n e)))
+
+  -- in each case
+  pub one_written : Sends g h k n out (written_of (sent_of b)) out'
+  unfolding sent_of
+  one_written = go (ℕ_discrete b.code 0) (ℕ_discrete b.length 0)
+    where
+      go : Dec (b.code ≡ 0) → Dec (b.length ≡ 0) → Sends g h k n out (written_of (cond (eqb b.code 0) (cond (eqb b.length 0) (Err NoSuchAction) (Ok b.length)) (Err (Event b.code)))) out'
+      go (no z) d = rw (ne_eqb b.code 0 z) (one_refused z)
+      go (yes z) (yes y) = rw (eq-eqb b.code 0 z, eq-eqb b.length 0 y) (one_side z y)
+      go (yes z) (no y) = rw (eq-eqb b.code 0 z, ne_eqb b.length 0 y) (one_sent z y)

@@ -1,7 +1,7 @@
 -- What is written for an action, in the code's words; and that it is what specs/Send.antt of crate
 -- send_message says.
 -- Assumes nothing.
-use Rattle.std.specs.Prelude.{ℕ, ◌+◌, ◌-◌, ◌*◌, ◌/◌, ◌%◌, ◌<◌, ◌≤◌, ◌≡◌, refl, Bool, true, false, cond, not, ◌&&◌, List, [], eqb, ltb, length}
+use Rattle.std.specs.Prelude.{⊤, Option, Some, None, ℕ, ◌+◌, ◌-◌, ◌*◌, ◌/◌, ◌%◌, ◌<◌, ◌≤◌, ◌≡◌, refl, Bool, true, false, cond, not, ◌&&◌, List, [], eqb, ltb, length}
 use Rattle.std.proofs.Math.Path.{sym}
 use Rattle.std.proofs.Common.{ap, ◌∙◌, eq-eqb, ne_eqb, lt-ltb, le-ltb}
 use native.Mathlib.Omega.{arith}
@@ -22,11 +22,14 @@ use Rattle.send_message.specs.Message.{held_body, sent_pars, sent_bytes}
 use Rattle.send_message.specs.Inner.Stands.{Lends}
 use Rattle.send_message.specs.Inner.Form.{form_pars, class_of, type_of, form_of, unit_of, sent_form, form_cases, form_class, other_form, other_pars}
 use Rattle.send_message.specs.declared.Form.{Form}
+use Rattle.send_orders.specs.Inner.Batch.{StandsBefore}
 use Rattle.send_orders.specs.declared.Run.{Run}
+use Rattle.send_orders.specs.declared.Sources.{Sources}
 use Rattle.send_orders.specs.declared.Turn.{Turn}
+use Rattle.send_unit.specs.declared.Columns.{Columns}
 use Rattle.send_unit.specs.declared.Sent.{Sent}
 use Rattle.send_unit.specs.Inner.Words.{action_in, said, data_in}
-use Rattle.send_unit.specs.Inner.Made.{held_of, sent_of, shown, Long}
+use Rattle.send_unit.specs.Inner.Made.{held_of, sent_of, shown_of, shown, Long}
 
 -- ---- what is written for an action
 
@@ -41,7 +44,7 @@ part_of iid owner n s body x =
 -- index i
 abbrev pub part_made : List ℕ → List ℕ → List ℕ → List ℕ → List ℕ → List ℕ → ℕ → List ℕ → List ℕ → Bool → ℕ → Action → List ℕ
 part_made iid owner tags lengths marks correlations n s h passed i o =
-    part_of iid owner n s (shown s h (sent_of tags lengths marks correlations passed i o)) (sent_of tags lengths marks correlations passed i o)
+    part_of iid owner n s (shown h (sent_of tags lengths marks correlations passed i o)) (sent_of tags lengths marks correlations passed i o)
 
 -- of the state g with the hold h: n links, the message s, and the action o with the unit at index i
 abbrev pub sent_from : Gateway → Bool → ℕ → Action → Sent
@@ -52,7 +55,7 @@ part_from g h n s passed i o = part_made g.iid g.owner g.held.tag g.held.length 
 
 -- the words of an action are enough for it
 pub said_part : (g : Gateway) (h : List ℕ) (n : ℕ) (s : List ℕ) (passed : Bool) (i : ℕ) (o : Action) → part_from g h n s passed i (said o) ≡ part_from g h n s passed i o
-unfolding part_of shown is_data form_of
+unfolding part_of shown_of is_data form_of
 said_part g h n s passed i o = refl
 
 -- the bytes p are written over out at a position where they go in: how many they are, and the whole buffer
@@ -86,14 +89,25 @@ module _ {out : List ℕ} {at : ℕ} {p : List ℕ} {r : ℕ} {out' : List ℕ} 
   pub put_done : r ≤ length out' - at → out' ≡ overlay out at p
   put_done l = w.bytes ∙ rw (le-ltb (length out - at) r (omega (arith, l, put_length w)))
 
--- what the writer of one asks for
-pub record Fits (iid owner tags lengths marks correlations : List ℕ) (t : Turn) (s h out : List ℕ) : Type 0 where
-  pub links : t.links ≤ 128
+-- what the writer of one asks for, of n links
+pub record Fits (iid owner : List ℕ) (n : ℕ) (tags lengths marks correlations : List ℕ) (t : Turn) (s h out : List ℕ) : Type 0 where
   pub whole : length h ≡ 34944
   pub place : t.index < 128
   pub long : held_of t.passed t.o ≡ true → Long (number_at lengths t.index)
-  pub small : length (part_made iid owner tags lengths marks correlations t.links s h t.passed t.index t.o) ≤ 2048
+  pub small : length (part_made iid owner tags lengths marks correlations n s h t.passed t.index t.o) ≤ 2048
   pub room : t.at ≤ length out
+
+-- the same of what is lent
+abbrev pub made_from : Sources → Columns → Turn → List ℕ
+made_from v u t = part_made v.owners.iid.now v.owners.owner.now u.tags.now u.lengths.now u.marks.now u.correlations.now v.owners.links v.msg.now v.hold.now t.passed t.index t.o
+
+abbrev pub FitsIn : Sources → Columns → Turn → List ℕ → Type 0
+FitsIn v u t out = Fits v.owners.iid.now v.owners.owner.now v.owners.links u.tags.now u.lengths.now u.marks.now u.correlations.now t v.msg.now v.hold.now out
+
+-- the same bytes stand before the position, where the action before it has them
+abbrev pub Again : List ℕ → ℕ → List ℕ → Option ℕ → Type 0
+Again out at p None = ⊤
+Again out at p (Some size) = (size ≡ length p) × StandsBefore out at p
 
 -- ---- what is lent to the writer of many
 
@@ -105,13 +119,14 @@ pub record Lent : Type 0 where
   pub hold : List ℕ
   pub iid : List ℕ
   pub owner : List ℕ
+  pub links : ℕ
   pub tags : List ℕ
   pub lengths : List ℕ
   pub marks : List ℕ
   pub correlations : List ℕ
 
-abbrev pub lent_of : Run → List ℕ → List ℕ → List ℕ → List ℕ → List ℕ → List ℕ → List ℕ → List ℕ → List ℕ → List ℕ → Lent
-lent_of run words list msg hold iid owner tags lengths marks correlations =
+abbrev pub lent_of : Run → List ℕ → List ℕ → List ℕ → List ℕ → List ℕ → List ℕ → ℕ → List ℕ → List ℕ → List ℕ → List ℕ → Lent
+lent_of run words list msg hold iid owner links tags lengths marks correlations =
     record {
       run = run;
       words = words;
@@ -120,11 +135,15 @@ lent_of run words list msg hold iid owner tags lengths marks correlations =
       hold = hold;
       iid = iid;
       owner = owner;
+      links = links;
       tags = tags;
       lengths = lengths;
       marks = marks;
       correlations = correlations;
     }
+
+abbrev pub lent_in : Run → List ℕ → List ℕ → Sources → Columns → Lent
+lent_in run words list v u = lent_of run words list v.msg.now v.hold.now v.owners.iid.now v.owners.owner.now v.owners.links u.tags.now u.lengths.now u.marks.now u.correlations.now
 
 -- the unit that the action at a place sends
 abbrev pub index_in : Lent → ℕ → ℕ
@@ -132,7 +151,7 @@ index_in v j = number_at v.list (data_in v.words j)
 
 -- what is written for it; nothing beyond the actions
 abbrev pub made_in : Lent → ℕ → Action → List ℕ
-made_in v i o = part_made v.iid v.owner v.tags v.lengths v.marks v.correlations v.run.links v.msg v.hold v.run.passed i o
+made_in v i o = part_made v.iid v.owner v.tags v.lengths v.marks v.correlations v.links v.msg v.hold v.run.passed i o
 
 unfoldable pub part_in : Lent → ℕ → List ℕ
 part_in v j = cond (ltb j v.run.count) (made_in v (index_in v j) (action_in v.words j)) []
@@ -145,7 +164,6 @@ part_of_lem v j i o h e q = rw (lt-ltb j v.run.count h) (λ y. made_in v (e y) (
 pub record Ready (v : Lent) : Type 0 where
   pub few : v.run.count ≤ 386
   pub there : v.run.place ≤ v.run.count
-  pub links : v.run.links ≤ 128
   pub whole : length v.hold ≡ 34944
   pub indices : (d : ℕ) → number_at v.list d < 128
   pub long : (j : ℕ) → j < v.run.count → held_of v.run.passed (action_in v.words j) ≡ true → Long (number_at v.lengths (index_in v j))
@@ -180,7 +198,7 @@ abbrev HeadOf : ℕ → Form → Type 0
 HeadOf ct f = (f.class ≡ class_of ct) × (f.msgtype ≡ type_of ct)
 
 form_head : (x : Sent) → HeadOf x.o.classtype (form_in x)
-form_head x = form_cases (HeadOf x.o.classtype) x.passed x.o x.unit (λ a b. (refl, refl)) (λ t m two t2 m2. (refl, refl)) (λ t m a. (refl, refl)) (λ e. (refl, refl))
+form_head x = form_cases (HeadOf x.o.classtype) x.passed x.o x.unit (λ a b. (refl, refl)) (λ one two. (refl, refl)) (λ one a. (refl, refl)) (λ e. (refl, refl))
 
 no_data : (a b c : Bool) → b ≡ false → ((a && not b) && not c) ≡ false → (a && not c) ≡ false
 no_data true b c e h = rw e at h
@@ -195,8 +213,8 @@ module _ (g : Gateway) (h : List ℕ) (k : EventKind) (x : List ℕ) (u i : ℕ)
   abbrev on : List ℕ → Form → List Par
   on b f = form_pars g.iid g.owner g.links (walk x 8).pars b f
 
-  shown_held : held_of (is_passed k) o ≡ true → shown x h y ≡ held_body g h i
-  unfolding shown held_body
+  shown_held : held_of (is_passed k) o ≡ true → shown h y ≡ held_body g h i
+  unfolding shown_of held_body
   shown_held e =
       let f : i / 8 * 2184 + i % 8 * 273 ≡ i * 273 = omega arith in
       let t : i * 273 + number_at g.held.length i - 4 - i * 273 ≡ number_at g.held.length i - 4 = omega arith in
@@ -206,14 +224,14 @@ module _ (g : Gateway) (h : List ℕ) (k : EventKind) (x : List ℕ) (u i : ℕ)
   unfolding is_data
   plain e = no_data (eqb o.classtype user_data) (eqb o.to link_side) (is_passed k) asp e
 
-  pars_are : on (shown x h y) (form_of (is_passed k) o (unit_of g i)) ≡ sent_pars g h k u o
+  pars_are : on (shown h y) (form_of (is_passed k) o (unit_of g i)) ≡ sent_pars g h k u o
   pars_are = go (held_of (is_passed k) o) refl ∙ sym (sent_form g h u o x k lends)
     where
-      go : (b : Bool) → held_of (is_passed k) o ≡ b → on (shown x h y) (form_of (is_passed k) o (unit_of g i)) ≡ on (held_body g h u) (form_of (is_passed k) o (unit_of g u))
+      go : (b : Bool) → held_of (is_passed k) o ≡ b → on (shown h y) (form_of (is_passed k) o (unit_of g i)) ≡ on (held_body g h u) (form_of (is_passed k) o (unit_of g u))
       go true e = ap (λ (b : List ℕ). on b (form_of (is_passed k) o (unit_of g i))) (shown_held e) ∙ ap (λ (j : ℕ). on (held_body g h j) (form_of (is_passed k) o (unit_of g j))) (unit e)
       go false e =
           let z = plain e in
-          other_pars (is_passed k) o z g.iid g.owner g.links (walk x 8).pars (shown x h y) (held_body g h u) (unit_of g i)
+          other_pars (is_passed k) o z g.iid g.owner g.links (walk x 8).pars (shown h y) (held_body g h u) (unit_of g i)
           ∙ ap (λ (f : Form). on (held_body g h u) f) (other_form (is_passed k) o z (unit_of g i) (unit_of g u))
 
   pub sent_part : o.classtype < 65536 → part_from g h g.links x (is_passed k) i o ≡ sent_bytes g h k u o

@@ -1,6 +1,6 @@
 use borrow.Author.Tests.{eq-eqb, ne_eqb}
 use Rattle.send_orders.specs.Inner.Handled.{code_of}
-use Rattle.send_orders.proofs.code_of.Goals as goal
+use Rattle.send_orders.proofs.refused.Goals as goal
 
 pub returns-then-refusal-eq-SHORT_LIST : goal.returns-then-refusal-eq-SHORT_LIST
 unfolding code_of
