@@ -184,8 +184,7 @@ pub fn of_event(g: Gateway, kind: u32, i: usize, msg: &[u8], room: usize, hold: 
     let sound = state_sound::is_sound(g);
     let at = event_asked::placed(sound, links, &g.iid, ask);
     let k = event_links::link_at(g, at.index);
-    let code = event_asked::refused(sound, asps, ases, at.there, k, ask, hold, room);
-    if code != 0 {
+    if event_asked::refused(sound, asps, ases, at.there, k, ask, hold, room).is_err() {
         return [false; 16];
     }
     let n = state_tables::wide(links);
