@@ -125,6 +125,7 @@ impl From<EventRefusal> for u32 {
 
 // The places of what an event names: whether there is a link that it names, that link's index, or 0, and the
 // index of the ASP that it comes from, or 0.
+// Kept: no Option, since the rows at index 0 are read where there is none, so that reading asks nothing.
 #[derive(Drop)]
 pub struct Place {
     pub there: bool,

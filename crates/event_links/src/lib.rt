@@ -24,6 +24,7 @@ const PLAIN_MOST: u32 = 127;
 const MOST_HELD: usize = 8;
 
 // The states of a link (Rule 5.1).
+// Kept: the C interface (include/m2ua.h) has states as numbers, and a message its type.
 const IDLE: u8 = 0;
 
 const STARTING: u8 = 1;

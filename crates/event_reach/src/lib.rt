@@ -184,12 +184,14 @@ pub fn of_event(g: Gateway, kind: u32, i: usize, msg: &[u8], room: usize, hold: 
     let sound = state_sound::is_sound(g);
     let at = event_asked::placed(sound, links, &g.iid, ask);
     let k = event_links::link_at(g, at.index);
-    if event_asked::refused(sound, asps, ases, at.there, k, ask, hold, room).is_err() {
-        return [false; 16];
+    match event_asked::refused(sound, asps, ases, at.there, k, ask, hold, room) {
+        Err(_) => [false; 16],
+        Ok(()) => {
+            let n = state_tables::wide(links);
+            let row = row_of(ask, msg, n, &g.member, &g.iid, &g.owner);
+            within(state_tables::wide(ases), row)
+        }
     }
-    let n = state_tables::wide(links);
-    let row = row_of(ask, msg, n, &g.member, &g.iid, &g.owner);
-    within(state_tables::wide(ases), row)
 }
 
 // A message of ASP p.

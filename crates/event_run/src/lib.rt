@@ -190,6 +190,7 @@ fn decide(
 }
 
 // ---- what is done
+// Kept: the columns that change are parameters, since a struct of `&mut` needs ghost names in each clause.
 
 // The actions that come first, one after the other.
 fn say(replies: Replies, words: &mut [u32]) -> usize
@@ -306,6 +307,7 @@ fn take_in(
 // ---- the entry
 
 // What an event hands back beside the columns: a refusal, or 0, and the number of actions written.
+// Kept: the C interface (include/m2ua.h) has this struct.
 #[repr(C)]
 #[derive(Drop)]
 pub struct Done {

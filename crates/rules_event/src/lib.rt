@@ -6,6 +6,7 @@ use rules_server::{Arrival, Change};
 use state_tables::Gateway;
 
 // What an event hands back: a refusal, or 0, the number of actions written, and the next state.
+// Kept: `MeetsRules` (docs/STATEMENTS.md) speaks of the refusal's number.
 #[repr(C)]
 #[derive(Drop)]
 pub struct Outcome {
@@ -16,6 +17,7 @@ pub struct Outcome {
 
 // ---- records: what the rules of links and of ASPs are said of (Rule 5.27). A new column of links or of ASPs
 // is a field here, and is read from the state in one place (`link_at`, `asp_at`).
+// Kept: the C interface (include/m2ua.h) has these columns, of numbers.
 
 // What is kept of a link: a row of the links' columns.
 #[derive(Clone, Copy)]

@@ -3,8 +3,9 @@ use Rattle.std.specs.Prelude.{length}
 use Rattle.laws.specs.Columns.{number_at}
 use Rattle.state_tables.specs.State.{gateway_of, units_of}
 use Rattle.event_asked.specs.Happened.{happened}
+use Rattle.event_asked.specs.Inner.Refusal.{refusal_some}
 use Rattle.event_run.specs.Inner.Perform.{runs_no}
-use Rattle.event_run.specs.Inner.Decided.{Taken, whole, taken, refusal_some}
+use Rattle.event_run.specs.Inner.Decided.{whole, taken}
 use Rattle.event_run.specs.Inner.Performed.{change_room, lay_room, ran_send, ran_turn, ran_spread, ran_turn_spread, ran_change, ran_take}
 use Rattle.event_run.proofs.run.Goals as goal
 

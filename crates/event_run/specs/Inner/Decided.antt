@@ -20,7 +20,6 @@ use Rattle.event_decision.specs.Inner.Decides.{Decides}
 use Rattle.event_asked.specs.Happened.{happened, event_of}
 use Rattle.event_asked.specs.Inner.Refusal.{refusal_number}
 use Rattle.event_asked.specs.declared.EventRefusal.{EventRefusal}
-use Rattle.event_asked.specs.declared.EventRefusal.TheVariants.{NotSound, NotInPlan, HoldLength, ShortList}
 
 -- an event on the state g that is not refused does w
 pub record Does (g : Gateway) (kind i : ℕ) (msg : List ℕ) (size room : ℕ) (w : Decision) : Type 0 where
@@ -31,13 +30,6 @@ pub record Does (g : Gateway) (kind i : ℕ) (msg : List ℕ) (size room : ℕ) 
 abbrev pub Decided : Gateway → ℕ → ℕ → List ℕ → ℕ → ℕ → Result Decision EventRefusal → Type 0
 Decided g kind i msg size room (Ok w) = Does g kind i msg size room w
 Decided g kind i msg size room (Err r) = refusal_number r ≡ refusal g (event_of (happened kind i msg) room size)
-
--- a refusal is not 0
-pub refusal_some : (r : EventRefusal) → refusal_number r ≡ 0 → ⊥
-refusal_some NotSound h = omega (arith, h)
-refusal_some NotInPlan h = omega (arith, h)
-refusal_some HoldLength h = omega (arith, h)
-refusal_some ShortList h = omega (arith, h)
 
 module _ {g : Gateway} {kind i : ℕ} {msg : List ℕ} {size room : ℕ} {w : Decision} where
   -- what an event has that is not refused
