@@ -1,17 +1,19 @@
-// The gateway with its events as methods, by value: each copies the columns that events change, lends them
-// to the event where they then lie, and hands back a node with them for the next event.
+// The gateway with its events as methods, by value: each lends the columns of its own state to the event, and
+// hands back a node with them for the next event.
 #![tactic(auto)]
 
 ghost use Rattle.rules_event.specs.Event.{message, lost, recovery, link_up, link_down, link_message, bare};
 ghost use Rattle.rules_event.specs.Entry.{MeetsRules};
-ghost use Rattle.event_asked.specs.Happened.{happened, event};
+ghost use Rattle.event_asked.specs.Happened.{event};
+ghost use Rattle.event_asked.specs.Inner.Kind.{said};
 ghost use Rattle.send_message.specs.Send.{Sends};
 ghost use Rattle.std.specs.Prelude.{◌<◌};
 ghost use Rattle.abi_node.specs.Next.{outcome_of, headed};
 
 use codec_wire::HEADER;
 use codec_write::Written;
-use state_tables::{Gateway, Units};
+use event_asked::EventKind;
+use state_tables::Gateway;
 
 // The most bytes that the parameters of a message may have, of 2,048 in all (Rule 2.1).
 const MOST_PARAMETERS: usize = 2040;
@@ -24,6 +26,7 @@ pub struct Node {
 }
 
 // What an event hands back: a refusal, or 0; the number of actions written; and the node, for the next event.
+// Kept: no Result, since a refused event hands the node back too, and `MeetsRules` speaks of the three at once.
 #[repr(C)]
 #[derive(Drop)]
 pub struct Next {
@@ -34,66 +37,46 @@ pub struct Next {
 
 impl Node {
     // Every event.
-    fn happen(self, kind: u32, i: usize, msg: &[u8], hold: &mut [u8], words: &mut [u32]) -> Next
-        ensures { MeetsRules self.gateway (event (happened kind i msg.now) words.old hold.old) words.old words.new hold.old hold.new (outcome_of result) }
+    fn happen(
+        self,
+        kind: EventKind,
+        i: usize,
+        msg: &[u8],
+        hold: &mut [u8],
+        words: &mut [u32],
+    ) -> Next
+        ensures { MeetsRules self.gateway (event (said kind i msg.now) words.old hold.old) words.old words.new hold.old hold.new (outcome_of result) }
     {
         let mut g = self.gateway;
-        let asps = g.asps;
-        let ases = g.ases;
-        let links = g.links;
-        let spare = g.spare;
-        let mut up = g.up;
-        let mut active = g.active;
-        let mut waiting = g.waiting;
-        let mut state = g.state;
-        let held = g.held;
-        let mut count = held.count;
-        let mut tag = held.tag;
-        let mut len = held.length;
-        let mut marked = held.marked;
-        let mut id = held.id;
-        let mut correlation = held.correlation;
+        let state = &mut g;
         let done = event_run::m2ua_event_at(
-            asps,
-            ases,
-            links,
-            spare,
-            &g.aspid,
-            &mut up,
-            &g.member,
-            &mut active,
-            &g.mode,
-            &mut waiting,
-            &g.iid,
-            &g.owner,
-            &mut state,
-            &g.highspeed,
-            &g.wholelists,
-            &mut count,
-            &mut tag,
-            &mut len,
-            &mut marked,
-            &mut id,
-            &mut correlation,
-            kind,
+            state.asps,
+            state.ases,
+            state.links,
+            state.spare,
+            &state.aspid,
+            &mut state.up,
+            &state.member,
+            &mut state.active,
+            &state.mode,
+            &mut state.waiting,
+            &state.iid,
+            &state.owner,
+            &mut state.state,
+            &state.highspeed,
+            &state.wholelists,
+            &mut state.held.count,
+            &mut state.held.tag,
+            &mut state.held.length,
+            &mut state.held.marked,
+            &mut state.held.id,
+            &mut state.held.correlation,
+            u32::from(kind),
             i,
             msg,
             hold,
             words,
         );
-        g.up = up;
-        g.active = active;
-        g.waiting = waiting;
-        g.state = state;
-        let after = Units {
-            count: count,
-            tag: tag,
-            length: len,
-            marked: marked,
-            id: id,
-            correlation: correlation,
-        };
-        g.held = after;
         Next {
             refusal: done.refusal,
             count: done.count,
@@ -105,7 +88,7 @@ impl Node {
     pub fn message(self, p: usize, msg: &[u8], hold: &mut [u8], words: &mut [u32]) -> Next
         ensures { MeetsRules self.gateway (event (message p msg.now) words.old hold.old) words.old words.new hold.old hold.new (outcome_of result) }
     {
-        self.happen(event_asked::MESSAGE, p, msg, hold, words)
+        self.happen(EventKind::Message, p, msg, hold, words)
     }
 
     // The message of ASP p that has a class and a type, and no parameters.
@@ -113,7 +96,7 @@ impl Node {
         ensures { MeetsRules self.gateway (event (message p (bare class msgtype)) words.old hold.old) words.old words.new hold.old hold.new (outcome_of result) }
     {
         self.happen(
-            event_asked::MESSAGE,
+            EventKind::Message,
             p,
             &[1, 0, class, msgtype, 0, 0, 0, 8],
             hold,
@@ -164,13 +147,13 @@ impl Node {
         ensures { MeetsRules self.gateway (event (message p (headed class msgtype pars.now)) words.old hold.old) words.old words.new hold.old hold.new (outcome_of result) }
     {
         if MOST_PARAMETERS < pars.len() {
-            return self.happen(event_asked::MESSAGE, p, &[0; 1], hold, words);
+            return self.happen(EventKind::Message, p, &[0; 1], hold, words);
         }
         let size = HEADER + pars.len();
         let mut block = [0u8; 2048];
         codec_put::put_header(&mut block, 0, class, msgtype, size as u32);
         codec_put::put_bytes(&mut block, HEADER, pars);
-        self.happen(event_asked::MESSAGE, p, &block[..size], hold, words)
+        self.happen(EventKind::Message, p, &block[..size], hold, words)
     }
 
     // Up of ASP p with parameters: its identifier, a text.
@@ -205,50 +188,51 @@ impl Node {
     pub fn lost(self, p: usize, hold: &mut [u8], words: &mut [u32]) -> Next
         ensures { MeetsRules self.gateway (event (lost p) words.old hold.old) words.old words.new hold.old hold.new (outcome_of result) }
     {
-        self.happen(event_asked::LOST, p, &[0; 1], hold, words)
+        self.happen(EventKind::Lost, p, &[0; 1], hold, words)
     }
 
     // The recovery time of AS a is over.
     pub fn recovery(self, a: usize, hold: &mut [u8], words: &mut [u32]) -> Next
         ensures { MeetsRules self.gateway (event (recovery a) words.old hold.old) words.old words.new hold.old hold.new (outcome_of result) }
     {
-        self.happen(event_asked::RECOVERY, a, &[0; 1], hold, words)
+        self.happen(EventKind::Recovery, a, &[0; 1], hold, words)
     }
 
     // The link at index l is up.
     pub fn link_up(self, l: usize, hold: &mut [u8], words: &mut [u32]) -> Next
         ensures { MeetsRules self.gateway (event (link_up l) words.old hold.old) words.old words.new hold.old hold.new (outcome_of result) }
     {
-        self.happen(event_asked::LINK_UP, l, &[0; 1], hold, words)
+        self.happen(EventKind::LinkUp, l, &[0; 1], hold, words)
     }
 
     // The link at index l is down.
     pub fn link_down(self, l: usize, hold: &mut [u8], words: &mut [u32]) -> Next
         ensures { MeetsRules self.gateway (event (link_down l) words.old hold.old) words.old words.new hold.old hold.new (outcome_of result) }
     {
-        self.happen(event_asked::LINK_DOWN, l, &[0; 1], hold, words)
+        self.happen(EventKind::LinkDown, l, &[0; 1], hold, words)
     }
 
     // A message of the link side.
     pub fn link_message(self, msg: &[u8], hold: &mut [u8], words: &mut [u32]) -> Next
         ensures { MeetsRules self.gateway (event (link_message msg.now) words.old hold.old) words.old words.new hold.old hold.new (outcome_of result) }
     {
-        self.happen(event_asked::LINK_MESSAGE, 0, msg, hold, words)
+        self.happen(EventKind::LinkMessage, 0, msg, hold, words)
     }
 
     // ---- one action of an event as bytes (Rule 8.15)
 
     // Of every event.
+    #[tactic(auto, using(event_asked::specs::Inner::Kind::happened_number))]
     fn order<'a>(
         self,
-        kind: u32,
+        kind: EventKind,
         i: usize,
         msg: &'a [u8],
         hold: &'a [u8],
         place: usize,
         out: &mut [u8],
     ) -> Written
-        ensures { Sends self.gateway hold.now (happened kind i msg.now) place out.old result out.new }
+        ensures { Sends self.gateway hold.now (said kind i msg.now) place out.old result out.new }
     {
         let g = self.gateway;
         send_orders::m2ua_order_at(
@@ -273,7 +257,7 @@ impl Node {
             &g.held.marked,
             &g.held.id,
             &g.held.correlation,
-            kind,
+            u32::from(kind),
             i,
             msg,
             hold,
@@ -293,35 +277,35 @@ impl Node {
     ) -> Written
         ensures { Sends self.gateway hold.now (message p msg.now) place out.old result out.new }
     {
-        self.order(event_asked::MESSAGE, p, msg, hold, place, out)
+        self.order(EventKind::Message, p, msg, hold, place, out)
     }
 
     // Of the loss of ASP p's association.
     pub fn lost_order(self, p: usize, hold: &[u8], place: usize, out: &mut [u8]) -> Written
         ensures { Sends self.gateway hold.now (lost p) place out.old result out.new }
     {
-        self.order(event_asked::LOST, p, &[0; 1], hold, place, out)
+        self.order(EventKind::Lost, p, &[0; 1], hold, place, out)
     }
 
     // Of the end of AS a's recovery time.
     pub fn recovery_order(self, a: usize, hold: &[u8], place: usize, out: &mut [u8]) -> Written
         ensures { Sends self.gateway hold.now (recovery a) place out.old result out.new }
     {
-        self.order(event_asked::RECOVERY, a, &[0; 1], hold, place, out)
+        self.order(EventKind::Recovery, a, &[0; 1], hold, place, out)
     }
 
     // Of the link at index l that is up.
     pub fn link_up_order(self, l: usize, hold: &[u8], place: usize, out: &mut [u8]) -> Written
         ensures { Sends self.gateway hold.now (link_up l) place out.old result out.new }
     {
-        self.order(event_asked::LINK_UP, l, &[0; 1], hold, place, out)
+        self.order(EventKind::LinkUp, l, &[0; 1], hold, place, out)
     }
 
     // Of the link at index l that is down.
     pub fn link_down_order(self, l: usize, hold: &[u8], place: usize, out: &mut [u8]) -> Written
         ensures { Sends self.gateway hold.now (link_down l) place out.old result out.new }
     {
-        self.order(event_asked::LINK_DOWN, l, &[0; 1], hold, place, out)
+        self.order(EventKind::LinkDown, l, &[0; 1], hold, place, out)
     }
 
     // Of a message of the link side.
@@ -334,6 +318,6 @@ impl Node {
     ) -> Written
         ensures { Sends self.gateway hold.now (link_message msg.now) place out.old result out.new }
     {
-        self.order(event_asked::LINK_MESSAGE, 0, msg, hold, place, out)
+        self.order(EventKind::LinkMessage, 0, msg, hold, place, out)
     }
 }

@@ -1,3 +1,5 @@
 pub mod Reach
 pub mod Ask
 pub mod Place
+pub mod Kind
+pub mod Refusal

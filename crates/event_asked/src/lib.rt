@@ -2,11 +2,14 @@
 // reach alike.
 #![tactic(auto)]
 
-ghost use Rattle.std.specs.Prelude.{◌≡◌, true, ◌||◌, ◌<◌, ◌≤◌, eqb};
+ghost use Rattle.std.specs.Prelude.{◌≡◌, true, cond, ◌<◌, ◌≤◌};
+ghost use Rattle.rules_event.specs.Rules.{is_error, refusal_of};
+ghost use Rattle.event_others.specs.Inner.Other.{type_in};
 ghost use Rattle.state_tables.specs.Sound.{ascends};
-ghost use Rattle.rules_event.specs.Event.{lending};
-ghost use Rattle.rules_event.specs.Rules.{refusal_of};
-ghost use Rattle.event_asked.specs.Inner.Ask.{ask_of, Asks};
+ghost use Rattle.rules_event.specs.Event.{message, link_message, lending};
+ghost use Rattle.event_asked.specs.Inner.Ask.{ask_of, AsksKind, Asks};
+ghost use Rattle.event_asked.specs.Inner.Kind.{kind_of, number_of, said};
+ghost use Rattle.event_asked.specs.Inner.Refusal.{refusal_number, refusal_code};
 ghost use Rattle.event_links.specs.Inner.Records.{Placed, link_in};
 ghost use Rattle.event_asked.specs.Inner.Place.{asp_in, asp_named, known_in, Named};
 
@@ -14,7 +17,18 @@ use codec_read::Reading;
 use rules_event::Link;
 use state_lookup::Identifiers;
 
-// The numbers of the six kinds of event.
+// The six kinds of event.
+#[derive(Clone, Copy)]
+pub enum EventKind {
+    Message,
+    Lost,
+    Recovery,
+    LinkUp,
+    LinkDown,
+    LinkMessage,
+}
+
+// Their numbers, as hosts have them (include/m2ua.h).
 pub const MESSAGE: u32 = 0;
 
 pub const LOST: u32 = 1;
@@ -26,6 +40,39 @@ pub const LINK_UP: u32 = 3;
 pub const LINK_DOWN: u32 = 4;
 
 pub const LINK_MESSAGE: u32 = 5;
+
+impl EventKind {
+    // The kind that has a number.
+    #[tactic(auto, unfolding(crate::specs::Inner::Kind::kind_of))]
+    pub fn of_number(number: u32) -> Option<EventKind>
+        ensures { result ≡ kind_of number }
+    {
+        match number {
+            MESSAGE => Some(EventKind::Message),
+            LOST => Some(EventKind::Lost),
+            RECOVERY => Some(EventKind::Recovery),
+            LINK_UP => Some(EventKind::LinkUp),
+            LINK_DOWN => Some(EventKind::LinkDown),
+            LINK_MESSAGE => Some(EventKind::LinkMessage),
+            _ => None,
+        }
+    }
+}
+
+impl From<EventKind> for u32 {
+    fn from(kind: EventKind) -> u32
+        ensures { result ≡ number_of kind }
+    {
+        match kind {
+            EventKind::Message => MESSAGE,
+            EventKind::Lost => LOST,
+            EventKind::Recovery => RECOVERY,
+            EventKind::LinkUp => LINK_UP,
+            EventKind::LinkDown => LINK_DOWN,
+            EventKind::LinkMessage => LINK_MESSAGE,
+        }
+    }
+}
 
 // The bytes of a hold (Rule 5.22), and the fewest words of a list (Rule 6.6).
 pub const HOLD_BYTES: usize = 34944;
@@ -50,27 +97,36 @@ pub enum Ask {
 
 // ---- refusals
 
-// Rule 6.3: 105, then 102, then 106, then 101; known is that what the event names is in the plan.
-fn refusal(sound: bool, known: bool, hold: usize, room: usize) -> u32
-    ensures { result ≡ refusal_of sound known (lending room hold) }
-{
-    if sound {
-        if known {
-            if hold == HOLD_BYTES {
-                if room < LEAST_ROOM {
-                    return 101;
-                }
-                return 0;
-            }
-            return 106;
+// Why an event is refused.
+#[derive(Clone, Copy)]
+pub enum EventRefusal {
+    // the state is not sound
+    NotSound,
+    // what the event names is not in the plan
+    NotInPlan,
+    // the hold that is lent has another length
+    HoldLength,
+    // the list that is lent is too short
+    ShortList,
+}
+
+// Its number, as hosts have it (Rules 6.3 to 6.6).
+impl From<EventRefusal> for u32 {
+    fn from(refusal: EventRefusal) -> u32
+        ensures { result ≡ refusal_number refusal }
+    {
+        match refusal {
+            EventRefusal::NotSound => 105,
+            EventRefusal::NotInPlan => 102,
+            EventRefusal::HoldLength => 106,
+            EventRefusal::ShortList => 101,
         }
-        return 102;
     }
-    105
 }
 
 // The places of what an event names: whether there is a link that it names, that link's index, or 0, and the
 // index of the ASP that it comes from, or 0.
+// Kept: no Option, since the rows at index 0 are read where there is none, so that reading asks nothing.
 #[derive(Drop)]
 pub struct Place {
     pub there: bool,
@@ -79,6 +135,7 @@ pub struct Place {
 }
 
 // The index of an ASP, where there is such a place.
+#[tactic(auto, unfolding(crate::specs::Inner::Place::asp_in))]
 fn asp_in(p: usize) -> usize
     ensures { result ≡ asp_in p }
 {
@@ -115,6 +172,7 @@ fn place_in(iid: &[u32; 128], links: usize, r: Reading, asp: usize) -> Place
     place_at(links, links, asp)
 }
 
+#[tactic(auto, unfolding(crate::specs::Inner::Place::asp_in))]
 fn place_by(iid: &[u32; 128], links: usize, ask: Ask) -> Place
     requires { (links ≤ 128) × (ascends iid.now links ≡ true) }
     ensures { Named links iid.now ask result.there result.index × (result.asp ≡ asp_in (asp_named ask)) }
@@ -133,6 +191,7 @@ fn place_by(iid: &[u32; 128], links: usize, ask: Ask) -> Place
 }
 
 // The one place where a link's identifier is looked up; only where the state is sound.
+#[tactic(auto, using(crate::specs::Inner::Place::asp_small))]
 pub fn placed(sound: bool, links: u8, iid: &[u32; 128], ask: Ask) -> Place
     requires { sound ≡ true → (links ≤ 128) × (ascends iid.now links ≡ true) }
     ensures { (result.index < 128) × (sound ≡ true → Named links iid.now ask result.there result.index) × (result.asp < 16) × (sound ≡ true → result.asp ≡ asp_in (asp_named ask)) }
@@ -144,7 +203,7 @@ pub fn placed(sound: bool, links: u8, iid: &[u32; 128], ask: Ask) -> Place
             asp: 0,
         };
     }
-    place_by(iid, state_tables::wide(links), ask)
+    place_by(iid, usize::from(links), ask)
 }
 
 // What an event names is in the plan: there and k are the link, where it names one.
@@ -164,8 +223,9 @@ fn is_known(ask: Ask, asps: usize, ases: usize, there: bool, k: Link) -> bool
     }
 }
 
-// The refusal of an event, or 0: `sound` says that the state is, `hold` and `room` are the lengths of what is
-// lent.
+// Whether an event is refused, in the order of Rule 6.3: `sound` says that the state is, `hold` and `room`
+// are the lengths of what is lent.
+#[tactic(auto, unfolding(rules_event::specs::Rules::refusal_of))]
 pub fn refused(
     sound: bool,
     asps: u8,
@@ -175,70 +235,80 @@ pub fn refused(
     ask: Ask,
     hold: usize,
     room: usize,
-) -> u32
-    ensures { result ≡ refusal_of sound (known_in asps ases there k ask) (lending room hold) }
+) -> Result<(), EventRefusal>
+    ensures { refusal_code result ≡ refusal_of sound (known_in asps ases there k ask) (lending room hold) }
 {
-    let known = is_known(
-        ask,
-        state_tables::wide(asps),
-        state_tables::wide(ases),
-        there,
-        k,
-    );
-    refusal(sound, known, hold, room)
+    if !sound {
+        return Err(EventRefusal::NotSound);
+    }
+    if !is_known(ask, usize::from(asps), usize::from(ases), there, k) {
+        return Err(EventRefusal::NotInPlan);
+    }
+    if hold != HOLD_BYTES {
+        return Err(EventRefusal::HoldLength);
+    }
+    if room < LEAST_ROOM {
+        return Err(EventRefusal::ShortList);
+    }
+    Ok(())
 }
 
 // ---- what is asked
 
-// The message of an ASP, by its class and type.
-fn ask_of(p: usize, t: u32, error: bool, read: Reading) -> Ask
-    ensures { result ≡ ask_of p t error read }
+// The message of ASP p, by its class and type.
+#[tactic(auto, unfolding(crate::specs::Inner::Ask::ask_of, event_others::specs::Inner::Other::type_in))]
+fn asp_message(p: usize, msg: &[u8], read: Reading) -> Ask
+    requires { (read.class < 256) × (read.msgtype < 256) }
+    ensures { result ≡ ask_of p (type_in (is_error msg.now) read) (is_error msg.now) read }
 {
-    if t == rules_action::ASP_UP {
-        return Ask::Up(p, read);
+    let error = event_others::is_error(msg);
+    if error | (read.code != 0) {
+        return Ask::Other(p, read, error);
     }
-    if t == rules_action::ASP_DOWN {
-        return Ask::Down(p);
+    match read.class * 256 + read.msgtype {
+        rules_action::ASP_UP => Ask::Up(p, read),
+        rules_action::ASP_DOWN => Ask::Down(p),
+        rules_action::ASP_ACTIVE => Ask::Traffic(p, read, true),
+        rules_action::ASP_INACTIVE => Ask::Traffic(p, read, false),
+        _ => Ask::Other(p, read, error),
     }
-    if (t == rules_action::ASP_ACTIVE) | (t == rules_action::ASP_INACTIVE) {
-        return Ask::Traffic(p, read, t == rules_action::ASP_ACTIVE);
-    }
-    Ask::Other(p, read, error)
 }
 
-// An event that has a message: of ASP p, or of the link side. Read in this one place, the reader is compiled
+// An event that has a message: of the link side, or of ASP p. Read in this one place, the reader is compiled
 // into it.
-fn ask_message(kind: u32, p: usize, msg: &[u8]) -> Ask
-    requires { (eqb kind 0 || eqb kind 5) ≡ true }
-    ensures { Asks kind p msg.now result }
+fn ask_message(link_side: bool, p: usize, msg: &[u8]) -> Ask
+    ensures { AsksKind (cond link_side (link_message msg.now) (message p msg.now)) msg.now result }
 {
     let read = codec_read::read(msg);
-    if kind == LINK_MESSAGE {
+    if link_side {
         return Ask::LinkMessage(read);
     }
-    let error = event_others::is_error(msg);
-    let t = event_others::type_of(error, read);
-    ask_of(p, t, error, read)
+    asp_message(p, msg, read)
 }
 
-// An event by the number of its kind, with the index and the message that it has.
+// An event of a kind, with the index and the message that it has.
+fn ask_kind(kind: EventKind, i: usize, msg: &[u8]) -> Ask
+    ensures { AsksKind (said kind i msg.now) msg.now result }
+{
+    match kind {
+        EventKind::Message | EventKind::LinkMessage => {
+            ask_message(matches!(kind, EventKind::LinkMessage), i, msg)
+        }
+        EventKind::Lost => Ask::Lost(i),
+        EventKind::Recovery => Ask::Recovery(i),
+        EventKind::LinkUp => Ask::LinkUp(i),
+        EventKind::LinkDown => Ask::LinkDown(i),
+    }
+}
+
+// An event by the number of its kind; any other number is that of an ASP that no plan has, which is refused
+// (`happened`).
+#[tactic(auto, using(crate::specs::Inner::Kind::happened_none))]
 pub fn asked(kind: u32, i: usize, msg: &[u8]) -> Ask
     ensures { Asks kind i msg.now result }
 {
-    if (kind == MESSAGE) | (kind == LINK_MESSAGE) {
-        return ask_message(kind, i, msg);
+    match EventKind::of_number(kind) {
+        Some(known) => ask_kind(known, i, msg),
+        None => Ask::Lost(65536),
     }
-    if kind == LOST {
-        return Ask::Lost(i);
-    }
-    if kind == RECOVERY {
-        return Ask::Recovery(i);
-    }
-    if kind == LINK_UP {
-        return Ask::LinkUp(i);
-    }
-    if kind == LINK_DOWN {
-        return Ask::LinkDown(i);
-    }
-    Ask::Lost(65536)
 }

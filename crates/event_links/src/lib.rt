@@ -1,19 +1,16 @@
 // What the events of links do: class 6 messages of an ASP, link up, link down, messages of the link side.
 #![tactic(auto)]
 
-ghost use Rattle.std.specs.Prelude.{◌≡◌, true, cond, [], ◌∷◌, ◌+◌, ◌<◌, ◌≤◌, eqb};
-ghost use Rattle.rules_action.specs.Words.{action, link_side, to_all};
+ghost use Rattle.std.specs.Prelude.{◌≡◌, true, cond, [], ◌+◌, ◌<◌, ◌≤◌};
 ghost use Rattle.laws.specs.Columns.{tabulate};
 ghost use Rattle.state_lookup.specs.Servers.{receives};
 ghost use Rattle.rules_event.specs.Link.{establish, release, data_effect, can_have, link_effect, class_six_on, recipients_of, link_up_on, link_down_on, hold_effect, link_message_on};
 ghost use Rattle.rules_event.specs.Records.{link_at};
-ghost use Rattle.rules_event.specs.Effect.{send, set_link, take_in};
+ghost use Rattle.rules_event.specs.Effect.{take_in};
 ghost use Rattle.rules_event.specs.Rules.{from_link};
 ghost use Rattle.event_decision.specs.Inner.Decides.{Decides};
 ghost use Rattle.event_links.specs.Inner.Records.{sender_from, pending_in};
-ghost use Rattle.event_links.specs.Inner.Six.{data_tree};
 ghost use Rattle.event_links.specs.Inner.Side.{passes_in, Fits};
-ghost use Rattle.rules_action.specs.Types.{establish_confirm, release_confirm, release_indication};
 
 use codec_read::{Found, Reading};
 use rules_event::{Asp, Decision, Link, Owner, Sender};
@@ -29,6 +26,30 @@ const NO_DATA: Found = Found {
     start: 0,
     length: 0,
 };
+
+// The most units that an AS holds (Rule 5.21).
+const MOST_HELD: usize = 8;
+
+// The states of a link (Rule 5.1).
+// Kept: the C interface (include/m2ua.h) has states as numbers, and a message its type.
+const IDLE: u8 = 0;
+
+const STARTING: u8 = 1;
+
+const IN_SERVICE: u8 = 2;
+
+const STOPPING: u8 = 3;
+
+// The types of class 6 that an ASP sends and that do something (Rules 7.15 to 7.19).
+const DATA: u32 = 1;
+
+const ESTABLISH: u32 = 2;
+
+const RELEASE: u32 = 4;
+
+const STATE: u32 = 7;
+
+const RETRIEVAL: u32 = 10;
 
 // ---- records (Rule 5.27)
 
@@ -67,72 +88,51 @@ pub fn sender_of<'a>(
 // ---- class 6 of an ASP: p is the ASP, x the identifier, k the link, at the index l
 
 // Establish (Rule 7.15).
+#[tactic(auto, using(event_decision::specs::Inner::Decides::decisions), unfolding(rules_event::specs::Link::establish))]
 fn establish_work(p: usize, x: u32, l: usize, k: Link) -> Decision
     requires { (p < 16) × (l < 128) }
     ensures { Decides result (establish p x l k) }
 {
-    if k.state == 2 {
-        return event_decision::reply(p, rules_action::ESTABLISH_CONFIRM, x, 0);
+    match k.state {
+        IN_SERVICE => event_decision::reply(p, rules_action::ESTABLISH_CONFIRM, x, 0),
+        STARTING => event_decision::nothing(),
+        _ => event_decision::turn_and_send(l, STARTING, rules_action::ESTABLISH_REQUEST, x),
     }
-    if k.state == 1 {
-        return event_decision::nothing();
-    }
-    event_decision::turn_and_send(l, 1, rules_action::ESTABLISH_REQUEST, x)
 }
 
 // Release (Rule 7.16).
+#[tactic(auto, using(event_decision::specs::Inner::Decides::decisions), unfolding(rules_event::specs::Link::release))]
 fn release_work(p: usize, x: u32, l: usize, k: Link) -> Decision
     requires { (p < 16) × (l < 128) }
     ensures { Decides result (release p x l k) }
 {
-    if k.state == 0 {
-        return event_decision::reply(p, rules_action::RELEASE_CONFIRM, x, 0);
+    match k.state {
+        IDLE => event_decision::reply(p, rules_action::RELEASE_CONFIRM, x, 0),
+        STOPPING => event_decision::nothing(),
+        _ => event_decision::turn_and_send(l, STOPPING, rules_action::RELEASE_REQUEST, x),
     }
-    if k.state == 3 {
-        return event_decision::nothing();
-    }
-    event_decision::turn_and_send(l, 3, rules_action::RELEASE_REQUEST, x)
 }
 
-// An order to the link side, then a reply to p.
-fn send_and_reply(p: usize, classtype: u32, x: u32, reply: u32, value: u32) -> Decision
-    requires { p < 16 }
-    ensures { Decides result (send (action link_side classtype x 0 ∷ action p reply x value ∷ [])) }
-{
-    event_decision::say_two(
-        event_decision::to_link(classtype, x, 0),
-        event_decision::to_asp(p, reply, x, value),
-    )
-}
-
-// Data (Rule 7.17), as a tree.
-fn data_tree(p: usize, x: u32, k: Link, r: Reading) -> Decision
-    requires { p < 16 }
-    ensures { Decides result (data_tree p x k r) }
-{
-    if k.state == 2 {
-        if r.correlated == 1 {
-            return send_and_reply(
-                p,
-                rules_action::USER_DATA,
-                x,
-                rules_action::DATA_ACK,
-                r.correlation,
-            );
-        }
-        return event_decision::order(rules_action::USER_DATA, x, 0);
-    }
-    event_decision::error(p, 6)
-}
-
+// Data (Rule 7.17).
+#[tactic(auto, using(event_decision::specs::Inner::Decides::decisions), unfolding(rules_event::specs::Link::data_effect))]
 fn data_work(p: usize, x: u32, k: Link, r: Reading) -> Decision
     requires { p < 16 }
     ensures { Decides result (data_effect p x k r) }
 {
-    data_tree(p, x, k, r)
+    if k.state != IN_SERVICE {
+        return event_decision::error(p, 6);
+    }
+    if r.correlated == 1 {
+        return event_decision::say_two(
+            event_decision::to_link(rules_action::USER_DATA, x, 0),
+            event_decision::to_asp(p, rules_action::DATA_ACK, x, r.correlation),
+        );
+    }
+    event_decision::order(rules_action::USER_DATA, x, 0)
 }
 
 // A link can have the sequence number n (Rule 5.23).
+#[tactic(auto, unfolding(rules_event::specs::Link::can_have))]
 fn can_have(k: Link, n: u32) -> bool
     ensures { result ≡ can_have k n }
 {
@@ -140,56 +140,47 @@ fn can_have(k: Link, n: u32) -> bool
 }
 
 // A message of class 6 whose sender may send it, by its type (Rules 7.15 to 7.19).
+#[tactic(auto, using(event_decision::specs::Inner::Decides::decisions), unfolding(rules_event::specs::Link::link_effect))]
 fn link_work(p: usize, x: u32, l: usize, k: Link, r: Reading) -> Decision
     requires { (p < 16) × (l < 128) }
     ensures { Decides result (link_effect p x l k r) }
 {
-    if r.msgtype == 1 {
-        return data_work(p, x, k, r);
+    match r.msgtype {
+        DATA => data_work(p, x, k, r),
+        ESTABLISH => establish_work(p, x, l, k),
+        RELEASE => release_work(p, x, l, k),
+        STATE => event_decision::order(rules_action::STATE_REQUEST, x, r.state),
+        RETRIEVAL => event_decision::order(rules_action::RETRIEVAL_REQUEST, x, r.retrieval),
+        _ => event_decision::nothing(),
     }
-    if r.msgtype == 2 {
-        return establish_work(p, x, l, k);
-    }
-    if r.msgtype == 4 {
-        return release_work(p, x, l, k);
-    }
-    if r.msgtype == 7 {
-        return event_decision::order(rules_action::STATE_REQUEST, x, r.state);
-    }
-    if r.msgtype == 10 {
-        return event_decision::order(rules_action::RETRIEVAL_REQUEST, x, r.retrieval);
-    }
-    event_decision::nothing()
 }
 
 // A message of class 6 that ASPs send: the questions of Rule 7.14, of the link that it names; there says that
 // there is such a link.
+#[tactic(auto, using(event_decision::specs::Inner::Decides::decisions), unfolding(rules_event::specs::Link::class_six_on))]
 pub fn class_six(there: bool, p: usize, l: usize, k: Link, s: Sender, r: Reading) -> Decision
     requires { (p < 16) × (l < 128) }
     ensures { Decides result (class_six_on there p l k s r) }
 {
-    let fits = can_have(k, r.sequence);
-    if s.up == 1 {
-        if there {
-            if s.member == 1 {
-                if s.active == 1 {
-                    if fits {
-                        return link_work(p, r.id, l, k, r);
-                    }
-                    return event_decision::error(p, 17);
-                }
-                return event_decision::error(p, 6);
-            }
-            return event_decision::error_two(p, r.id);
-        }
+    if s.up != 1 {
+        return event_decision::error(p, 6);
+    }
+    if !(there & (s.member == 1)) {
         return event_decision::error_two(p, r.id);
     }
-    event_decision::error(p, 6)
+    if s.active != 1 {
+        return event_decision::error(p, 6);
+    }
+    if !can_have(k, r.sequence) {
+        return event_decision::error(p, 17);
+    }
+    link_work(p, r.id, l, k, r)
 }
 
 // ---- to the recipients of the link at l
 
 // Who gets a message of a link of AS a (Rule 5.15): only in load-share are the active members counted.
+#[tactic(auto, using(crate::specs::Inner::Recipients::all_receive))]
 fn receivers(active: &[u8; 256], mode: u8, a: usize, x: u32) -> [bool; 16]
     requires { a < 16 }
     ensures { result ≡ tabulate 16 (receives active.now mode a x) }
@@ -201,46 +192,42 @@ fn receivers(active: &[u8; 256], mode: u8, a: usize, x: u32) -> [bool; 16]
 }
 
 // Those of the link k, whose owner is o.
+#[tactic(auto, unfolding(rules_event::specs::Link::recipients_of))]
 fn recipients_of(active: &[u8; 256], k: Link, o: Owner) -> [bool; 16]
     requires { k.owner < 16 }
     ensures { result ≡ recipients_of active.now k o }
 {
-    receivers(active, o.mode, state_tables::wide(k.owner), k.id)
+    receivers(active, o.mode, usize::from(k.owner), k.id)
 }
 
 // Link up (Rule 7.20), where they are given.
+#[tactic(auto, using(event_decision::specs::Inner::Decides::decisions), unfolding(rules_event::specs::Link::link_up_on, rules_event::specs::Link::to_recipients))]
 fn up_at(l: usize, k: Link, who: [bool; 16]) -> Decision
     requires { l < 128 }
     ensures { Decides result (link_up_on l k who) }
 {
-    if k.state == 1 {
-        return event_decision::turn_spread(l, 2, who, rules_action::ESTABLISH_CONFIRM, k.id);
+    if k.state != STARTING {
+        return event_decision::nothing();
     }
-    event_decision::nothing()
-}
-
-// The type that a link that goes down sends.
-fn down_type(st: u8) -> u32
-    ensures { result ≡ cond (eqb st 3) release_confirm release_indication }
-{
-    if st == 3 {
-        return rules_action::RELEASE_CONFIRM;
-    }
-    rules_action::RELEASE_INDICATION
+    event_decision::turn_spread(l, IN_SERVICE, who, rules_action::ESTABLISH_CONFIRM, k.id)
 }
 
 // Link down (Rule 7.21).
+#[tactic(auto, using(event_decision::specs::Inner::Decides::decisions), unfolding(rules_event::specs::Link::link_down_on, rules_event::specs::Link::to_recipients))]
 fn down_at(l: usize, k: Link, who: [bool; 16]) -> Decision
     requires { l < 128 }
     ensures { Decides result (link_down_on l k who) }
 {
-    if k.state == 0 {
-        return event_decision::nothing();
-    }
-    event_decision::turn_spread(l, 0, who, down_type(k.state), k.id)
+    let told = match k.state {
+        IDLE => return event_decision::nothing(),
+        STOPPING => rules_action::RELEASE_CONFIRM,
+        _ => rules_action::RELEASE_INDICATION,
+    };
+    event_decision::turn_spread(l, IDLE, who, told, k.id)
 }
 
 // The link k at l goes up (Rule 7.20), or down (Rule 7.21).
+#[tactic(auto, using(event_decision::specs::Inner::Decides::decisions))]
 pub fn link_turns(up: bool, active: &[u8; 256], l: usize, k: Link, o: Owner) -> Decision
     requires { (k.owner < 16) × (l < 128) }
     ensures { Decides result (cond up (link_up_on l k (recipients_of active.now k o)) (link_down_on l k (recipients_of active.now k o))) }
@@ -255,14 +242,16 @@ pub fn link_turns(up: bool, active: &[u8; 256], l: usize, k: Link, o: Owner) -> 
 // ---- a message of the link side
 
 // The types of class 6 that the link side sends (Rule 6.5).
+#[tactic(auto, unfolding(rules_event::specs::Rules::from_link))]
 fn from_link(k: u32) -> bool
     ensures { result ≡ from_link k }
 {
-    (((k == 1) | (k == 8)) | (k == 9)) | ((11 <= k) & (k <= 14))
+    matches!(k, 1 | 8 | 9 | 11..=14)
 }
 
 // A message of the link side that is not refused with 102 (Rule 6.5); there says that there is a link with
 // its identifier, which is k.
+#[tactic(auto, unfolding(crate::specs::Inner::Side::passes_in))]
 pub fn passes(there: bool, k: Link, r: Reading) -> bool
     ensures { result ≡ passes_in there k r }
 {
@@ -272,14 +261,12 @@ pub fn passes(there: bool, k: Link, r: Reading) -> bool
 }
 
 // AS a, which is o, is pending (Rule 5.2).
+#[tactic(auto, unfolding(crate::specs::Inner::Records::pending_in))]
 fn is_pending(active: &[u8; 256], o: Owner, a: usize) -> bool
     requires { a < 16 }
     ensures { result ≡ pending_in active.now o a }
 {
-    if o.waiting == 1 {
-        return !has_some(row_of(active, a));
-    }
-    false
+    (o.waiting == 1) && !has_some(row_of(active, a))
 }
 
 // A unit that comes in for AS a: d is its protocol data, r what else was read.
@@ -301,25 +288,25 @@ fn take_in(a: usize, d: Found, r: Reading) -> Decision
 }
 
 // It is held behind those that AS a has, and a ninth turned away (Rule 7.24).
+#[tactic(auto, using(event_decision::specs::Inner::Decides::decisions), unfolding(rules_event::specs::Link::hold_effect, rules_event::specs::Link::arrival))]
 fn hold_work(msg: &[u8], a: usize, o: Owner, r: Reading) -> Decision
     requires { (a < 16) × Fits msg.now r }
     ensures { Decides result (hold_effect msg.now r a o) }
 {
-    if o.held < 8 {
-        let d = codec_read::data_unit(msg).unwrap_or(NO_DATA);
-        return take_in(a, d, r);
+    if MOST_HELD <= o.held {
+        return event_decision::nothing();
     }
-    event_decision::nothing()
+    take_in(a, codec_read::data_unit(msg).unwrap_or(NO_DATA), r)
 }
 
 // A message of the link side that is not refused (Rules 7.22, 7.24), of the link k, whose owner is o.
+#[tactic(auto, using(event_decision::specs::Inner::Decides::decisions), unfolding(rules_event::specs::Link::link_message_on, rules_event::specs::Link::to_recipients))]
 pub fn link_message(msg: &[u8], active: &[u8; 256], k: Link, o: Owner, r: Reading) -> Decision
     requires { (k.owner < 16) × (r.class ≡ 6) × (r.msgtype < 256) × (r.msgtype ≡ 1 → Fits msg.now r) }
     ensures { Decides result (link_message_on (pending_in active.now o k.owner) msg.now k o (recipients_of active.now k o) r) }
 {
-    let a = state_tables::wide(k.owner);
-    let held = (r.msgtype == 1) & is_pending(active, o, a);
-    if held {
+    let a = usize::from(k.owner);
+    if (r.msgtype == DATA) & is_pending(active, o, a) {
         return hold_work(msg, a, o, r);
     }
     let who = recipients_of(active, k, o);

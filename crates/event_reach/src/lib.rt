@@ -151,20 +151,21 @@ pub fn of_event(g: Gateway, kind: u32, i: usize, msg: &[u8], room: usize, hold: 
     let sound = state_sound::is_sound(g);
     let at = event_asked::placed(sound, links, &g.iid, ask);
     let k = event_links::link_at(g, at.index);
-    let code = event_asked::refused(sound, asps, ases, at.there, k, ask, hold, room);
-    if code != 0 {
-        return [false; 16];
+    match event_asked::refused(sound, asps, ases, at.there, k, ask, hold, room) {
+        Err(_) => [false; 16],
+        Ok(()) => {
+            let ids = Identifiers {
+                iid: &g.iid,
+                count: usize::from(links),
+            };
+            let plan = Links {
+                ids,
+                owner: &g.owner,
+            };
+            let row = row_of(ask, msg, &g.member, plan);
+            within(usize::from(ases), row)
+        }
     }
-    let ids = Identifiers {
-        iid: &g.iid,
-        count: usize::from(links),
-    };
-    let plan = Links {
-        ids,
-        owner: &g.owner,
-    };
-    let row = row_of(ask, msg, &g.member, plan);
-    within(usize::from(ases), row)
 }
 
 // A message of ASP p.

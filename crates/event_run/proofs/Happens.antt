@@ -1,12 +1,12 @@
--- What `run` reads tells of the event on the state that it is lent: that it is refused as the rules say, and
+-- What `decide` reads tells of the event on the state that it is lent: that it is refused as the rules say, and
 -- what is decided of one that is not.
-use Rattle.std.specs.Prelude.{ℕ, ◌<◌, ◌≡◌, Bool, true, List, refl}
+use Rattle.std.specs.Prelude.{ℕ, ◌<◌, ◌≤◌, ◌≡◌, Bool, true, List, refl, Result}
 use Rattle.std.proofs.Common.{◌∙◌, sym}
 use Rattle.laws.specs.Columns.{number_at}
 use Rattle.state_tables.specs.Sound.{is_sound}
 use Rattle.state_tables.specs.declared.Gateway.{Gateway}
 use Rattle.rules_event.specs.Event.{lending}
-use Rattle.rules_event.specs.Records.{link_at, asp_at}
+use Rattle.rules_event.specs.Records.{link_at, owner_of, asp_at}
 use Rattle.rules_event.specs.Rules.{refusal_of, refusal, in_plan, effect_of}
 use Rattle.rules_event.specs.Inner.Accepted.{Accepted, accepted}
 use Rattle.rules_event.specs.declared.Decision.{Decision}
@@ -14,43 +14,49 @@ use Rattle.event_decision.specs.Inner.Decides.{Decides, DecidesOn, decided}
 use Rattle.event_asked.specs.Happened.{happened, event_of}
 use Rattle.event_asked.specs.Inner.Ask.{Asks, ask_effect}
 use Rattle.event_asked.specs.Inner.Place.{asp_in, asp_named, known_in, Named, refusal_in_lem}
+use Rattle.event_asked.specs.Inner.Refusal.{refusal_code}
 use Rattle.event_asked.specs.declared.Ask.{Ask}
+use Rattle.event_asked.specs.declared.EventRefusal.{EventRefusal}
 use Rattle.event_asked.specs.declared.Place.{Place}
-use Rattle.event_run.specs.Inner.Columns.{AskColumns, owned, owner_any}
-use Rattle.event_run.specs.Inner.Take.{Taken, taken}
+use Rattle.event_run.specs.Inner.Columns.{AskColumns, owner_any}
+use Rattle.event_run.specs.Inner.Decided.{Does}
 
--- what is read: what the event asks, whether the state is sound, the places, and the refusal's number
-pub record Read (g : Gateway) (kind i : ℕ) (msg : List ℕ) (room size : ℕ) (ask : Ask) (sound : Bool) (at : Place) (code : ℕ) : Type 0 where
+-- what is read: what the event asks, whether the state is sound, the places, and whether it is refused
+pub record Read (g : Gateway) (kind i : ℕ) (msg : List ℕ) (room size : ℕ) (ask : Ask) (sound : Bool) (at : Place) (no : Result (Unit {0}) EventRefusal) : Type 0 where
   pub sound_is : sound ≡ is_sound g
   pub asks : Asks kind i msg ask
   pub near : at.index < 128
   pub named : sound ≡ true → Named g.links g.iid ask at.there at.index
   pub asp_is : sound ≡ true → at.asp ≡ asp_in (asp_named ask)
-  pub code_is : code ≡ refusal_of sound (known_in g.asps g.ases at.there (link_at g at.index) ask) (lending room size)
+  pub code_is : refusal_code no ≡ refusal_of sound (known_in g.asps g.ases at.there (link_at g at.index) ask) (lending room size)
 
-module _ {g : Gateway} {kind i : ℕ} {msg : List ℕ} {room size : ℕ} {ask : Ask} {sound : Bool} {at : Place} {code : ℕ} (r : Read g kind i msg room size ask sound at code) where
-  pub refusal_is : code ≡ refusal g (event_of (happened kind i msg) room size)
+module _ {g : Gateway} {kind i : ℕ} {msg : List ℕ} {room size : ℕ} {ask : Ask} {sound : Bool} {at : Place} {no : Result (Unit {0}) EventRefusal} (r : Read g kind i msg room size ask sound at no) where
+  pub refusal_is : refusal_code no ≡ refusal g (event_of (happened kind i msg) room size)
   refusal_is =
       r.code_is
       ∙ refusal_in_lem g ask _ _ _ (lending room size) r.sound_is r.named
       ∙ (λ j. refusal_of (is_sound g) (r.asks.known g j) (lending room size))
 
   -- of an event that is not refused
-  module _ (h : code ≡ 0) where
-    pub whole : Accepted (is_sound g) (in_plan g (happened kind i msg)) (lending room size)
-    whole = accepted _ _ _ (sym refusal_is ∙ h)
+  module _ (h : refusal_code no ≡ 0) where
+    pub whole_is : Accepted (is_sound g) (in_plan g (happened kind i msg)) (lending room size)
+    whole_is = accepted _ _ _ (sym refusal_is ∙ h)
+
+    pub sound_yes : sound ≡ true
+    sound_yes = r.sound_is ∙ whole_is.sound_yes
 
     pub owner_16 : number_at g.owner at.index < 16
-    owner_16 = owner_any g whole.sound_yes _ r.near
+    owner_16 = owner_any g whole_is.sound_yes _ r.near
 
     -- what is decided is the rules' effect
-    pub decides : {w : Decision} {a n links : ℕ}
-        → DecidesOn (AskColumns at.index (link_at g at.index) (record { mode = number_at g.mode a; waiting = number_at g.waiting a; held = n }) at.asp (asp_at g at.asp) links g.member g.active g.mode g.iid g.owner) (λ e. ask_effect e msg ask) w
-        → a ≡ number_at g.owner at.index → n ≡ number_at g.held.count a → links ≡ g.links → Decides w (effect_of g (happened kind i msg))
-    decides d ea en el =
-        decided
-        (d.on g (record { link_is = refl; owned_by = owned g _ ea en; asp_is = refl; links_is = sym el; member_is = refl; active_is = refl; mode_is = refl; iid_is = refl; owner_is = refl }))
-        (r.asks.effect g)
-
-    pub takes : {w : Decision} → Decides w (effect_of g (happened kind i msg)) → 4 < w.what → Taken w (number_at g.held.count w.link) kind i msg
-    takes {w} d l = taken g w kind i msg room size (sym refusal_is ∙ h) d.is l
+    pub does : {w : Decision}
+        → DecidesOn (AskColumns at.index (link_at g at.index) (owner_of g (number_at g.owner at.index)) at.asp (asp_at g at.asp) g.links g.member g.active g.mode g.iid g.owner) (λ e. ask_effect e msg ask) w
+        → Does g kind i msg size room w
+    does d =
+        record {
+          accepted = sym h ∙ refusal_is;
+          decides =
+              decided
+              (d.on g (record { link_is = refl; owned_by = refl; asp_is = refl; links_is = refl; member_is = refl; active_is = refl; mode_is = refl; iid_is = refl; owner_is = refl }))
+              (r.asks.effect g);
+        }

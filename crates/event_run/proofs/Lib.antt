@@ -1,1 +1,1 @@
-pub mod Happens
+mod Happens

@@ -1,4 +1,4 @@
 pub mod Columns
-pub mod Decision
 pub mod Perform
-pub mod Take
+pub mod Decided
+pub mod Performed

@@ -4,53 +4,150 @@
 ghost use Rattle.std.specs.Prelude.{◌≡◌, cond, ◌+◌, ◌*◌, ◌<◌, ◌≤◌, eqb, length, take, drop};
 ghost use Rattle.laws.specs.Columns.{number_at};
 ghost use Rattle.codec_put.specs.Bytes.{overlay};
+ghost use Rattle.rules_action.specs.Words.{to_all};
 ghost use Rattle.rules_action.specs.Inner.Words.{Written};
 ghost use Rattle.state_lookup.specs.Inner.Table.{Table};
+ghost use Rattle.state_tables.specs.Sound.{is_sound};
+ghost use Rattle.state_tables.specs.State.{gateway_of, units_of};
+ghost use Rattle.rules_servers.specs.Changed.{units_with};
 ghost use Rattle.rules_event.specs.Entry.{MeetsRules, Runs};
-ghost use Rattle.rules_event.specs.Inner.Decision.{first_actions, spread, effect_in};
+ghost use Rattle.rules_event.specs.Records.{link_at, owner_of, asp_at};
+ghost use Rattle.rules_event.specs.Inner.Decision.{replies_in};
 ghost use Rattle.event_decision.specs.Inner.Decides.{asp_of, DecidesOn};
 ghost use Rattle.event_asked.specs.Happened.{happened, event_of, event};
 ghost use Rattle.event_asked.specs.Inner.Ask.{ask_effect, AskFits};
 ghost use Rattle.event_asked.specs.Inner.Place.{asp_in, asp_named, Named};
-ghost use Rattle.state_tables.specs.State.{gateway_of, units_of};
+ghost use Rattle.event_units.specs.Inner.Going.{going};
 ghost use Rattle.event_run.specs.At.{outcome_of};
-ghost use Rattle.event_run.specs.Inner.Columns.{AskColumns};
-ghost use Rattle.event_run.specs.Inner.Decision.{first_of, Changed, link_after, put_in};
+ghost use Rattle.event_run.specs.Inner.Columns.{AskColumns, state_in};
+ghost use Rattle.event_run.specs.Inner.Decided.{Decided};
+ghost use Rattle.event_run.specs.Inner.Performed.{Changed, units_left};
 
-use event_asked::{Ask, Place};
-use rules_event::{Asp, Decision, Link, Owner};
-use rules_server::has_some;
+use event_asked::{Ask, EventRefusal, Place};
+use rules_event::{Asp, Decision, Link, Owner, Replies};
+use rules_server::{Arrival, Change, has_some};
 
-// ---- what is done
+// ---- what is decided
 
-// What the event does (Rule 7.1), decided. `at` has the places of the link that it names, which is k, and of
-// the ASP that it comes from, which is s; o is the AS that owns k. Lent are only the columns that are
-// searched for more than one place.
-fn decided<'a>(
-    ask: Ask,
-    msg: &[u8],
-    at: Place,
-    k: Link,
-    o: Owner,
-    s: Asp,
-    links: usize,
+// The state that an event finds, where its columns lie.
+#[derive(Clone, Copy)]
+struct Columns<'a> {
+    asps: u8,
+    ases: u8,
+    links: u8,
+    spare: u8,
+    aspid: &'a [u32; 16],
+    up: &'a [u8; 16],
     member: &'a [u8; 256],
     active: &'a [u8; 256],
     mode: &'a [u8; 16],
+    waiting: &'a [u8; 16],
     iid: &'a [u32; 128],
     owner: &'a [u8; 128],
-) -> Decision
-    requires { Table iid.now owner.now links × AskFits links iid.now msg.now ask × Named links iid.now ask at.there at.index × (k.owner < 16) × (at.asp ≡ asp_in (asp_named ask)) }
-    ensures { DecidesOn (AskColumns at.index k o at.asp s links member.now active.now mode.now iid.now owner.now) (λ g. ask_effect g msg.now ask) result }
+    state: &'a [u8; 128],
+    highspeed: &'a [u8; 128],
+    wholelists: &'a [u8; 16],
+    count: &'a [u8; 16],
+    tag: &'a [u16; 128],
+    len: &'a [u16; 128],
+    marked: &'a [u16; 128],
+    id: &'a [u32; 128],
+    correlation: &'a [u32; 128],
+}
+
+impl<'a> Columns<'a> {
+    fn is_sound(self) -> bool
+        ensures { result ≡ is_sound (state_in self.entry) }
+    {
+        state_sound::sound_of(
+            self.asps,
+            self.ases,
+            self.links,
+            self.spare,
+            self.aspid,
+            self.up,
+            self.member,
+            self.active,
+            self.mode,
+            self.waiting,
+            self.iid,
+            self.owner,
+            self.state,
+            self.highspeed,
+            self.wholelists,
+            self.count,
+            self.tag,
+            self.len,
+            self.marked,
+            self.id,
+            self.correlation,
+        )
+    }
+
+    // The link at l.
+    fn link_at(self, l: usize) -> Link
+        requires { l < 128 }
+        ensures { result ≡ link_at (state_in self.entry) l }
+    {
+        Link {
+            id: self.iid[l],
+            owner: self.owner[l],
+            state: self.state[l],
+            highspeed: self.highspeed[l],
+        }
+    }
+
+    // What is asked of AS a as an owner of links.
+    fn owner_of(self, a: u8) -> Owner
+        requires { a < 16 }
+        ensures { result ≡ owner_of (state_in self.entry) a }
+    {
+        let a = usize::from(a);
+        Owner {
+            mode: self.mode[a],
+            waiting: self.waiting[a],
+            held: usize::from(self.count[a]),
+        }
+    }
+
+    // ASP p.
+    fn asp_at(self, p: usize) -> Asp
+        requires { p < 16 }
+        ensures { result ≡ asp_at (state_in self.entry) p }
+    {
+        Asp {
+            id: self.aspid[p],
+            up: self.up[p],
+            wholelists: self.wholelists[p],
+        }
+    }
+}
+
+// What the event does (Rule 7.1), decided. `at` has the places of the link that it names, which is k, and of
+// the ASP that it comes from, which is s; o is the AS that owns k.
+fn decided(ask: Ask, msg: &[u8], at: Place, k: Link, o: Owner, s: Asp, columns: Columns) -> Decision
+    requires { Table columns.iid.now columns.owner.now columns.links × AskFits columns.links columns.iid.now msg.now ask × Named columns.links columns.iid.now ask at.there at.index × (k.owner < 16) × (at.asp ≡ asp_in (asp_named ask)) }
+    ensures { DecidesOn (AskColumns at.index k o at.asp s columns.entry.links columns.entry.member.now columns.entry.active.now columns.entry.mode.now columns.entry.iid.now columns.entry.owner.now) (λ g. ask_effect g msg.now ask) result }
 {
+    let active = columns.active;
+    let member = columns.member;
     match ask {
         Ask::Up(p, r) => event_asps::up_work(s, member, active, p, r),
         Ask::Down(p) => event_asps::down_work(member, p),
-        Ask::Traffic(p, r, on) => {
-            event_traffic::traffic_work(on, msg, links, s, member, mode, iid, owner, p, r)
-        }
+        Ask::Traffic(p, r, on) => event_traffic::traffic_work(
+            on,
+            msg,
+            usize::from(columns.links),
+            s,
+            member,
+            columns.mode,
+            columns.iid,
+            columns.owner,
+            p,
+            r,
+        ),
         Ask::Other(p, r, error) => {
-            let t = event_links::sender_of(s, member, active, state_tables::wide(k.owner), p);
+            let t = event_links::sender_of(s, member, active, usize::from(k.owner), p);
             event_others::other_work(at.there, p, at.index, k, t, error, r)
         }
         Ask::Lost(p) => event_asps::lost_work(member, p),
@@ -61,41 +158,71 @@ fn decided<'a>(
     }
 }
 
+// What is asked of the state is refused, or decided: the link that the event names, the AS that owns it and
+// the ASP that the event comes from are read here, once.
+fn decide(
+    columns: Columns,
+    kind: u32,
+    i: usize,
+    msg: &[u8],
+    size: usize,
+    room: usize,
+) -> Result<Decision, EventRefusal>
+    ensures { Decided (state_in columns.entry) kind i msg.now size room result }
+{
+    let ask = event_asked::asked(kind, i, msg);
+    let sound = columns.is_sound();
+    let at = event_asked::placed(sound, columns.links, columns.iid, ask);
+    let k = columns.link_at(at.index);
+    event_asked::refused(
+        sound,
+        columns.asps,
+        columns.ases,
+        at.there,
+        k,
+        ask,
+        size,
+        room,
+    )?;
+    let o = columns.owner_of(k.owner);
+    let s = columns.asp_at(at.asp);
+    Ok(decided(ask, msg, at, k, o, s, columns))
+}
+
+// ---- what is done
+// Kept: the columns that change are parameters, since a struct of `&mut` needs ghost names in each clause.
+
 // The actions that come first, one after the other.
-fn say(w: Decision, words: &mut [u32]) -> usize
+fn say(replies: Replies, words: &mut [u32]) -> usize
     requires { 8 ≤ length words.old }
-    ensures { Written words.old 0 (first_actions w) words.new result }
+    ensures { Written words.old 0 (replies_in replies) words.new result }
 {
-    let n = w.count;
-    let first = w.first;
-    let second = w.second;
-    let m = rules_action::put_if(words, 0, n != 0, first);
-    rules_action::put_if(words, m, (n != 0) & (n != 1), second)
-}
-
-// The first action, to each ASP of `who`.
-fn spread(w: Decision, words: &mut [u32]) -> usize
-    requires { 64 ≤ length words.old }
-    ensures { Written words.old 0 (spread w) words.new result }
-{
-    let who = w.who;
-    let o = w.first;
-    rules_action::to_all(who, o.classtype, o.subject, o.value, words, 0)
-}
-
-fn first(w: Decision, words: &mut [u32]) -> usize
-    requires { 64 ≤ length words.old }
-    ensures { Written words.old 0 (first_of w) words.new result }
-{
-    if w.what < 3 {
-        return say(w, words);
+    match replies {
+        Replies::Nothing => 0,
+        Replies::One(a) => {
+            rules_action::put(words, 0, a);
+            1
+        }
+        Replies::Two(a, b) => {
+            rules_action::put(words, 0, a);
+            rules_action::put(words, 1, b);
+            2
+        }
     }
-    spread(w, words)
 }
 
-// The change in its ASes, behind n actions; and who is up after it.
+// An action of a class and type, and a subject, to each ASP of `who`.
+fn spread(who: [bool; 16], classtype: u32, subject: u32, words: &mut [u32]) -> usize
+    requires { 64 ≤ length words.old }
+    ensures { Written words.old 0 (to_all who classtype subject 0) words.new result }
+{
+    rules_action::to_all(who, classtype, subject, 0, words, 0)
+}
+
+// The change in the ASes of `who`, behind n actions; and who is up after it.
 fn enact<'a>(
-    w: Decision,
+    change: Change,
+    who: [bool; 16],
     up: &mut [u8; 16],
     member: &'a [u8; 256],
     mode: &'a [u8; 16],
@@ -106,26 +233,37 @@ fn enact<'a>(
     words: &mut [u32],
     n: usize,
 ) -> usize
-    requires { (n * 4 + 1536 ≤ length words.old) × (asp_of w.change < 16) × (length up.old ≡ 16) × (length active.old ≡ 256) × (length waiting.old ≡ 16) }
-    ensures { Changed w up.old member.now mode.now count.now id.now active.old waiting.old words.old n up.new active.new waiting.new words.new result }
+    requires { (n * 4 + 1536 ≤ length words.old) × (asp_of change < 16) }
+    ensures { Changed change who up.old member.now mode.now count.now id.now active.old waiting.old words.old n up.new active.new waiting.new words.new result }
 {
-    let k = w.change;
-    let named = w.who;
     let m = rules_servers::run(
-        up, member, mode, count, id, active, waiting, k, named, words, n,
+        up, member, mode, count, id, active, waiting, change, who, words, n,
     );
-    rules_servers::mark(up, k);
+    rules_servers::mark(up, change);
     m
 }
 
-// The links' states are those after it.
-fn settle(w: Decision, state: &mut [u8; 128])
-    requires { (w.link < 128) × (length state.old ≡ 128) }
-    ensures { state.new ≡ link_after (effect_in w) state.old }
+// The units that ASes of `who` let go leave their columns; `waiting` is the column after the event.
+fn let_go(
+    who: [bool; 16],
+    waiting: &[u8; 16],
+    count: &mut [u8; 16],
+    tag: &mut [u16; 128],
+    len: &mut [u16; 128],
+    marked: &mut [u16; 128],
+    id: &mut [u32; 128],
+    correlation: &mut [u32; 128],
+)
+    ensures { units_of count.new tag.new len.new marked.new id.new correlation.new ≡ units_left (going count.old who waiting.now) (units_of count.old tag.old len.old marked.old id.old correlation.old) }
 {
-    if (w.what == 1) | (w.what == 4) {
-        let l = w.link;
-        state[l] = w.state;
+    let go = event_units::goes(count, who, waiting);
+    if has_some(go) {
+        event_units::clear_counts(count, go);
+        event_units::clear_halves(tag, go);
+        event_units::clear_halves(len, go);
+        event_units::clear_halves(marked, go);
+        event_units::clear_words(id, go);
+        event_units::clear_words(correlation, go);
     }
 }
 
@@ -138,49 +276,38 @@ fn lay(msg: &[u8], start: usize, n: usize, hold: &mut [u8], size: usize, at: usi
     ensures { hold.new ≡ cond (eqb (length hold.old) size) (overlay hold.old at (take n (drop start msg.now))) hold.old }
 {
     if hold.len() == size {
-        let stop = start + n;
-        codec_put::put_bytes(hold, at, &msg[start..stop]);
+        codec_put::put_bytes(hold, at, &msg[start..start + n]);
     }
 }
 
-// How many units AS a holds.
-fn held_by(count: &[u8; 16], a: usize) -> usize
-    requires { a < 16 }
-    ensures { result ≡ number_at count.now a }
+// A unit that comes in for AS a, behind those that it has.
+fn take_in(
+    a: usize,
+    unit: Arrival,
+    count: &mut [u8; 16],
+    tag: &mut [u16; 128],
+    len: &mut [u16; 128],
+    marked: &mut [u16; 128],
+    id: &mut [u32; 128],
+    correlation: &mut [u32; 128],
+)
+    requires { (a < 16) × (number_at count.old a < 8) }
+    ensures { units_of count.new tag.new len.new marked.new id.new correlation.new ≡ units_with (units_of count.old tag.old len.old marked.old id.old correlation.old) a unit }
 {
-    state_tables::wide(count[a])
-}
-
-// Where a unit that comes in goes: its index among the units, how many bytes it has, where they go in the
-// hold, and how many units its AS has then.
-#[derive(Drop)]
-struct Put {
-    at: usize,
-    bytes: usize,
-    place: usize,
-    count: u8,
-}
-
-fn put_of(w: Decision, k: usize) -> Put
-    requires { (w.link < 16) × (k < 8) × (4 ≤ w.unit.length) }
-    ensures { result ≡ put_in w k }
-{
-    let a = w.link;
-    let u = w.unit;
-    Put {
-        at: a * 8 + k,
-        bytes: u.length as usize - 4,
-        place: a * 2184 + k * 273,
-        count: (k + 1) as u8,
-    }
+    let k = usize::from(count[a]);
+    let at = a * 8 + k;
+    tag[at] = unit.tag;
+    len[at] = unit.length;
+    marked[at] = unit.marked;
+    id[at] = unit.id;
+    correlation[at] = unit.correlation;
+    count[a] = (k + 1) as u8;
 }
 
 // ---- the entry
 
-// Lent as slices, so that their lengths are known (nothing is left of this in the machine code).
-fn seen<'a>(up: &'a [u8], active: &'a [u8], waiting: &'a [u8], state: &'a [u8], count: &'a [u8]) {}
-
 // What an event hands back beside the columns: a refusal, or 0, and the number of actions written.
+// Kept: the C interface (include/m2ua.h) has this struct.
 #[repr(C)]
 #[derive(Drop)]
 pub struct Done {
@@ -188,11 +315,18 @@ pub struct Done {
     pub count: usize,
 }
 
+// An event that is not refused.
+fn accepted(count: usize) -> Done
+    ensures { result ≡ record { refusal = 0; count = count } }
+{
+    Done { refusal: 0, count }
+}
+
 // Every event (Rule 6.2), on the state where it lies: the number of its kind (`event_asked::MESSAGE` ..), the
 // index and the message that it has; any other number is refused (`happened`). The state's columns are lent,
-// those that events change as `&mut`; the link that the event names, the AS that owns it and the ASP that the
-// event comes from are read here, once. `size` is the length of the hold; a caller that only wants the
-// actions lends no part of it (`Runs`).
+// those that events change as `&mut`. `size` is the length of the hold; a caller that only wants the actions
+// lends no part of it (`Runs`).
+// Kept: the C interface (include/m2ua.h) has these columns.
 pub fn run<'a>(
     asps: u8,
     ases: u8,
@@ -224,9 +358,7 @@ pub fn run<'a>(
 ) -> Done
     ensures { Runs (gateway_of asps ases links spare aspid.now up.old member.now active.old mode.now waiting.old iid.now owner.now state.old highspeed.now wholelists.now (units_of count.old tag.old len.old marked.old id.old correlation.old)) (event_of (happened kind i msg.now) (length words.old) size) words.old words.new hold.old hold.new (outcome_of result (gateway_of asps ases links spare aspid.now up.new member.now active.new mode.now waiting.new iid.now owner.now state.new highspeed.now wholelists.now (units_of count.new tag.new len.new marked.new id.new correlation.new))) }
 {
-    seen(up, active, waiting, state, count);
-    let ask = event_asked::asked(kind, i, msg);
-    let sound = state_sound::sound_of(
+    let columns = Columns {
         asps,
         ases,
         links,
@@ -248,92 +380,69 @@ pub fn run<'a>(
         marked,
         id,
         correlation,
-    );
-    let at = event_asked::placed(sound, links, iid, ask);
-    let l = at.index;
-    let k = Link {
-        id: iid[l],
-        owner: owner[l],
-        state: state[l],
-        highspeed: highspeed[l],
     };
-    let code = event_asked::refused(sound, asps, ases, at.there, k, ask, size, words.len());
-    if code != 0 {
-        return Done {
-            refusal: code,
+    match decide(columns, kind, i, msg, size, words.len()) {
+        Err(refusal) => Done {
+            refusal: u32::from(refusal),
             count: 0,
-        };
-    }
-    let a = state_tables::wide(k.owner);
-    let o = Owner {
-        mode: mode[a],
-        waiting: waiting[a],
-        held: state_tables::wide(count[a]),
-    };
-    let p = at.asp;
-    let s = Asp {
-        id: aspid[p],
-        up: up[p],
-        wholelists: wholelists[p],
-    };
-    let w = decided(
-        ask,
-        msg,
-        at,
-        k,
-        o,
-        s,
-        state_tables::wide(links),
-        member,
-        active,
-        mode,
-        iid,
-        owner,
-    );
-    if 4 < w.what {
-        let a = w.link;
-        let u = w.unit;
-        let k = held_by(count, a);
-        let p = put_of(w, k);
-        let at = p.at;
-        event_units::put_half(tag, at, u.tag);
-        event_units::put_half(len, at, u.length);
-        event_units::put_half(marked, at, u.marked);
-        event_units::put_word(id, at, u.id);
-        event_units::put_word(correlation, at, u.correlation);
-        event_units::put_count(count, a, p.count);
-        lay(msg, u.start, p.bytes, hold, size, p.place);
-        return Done {
-            refusal: 0,
-            count: 0,
-        };
-    }
-    settle(w, state);
-    let n = first(w, words);
-    if w.what == 2 {
-        let m = enact(w, up, member, mode, count, id, active, waiting, words, n);
-        let who = w.who;
-        let go = event_units::goes(count, who, waiting);
-        if has_some(go) {
-            event_units::clear_counts(count, go);
-            event_units::clear_halves(tag, go);
-            event_units::clear_halves(len, go);
-            event_units::clear_halves(marked, go);
-            event_units::clear_words(id, go);
-            event_units::clear_words(correlation, go);
-            return Done {
-                refusal: 0,
-                count: m,
-            };
+        },
+        Ok(Decision::Send(replies)) => accepted(say(replies, words)),
+        Ok(
+            Decision::Turn {
+                link,
+                state: new,
+                action,
+            },
+        ) => {
+            state[link] = new;
+            accepted(say(Replies::One(action), words))
         }
-        return Done {
-            refusal: 0,
-            count: m,
-        };
-    }
-    Done {
-        refusal: 0,
-        count: n,
+        Ok(
+            Decision::Spread {
+                who,
+                classtype,
+                subject,
+            },
+        ) => accepted(spread(who, classtype, subject, words)),
+        Ok(
+            Decision::TurnSpread {
+                link,
+                state: new,
+                who,
+                classtype,
+                subject,
+            },
+        ) => {
+            state[link] = new;
+            accepted(spread(who, classtype, subject, words))
+        }
+        Ok(
+            Decision::ChangeIn {
+                replies,
+                change,
+                who,
+            },
+        ) => {
+            let n = say(replies, words);
+            let m = enact(
+                change, who, up, member, mode, count, id, active, waiting, words, n,
+            );
+            let_go(who, waiting, count, tag, len, marked, id, correlation);
+            accepted(m)
+        }
+        Ok(Decision::TakeIn { owner: a, unit }) => {
+            let k = usize::from(count[a]);
+            take_in(a, unit, count, tag, len, marked, id, correlation);
+            lay(
+                msg,
+                unit.start,
+                usize::from(unit.length) - 4,
+                hold,
+                size,
+                a * 2184 + k * 273,
+            );
+            accepted(0)
+        }
     }
 }
 

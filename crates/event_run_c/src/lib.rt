@@ -1,6 +1,7 @@
 // The events over the C ABI, for hosts in C and Rust (include/m2ua.h): the entry calls that of its name in
 // crate event_run and promises the same. (Each crate with entries has a static library of its own, so that a
 // function with one caller is compiled into it.)
+// Kept: the C interface (include/m2ua.h) has these columns.
 #![tactic(auto)]
 
 ghost use Rattle.rules_event.specs.Entry.{MeetsRules};

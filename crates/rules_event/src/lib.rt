@@ -6,6 +6,7 @@ use rules_server::{Arrival, Change};
 use state_tables::Gateway;
 
 // What an event hands back: a refusal, or 0, the number of actions written, and the next state.
+// Kept: `MeetsRules` (docs/STATEMENTS.md) speaks of the refusal's number.
 #[repr(C)]
 #[derive(Drop)]
 pub struct Outcome {
@@ -16,6 +17,7 @@ pub struct Outcome {
 
 // ---- records: what the rules of links and of ASPs are said of (Rule 5.27). A new column of links or of ASPs
 // is a field here, and is read from the state in one place (`link_at`, `asp_at`).
+// Kept: the C interface (include/m2ua.h) has these columns, of numbers.
 
 // What is kept of a link: a row of the links' columns.
 #[derive(Clone, Copy)]
@@ -51,23 +53,51 @@ pub struct Sender {
     pub active: u8,
 }
 
-// What an accepted event does, as the code decides it before it does it (the definitions' Effect, by
-// `effect_in`). The large fields come first: so the compiler moves them whole.
+// ---- decisions
+
+// The actions that come first: at most two.
 #[derive(Clone, Copy)]
-pub struct Decision {
-    // the ASes of the change, or the ASPs that get `first`
-    pub who: [bool; 16],
-    // the actions that come first; `count` says how many
-    pub first: Action,
-    pub second: Action,
-    // a unit that comes in
-    pub unit: Arrival,
-    pub change: Change,
-    // at most 2
-    pub count: usize,
-    pub link: usize,
-    // 0 actions alone, 1 a link comes to a state, 2 a change in ASes, 3 an action to each ASP of `who`, 4
-    // that with a link's state, 5 `unit` comes in for the AS of index `link`
-    pub what: u8,
-    pub state: u8,
+pub enum Replies {
+    Nothing,
+    One(Action),
+    Two(Action, Action),
+}
+
+// What an accepted event does, as the code decides it before it does it (the definitions' Effect, by
+// `effect_in`).
+#[derive(Clone, Copy)]
+pub enum Decision {
+    // actions alone
+    Send(Replies),
+    // the link at an index comes to a state, with an action
+    Turn {
+        link: usize,
+        state: u8,
+        action: Action,
+    },
+    // an action of a class and type and a subject to each ASP of `who`
+    Spread {
+        who: [bool; 16],
+        classtype: u32,
+        subject: u32,
+    },
+    // the link at an index comes to a state, with an action to each ASP of `who`
+    TurnSpread {
+        link: usize,
+        state: u8,
+        who: [bool; 16],
+        classtype: u32,
+        subject: u32,
+    },
+    // replies, then a change in the ASes of `who`
+    ChangeIn {
+        replies: Replies,
+        change: Change,
+        who: [bool; 16],
+    },
+    // a unit comes in for the AS of an index, and is held
+    TakeIn {
+        owner: usize,
+        unit: Arrival,
+    },
 }

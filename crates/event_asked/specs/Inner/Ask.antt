@@ -10,7 +10,7 @@ use Rattle.codec_read.specs.declared.Reading.{Reading}
 use Rattle.state_tables.specs.Laws.{Limits}
 use Rattle.state_tables.specs.declared.Gateway.{Gateway}
 use Rattle.rules_server.specs.declared.Change.TheVariants.{Recover}
-use Rattle.rules_event.specs.Event.{EventKind, message}
+use Rattle.rules_event.specs.Event.{EventKind, message, link_message}
 use Rattle.rules_event.specs.Effect.{Effect, change_in}
 use Rattle.codec_wire.specs.Walk.{walk}
 use Rattle.rules_action.specs.Types.{asp_up, asp_down, asp_active, asp_inactive}
@@ -145,36 +145,6 @@ asks_message p s c k =
           small = (c, k);
         }
 
--- the kinds that have a message
-pub message_kind_lem : (k : ℕ) → (eqb k 0 || eqb k 5) ≡ true → (k ≡ 5 → ⊥) → k ≡ 0
-message_kind_lem k h n = go (eqb k 0) refl h
-  where
-    go : (u : Bool) → eqb k 0 ≡ u → (u || eqb k 5) ≡ true → k ≡ 0
-    go true e h = eqb-true k 0 e
-    go false e h = absurd (n (eqb-true k 5 h))
-
-pub not_message : (k : ℕ) → (eqb k 0 || eqb k 5) ≡ false → (k ≡ 0 → ⊥) × (k ≡ 5 → ⊥)
-not_message k h = (λ e. false≢true (sym h ∙ rw e), λ e. false≢true (sym h ∙ rw e))
-
-module _ (k i : ℕ) (s : List ℕ) where
-  pub asks_0 : k ≡ 0 → (p : ℕ) → p ≡ i → (reading_of s).class < 256 → (reading_of s).msgtype < 256 → Asks k i s (ask_of p (type_in (is_error s) (reading_of s)) (is_error s) (reading_of s))
-  asks_0 e p q a b = rw (e, ← q) (asks_message p s a b)
-
-  pub asks_1 : k ≡ 1 → Asks k i s (Lost i)
-  asks_1 e = rw e (record { effect = λ g. refl; reach = λ g a. refl; known = λ g. refl; small = refl })
-
-  pub asks_2 : k ≡ 2 → Asks k i s (Recovery i)
-  asks_2 e = rw e (record { effect = λ g. refl; reach = λ g a. refl; known = λ g. refl; small = refl })
-
-  pub asks_3 : k ≡ 3 → Asks k i s (LinkUp i)
-  asks_3 e = rw e (record { effect = λ g. refl; reach = λ g a. refl; known = λ g. refl; small = refl })
-
-  pub asks_4 : k ≡ 4 → Asks k i s (LinkDown i)
-  asks_4 e = rw e (record { effect = λ g. refl; reach = λ g a. refl; known = λ g. refl; small = refl })
-
-  pub asks_5 : k ≡ 5 → Asks k i s (LinkMessage (reading_of s))
-  asks_5 e = rw e (record { effect = λ g. refl; reach = λ g a. refl; known = λ g. in_plan_lem g s; small = refl })
-
-  pub asks_none : (k ≡ 0 → ⊥) → (k ≡ 1 → ⊥) → (k ≡ 2 → ⊥) → (k ≡ 3 → ⊥) → (k ≡ 4 → ⊥) → (k ≡ 5 → ⊥) → Asks k i s (Lost 65536)
-  asks_none a b c d e f =
-      rw (ne_eqb k 0 a, ne_eqb k 1 b, ne_eqb k 2 c, ne_eqb k 3 d, ne_eqb k 4 e, ne_eqb k 5 f) (record { effect = λ g. refl; reach = λ g a. refl; known = λ g. refl; small = refl })
+-- a message of the link side asks what it is
+pub asks_link_message : (s : List ℕ) → AsksKind (link_message s) s (LinkMessage (reading_of s))
+asks_link_message s = record { effect = λ g. refl; reach = λ g a. refl; known = λ g. in_plan_lem g s; small = refl }

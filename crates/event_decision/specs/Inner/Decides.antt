@@ -1,4 +1,4 @@
--- What every decision promises of the struct `Decision` that it hands back, and how a choice by a test is
+-- What every decision promises of the `Decision` that it hands back, and how a choice by a test is
 -- followed.
 -- Assumes nothing.
 use Rattle.std.specs.Prelude.{◌≡◌, refl, Bool, true, false, cond, not, List, ℕ, ◌<◌, ◌≤◌, ltb, eqb}
@@ -9,6 +9,7 @@ use Rattle.rules_server.specs.declared.Change.{Change}
 use Rattle.rules_server.specs.declared.Change.TheVariants.{AspUp, AspDown, Deactivate, Activate, Recover}
 use Rattle.rules_server.specs.Inner.Change.{fits}
 use Rattle.rules_event.specs.declared.Decision.{Decision}
+use Rattle.rules_event.specs.declared.Decision.TheVariants.{Send, Turn, Spread, TurnSpread, ChangeIn, TakeIn}
 use Rattle.rules_event.specs.Effect.{Effect}
 use Rattle.rules_event.specs.Asp.{active_effect, inactive_effect}
 use Rattle.rules_event.specs.Inner.Decision.{effect_in}
@@ -21,12 +22,19 @@ asp_of (Deactivate p) = p
 asp_of (Activate p) = p
 asp_of Recover = 0
 
--- the work is the effect d; what is performed stays within the tables
+-- what is performed stays within the tables
+abbrev pub Within : Decision → Type 0
+Within (Send os) = Unit {0}
+Within (Turn l v a) = l < 128
+Within (Spread who k s) = Unit {0}
+Within (TurnSpread l v who k s) = l < 128
+Within (ChangeIn os k who) = asp_of k < 16
+Within (TakeIn a x) = a < 16
+
+-- the work is the effect d
 pub record Decides (w : Decision) (d : Effect) : Type 0 where
   pub is : effect_in w ≡ d
-  pub few : w.count ≤ 2
-  pub asp : asp_of w.change < 16
-  pub place : w.link < 128
+  pub within : Within w
 
 -- the work is the effect d of every state for which P holds; P says which columns of it were lent
 pub record DecidesOn (P : Gateway → Type 0) (d : Gateway → Effect) (w : Decision) : Type 0 where

@@ -28,35 +28,33 @@ use Rattle.event_links.specs.Inner.Side.{code_is}
 unfoldable pub type_in : Bool → Reading → ℕ
 type_in wrong r = cond wrong 0 (cond (eqb r.code 0) (class_type_of r) 0)
 
--- Beat, Beat Ack, class 6 and any other (Rules 7.7, 7.14, 7.23), as the code asks; six says that the type is
--- one of class 6 that ASPs send, d what it does
-unfoldable pub other_tree : Effect → ℕ → Reading → Bool → Effect
-other_tree d p r six =
+-- Beat, Beat Ack, class 6 and any other (Rules 7.7, 7.14, 7.23); d is what one of class 6 does
+unfoldable pub other_read : Effect → ℕ → Reading → Effect
+other_read d p r =
     cond (eqb (class_type_of r) beat) (send (one_action p beat_ack 0 0))
     (cond (eqb (class_type_of r) beat_ack) (send [])
-    (cond (eqb r.class 6) (cond six d (send (error p 6)))
-    (send (error p 6))))
+    (cond (eqb r.class 6 && from_asp r.msgtype) d (send (error p 6))))
 
 -- nothing for an Error, and an Error for what cannot be read
 unfoldable pub other_effect : Gateway → ℕ → Bool → Reading → Effect
 other_effect g p wrong r =
-    cond wrong (send []) (cond (eqb r.code 0) (other_tree (class_six_effect g p r) p r (from_asp r.msgtype)) (send (error p r.code)))
+    cond wrong (send []) (cond (eqb r.code 0) (other_read (class_six_effect g p r) p r) (send (error p r.code)))
 
 -- the same of the records: there says that there is the link that the message names, which is k at l; s is
 -- its sender
 unfoldable pub other_in : Bool → ℕ → ℕ → Link → Sender → Bool → Reading → Effect
 other_in there p l k s wrong r =
-    cond wrong (send []) (cond (eqb r.code 0) (other_tree (class_six_on there p l k s r) p r (from_asp r.msgtype)) (send (error p r.code)))
+    cond wrong (send []) (cond (eqb r.code 0) (other_read (class_six_on there p l k s r) p r) (send (error p r.code)))
 
 pub other_in_lem : (g : Gateway) (p : ℕ) (wrong : Bool) (r : Reading) (there : Bool) (i : ℕ) → Placed g.links (link_in g.links g.iid r) there i
     → other_in there p i (link_at g i) (sender_of g (owner_at g i) p) wrong r ≡ other_effect g p wrong r
-unfolding other_in other_effect other_tree link_of
+unfolding other_in other_effect other_read link_of
 other_in_lem g p wrong r there i h =
     ap (λ (d : Effect). cond wrong (send []) (cond (eqb r.code 0) (cond (eqb (class_type_of r) beat) (send (one_action p beat_ack 0 0)) (cond (eqb (class_type_of r) beat_ack) (send []) d)) (send (error p r.code))))
     (go (eqb r.class 6) h)
   where
     tree : Bool → Effect → Effect
-    tree u d = cond u (cond (from_asp r.msgtype) d (send (error p 6))) (send (error p 6))
+    tree u d = cond (u && from_asp r.msgtype) d (send (error p 6))
 
     go : (u : Bool) → Placed g.links (cond u (index_of g.iid g.links r.id) g.links) there i
         → tree u (class_six_on there p i (link_at g i) (sender_of g (owner_at g i) p) r) ≡ tree u (class_six_effect g p r)
@@ -82,15 +80,10 @@ module _ (g : Gateway) (p : ℕ) (s : List ℕ) (r : Reading) where
   unfolding read_effect
   read_inactive e = rw e
 
-  read_other : (class_type_of r ≡ asp_up → ⊥) → (class_type_of r ≡ asp_down → ⊥) → (class_type_of r ≡ asp_active → ⊥) → (class_type_of r ≡ asp_inactive → ⊥) → read_effect g p s r ≡ other_tree (class_six_effect g p r) p r (from_asp r.msgtype)
-  unfolding read_effect other_tree
+  read_other : (class_type_of r ≡ asp_up → ⊥) → (class_type_of r ≡ asp_down → ⊥) → (class_type_of r ≡ asp_active → ⊥) → (class_type_of r ≡ asp_inactive → ⊥) → read_effect g p s r ≡ other_read (class_six_effect g p r) p r
+  unfolding read_effect other_read
   read_other up down on off =
       rw (ne_eqb (class_type_of r) asp_up up, ne_eqb (class_type_of r) asp_down down, ne_eqb (class_type_of r) asp_active on, ne_eqb (class_type_of r) asp_inactive off)
-      (ap (λ (d : Effect). cond (eqb (class_type_of r) beat) (send (one_action p beat_ack 0 0)) (cond (eqb (class_type_of r) beat_ack) (send []) d)) (sym (last (eqb r.class 6) (from_asp r.msgtype))))
-    where
-      last : (u v : Bool) → cond u (cond v (class_six_effect g p r) (send (error p 6))) (send (error p 6)) ≡ cond (u && v) (class_six_effect g p r) (send (error p 6))
-      last true v = refl
-      last false v = refl
 
 -- ---- any message, by its type
 
@@ -131,7 +124,7 @@ module _ (g : Gateway) (p : ℕ) (s : List ℕ) where
   message_other = rw (← code_is s) (go (is_error s) (eqb (reading_of s).code 0))
     where
       go : (u v : Bool) → (cond u 0 (cond v (class_type_of (reading_of s)) 0) ≡ asp_up → ⊥) → (cond u 0 (cond v (class_type_of (reading_of s)) 0) ≡ asp_down → ⊥) → (cond u 0 (cond v (class_type_of (reading_of s)) 0) ≡ asp_active → ⊥) → (cond u 0 (cond v (class_type_of (reading_of s)) 0) ≡ asp_inactive → ⊥)
-          → cond u (send []) (cond v (read_effect g p s (reading_of s)) (send (error p (reading_of s).code))) ≡ cond u (send []) (cond v (other_tree (class_six_effect g p (reading_of s)) p (reading_of s) (from_asp (reading_of s).msgtype)) (send (error p (reading_of s).code)))
+          → cond u (send []) (cond v (read_effect g p s (reading_of s)) (send (error p (reading_of s).code))) ≡ cond u (send []) (cond v (other_read (class_six_effect g p (reading_of s)) p (reading_of s)) (send (error p (reading_of s).code)))
       go true v a b c d = refl
       go false true a b c d = read_other g p s (reading_of s) a b c d
       go false false a b c d = refl

@@ -1,5 +1,5 @@
 use Rattle.std.specs.Prelude.{ℕ, ◌≡◌, Bool, true, List}
-use mathlib.Core.Path.{sym, ◌∙◌}
+use mathlib.Core.Path.{sym, ap, ◌∙◌}
 use Rattle.state_tables.specs.Sound.{is_sound}
 use Rattle.state_tables.specs.Inner.Laws.{counts_within}
 use Rattle.state_tables.specs.declared.Gateway.{Gateway}
@@ -11,6 +11,7 @@ use Rattle.rules_event.specs.Rules.{refusal, refusal_of, in_plan}
 use Rattle.event_asked.specs.Happened.{happened, event_of}
 use Rattle.event_asked.specs.declared.Ask.{Ask}
 use Rattle.event_asked.specs.Inner.Ask.{Asks, ask_fits_at}
+use Rattle.event_asked.specs.Inner.Refusal.{refusal_code, refusal_some}
 use Rattle.event_asked.specs.Inner.Place.{Named, known_in, refusal_in_lem}
 use Rattle.rules_event.specs.Inner.Accepted.{Accepted, accepted}
 use Rattle.event_reach.specs.Inner.Rows.{row_is, reached_no, reached_yes}
@@ -31,11 +32,11 @@ placed-at-requires c h =
     let t = table c.args.g (sym c.is_sound-sound.ensures ∙ h) in
     (t.few, t.order)
 
-pub returns-then-code-ne0 : goal.returns-then-code-ne0
-returns-then-code-ne0 c =
+pub returns-in-Err : goal.returns-in-Err
+returns-in-Err c =
     reached_no c.args.g _
-    (refusal_is c.args.g c.args.kind c.args.i c.args.room c.args.hold c.args.msg.now c.refused-code.ensures c.link_at-k.ensures c.is_sound-sound.ensures c.placed-at.ensures.1 c.asked-ask.ensures)
-    c.if-code-ne0.true
+    (refusal_is c.args.g c.args.kind c.args.i c.args.room c.args.hold c.args.msg.now c.refused.ensures c.link_at-k.ensures c.is_sound-sound.ensures c.placed-at.ensures.1 c.asked-ask.ensures)
+    (λ z. refusal_some c.in-Err.field-0 (rw c.in-Err.is at z))
 
 -- an event that is not refused is one of a sound state, and fits it
 passed : (g : Gateway) (kind i room hold : ℕ) (s : List ℕ) {ask : Ask} {sound there : Bool} {k : Link} {n no : ℕ}
@@ -46,26 +47,26 @@ passed g kind i room hold s e q z p a h = accepted _ _ _ (sym (refusal_is g kind
 pub invariant_of-ids : goal.invariant_of-ids
 invariant_of-ids c =
     let g = c.args.g in
-    let a = passed g c.args.kind c.args.i c.args.room c.args.hold c.args.msg.now c.refused-code.ensures c.link_at-k.ensures c.is_sound-sound.ensures c.placed-at.ensures.1 c.asked-ask.ensures c.if-code-ne0.false in
+    let a = passed g c.args.kind c.args.i c.args.room c.args.hold c.args.msg.now c.refused.ensures c.link_at-k.ensures c.is_sound-sound.ensures c.placed-at.ensures.1 c.asked-ask.ensures (ap refusal_code c.in-Ok.is) in
     let t = table g a.sound_yes in
     record { few = rw c.from.ensures t.few; order = rw c.from.ensures t.order }
 
 pub invariant_of-plan : goal.invariant_of-plan
 invariant_of-plan c =
     let g = c.args.g in
-    let a = passed g c.args.kind c.args.i c.args.room c.args.hold c.args.msg.now c.refused-code.ensures c.link_at-k.ensures c.is_sound-sound.ensures c.placed-at.ensures.1 c.asked-ask.ensures c.if-code-ne0.false in
+    let a = passed g c.args.kind c.args.i c.args.room c.args.hold c.args.msg.now c.refused.ensures c.link_at-k.ensures c.is_sound-sound.ensures c.placed-at.ensures.1 c.asked-ask.ensures (ap refusal_code c.in-Ok.is) in
     record { owned = rw c.from.ensures (table g a.sound_yes).owned }
 
 pub row_of-row-requires : goal.row_of-row-requires
 row_of-row-requires c =
     let g = c.args.g in
     let a = c.asked-ask.ensures in
-    let t = passed g c.args.kind c.args.i c.args.room c.args.hold c.args.msg.now c.refused-code.ensures c.link_at-k.ensures c.is_sound-sound.ensures c.placed-at.ensures.1 a c.if-code-ne0.false in
+    let t = passed g c.args.kind c.args.i c.args.room c.args.hold c.args.msg.now c.refused.ensures c.link_at-k.ensures c.is_sound-sound.ensures c.placed-at.ensures.1 a (ap refusal_code c.in-Ok.is) in
     ask_fits_at g _ c.asked-ask.result c.from.ensures (counts_within g t.sound_yes) (a.known g ∙ t.known_yes) a.small
 
-pub returns : goal.returns
-returns c =
+pub returns-in-Ok : goal.returns-in-Ok
+returns-in-Ok c =
     let g = c.args.g in
     let a = c.asked-ask.ensures in
-    let r = refusal_is g c.args.kind c.args.i c.args.room c.args.hold c.args.msg.now c.refused-code.ensures c.link_at-k.ensures c.is_sound-sound.ensures c.placed-at.ensures.1 a in
-    reached_yes g _ r c.if-code-ne0.false (row_is g c.args.msg.now c.asked-ask.result (event_of (happened c.args.kind c.args.i c.args.msg.now) c.args.room c.args.hold) c.from.ensures c.row_of-row.ensures (a.reach g)) (rw c.from-2.ensures at c.within.ensures)
+    let r = refusal_is g c.args.kind c.args.i c.args.room c.args.hold c.args.msg.now c.refused.ensures c.link_at-k.ensures c.is_sound-sound.ensures c.placed-at.ensures.1 a in
+    reached_yes g _ r (ap refusal_code c.in-Ok.is) (row_is g c.args.msg.now c.asked-ask.result (event_of (happened c.args.kind c.args.i c.args.msg.now) c.args.room c.args.hold) c.from.ensures c.row_of-row.ensures (a.reach g)) (rw c.from-2.ensures at c.within.ensures)

@@ -1,4 +1,5 @@
 use native.Mathlib.Omega.{arith}
+use mathlib.Core.Path.{sym, ◌∙◌}
 use Rattle.event_decision.specs.Inner.Decides.{decided}
 use Rattle.event_run.specs.Inner.Columns.{asp_at_lem, up_on, down_on, message_on, other_on}
 use Rattle.event_run.proofs.decided.Goals as goal
@@ -10,10 +11,10 @@ pub down_work-requires : goal.down_work-requires
 down_work-requires c = let h = rw c.in-Down.is at c.requires.1 in omega (arith, h)
 
 pub traffic_work-requires : goal.traffic_work-requires
-traffic_work-requires c = (c.requires.0, rw c.in-Traffic.is at c.requires.1)
+traffic_work-requires c = rw c.from.ensures (c.requires.0, rw c.in-Traffic.is at c.requires.1)
 
 pub sender_of-t-requires : goal.sender_of-t-requires
-sender_of-t-requires c = let i = c.requires in let h = rw c.in-Other.is at i.1 in (omega (arith, c.wide.ensures, i.3), h.0)
+sender_of-t-requires c = let i = c.requires in let h = rw c.in-Other.is at i.1 in (omega (arith, c.from-in-Other.ensures, i.3), h.0)
 
 pub other_work-requires : goal.other_work-requires
 other_work-requires c = let i = c.requires in let h = rw c.in-Other.is at i.1 in (h.0, i.2.small, h.1, h.2)
@@ -38,7 +39,7 @@ returns-in-Traffic c =
     let i = c.requires in
     let b = rw e at i.1 in
     let q = rw e at i.4 in
-    record { on = λ g h. rw e (c.traffic_work.ensures.on g (record { links_is = h.links_is; asp_is = asp_at_lem g _ b q h.asp_is; member_is = h.member_is; mode_is = h.mode_is; iid_is = h.iid_is; owner_is = h.owner_is })) }
+    record { on = λ g h. rw e (c.traffic_work.ensures.on g (record { links_is = h.links_is ∙ sym c.from.ensures; asp_is = asp_at_lem g _ b q h.asp_is; member_is = h.member_is; mode_is = h.mode_is; iid_is = h.iid_is; owner_is = h.owner_is })) }
 
 pub returns-in-Other : goal.returns-in-Other
 returns-in-Other c =
@@ -47,7 +48,7 @@ returns-in-Other c =
     let q = rw e at i.2 in
     let b = rw e at i.1 in
     let z = rw e at i.4 in
-    record { on = λ g h. rw e (decided c.other_work.ensures (other_on g _ _ _ (asp_at_lem g _ b.0 z h.asp_is) h.member_is h.active_is h.iid_is h.links_is h.link_is c.wide.ensures c.sender_of-t.ensures q)) }
+    record { on = λ g h. rw e (decided c.other_work.ensures (other_on g _ _ _ (asp_at_lem g _ b.0 z h.asp_is) h.member_is h.active_is h.iid_is h.links_is h.link_is c.from-in-Other.ensures c.sender_of-t.ensures q)) }
 
 pub returns-in-LinkUp : goal.returns-in-LinkUp
 returns-in-LinkUp c =

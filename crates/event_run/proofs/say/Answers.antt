@@ -1,13 +1,11 @@
-use lib.Dec.{eqb}
-use mathlib.Core.Bool.{not}
-use native.Mathlib.Omega.{arith}
-use Rattle.laws.specs.Inner.Below.{when_short}
-use Rattle.rules_action.specs.Inner.Words.{written_length, written_append}
-use Rattle.event_run.specs.Inner.Decision.{given_flags}
+use Rattle.rules_action.specs.Inner.Words.{written_none, written_one, written_append}
 use Rattle.event_run.proofs.say.Goals as goal
 
-pub put_if-requires : goal.put_if-requires
-put_if-requires c = let h = c.put_if-m.ensures in omega (arith, h.next, written_length h, when_short (not (eqb c.args.w.count 0)) c.args.w.first)
+pub returns-in-Nothing : goal.returns-in-Nothing
+returns-in-Nothing c = rw c.in-Nothing.is (written_none _ 0)
 
-pub returns : goal.returns
-returns c = rw given_flags (written_append c.put_if-m.ensures c.put_if.ensures)
+pub returns-in-One : goal.returns-in-One
+returns-in-One c = rw c.in-One.is (written_one _ c.put.ensures)
+
+pub returns-in-Two : goal.returns-in-Two
+returns-in-Two c = rw c.in-Two.is (written_append (written_one _ c.put-in-Two.ensures) (written_one _ c.put-in-Two-2.ensures))

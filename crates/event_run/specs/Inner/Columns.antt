@@ -8,6 +8,7 @@ use Rattle.state_tables.specs.Inner.Column.{column_any}
 use Rattle.state_tables.specs.Inner.Laws.{parts, links_parts, counts_within}
 use Rattle.codec_read.specs.declared.Reading.{Reading}
 use Rattle.state_tables.specs.declared.Gateway.{Gateway}
+use Rattle.state_tables.specs.State.{gateway_of, units_of}
 use Rattle.state_lookup.specs.Links.{index_of, known}
 use Rattle.rules_event.specs.Identifiers.{link_of, owner_at}
 use Rattle.rules_event.specs.Link.{recipients_of, link_up_on, link_up_effect, link_down_on, link_down_effect, link_message_on, link_message_effect}
@@ -19,7 +20,14 @@ use Rattle.rules_event.specs.Records.{link_at, owner_of, asp_at}
 use Rattle.event_links.specs.Inner.Records.{sender_from, pending_in, pending_is, Placed, at_link, link_in}
 use Rattle.event_links.specs.Inner.Side.{Side}
 use Rattle.event_asked.specs.Inner.Place.{asp_in, asp_is}
+use Rattle.event_run.specs.declared.Columns.{Columns}
 use Rattle.event_others.specs.Inner.Other.{other_effect, other_in, other_in_lem}
+
+-- the state whose columns are lent
+abbrev pub state_in : Columns → Gateway
+state_in s =
+    gateway_of s.asps s.ases s.links s.spare s.aspid.now s.up.now s.member.now s.active.now s.mode.now s.waiting.now s.iid.now s.owner.now s.state.now s.highspeed.now s.wholelists.now
+    (units_of s.count.now s.tag.now s.len.now s.marked.now s.id.now s.correlation.now)
 
 -- the state g has these columns, k at the place i of its links, o for the AS that owns that, and s at the
 -- place q of its ASPs
@@ -37,10 +45,6 @@ pub record AskColumns (i : ℕ) (k : Link) (o : Owner) (q : ℕ) (s : Asp) (link
 -- an ASP of the plan is at its own place
 pub asp_at_lem : (g : Gateway) (p : ℕ) {q : ℕ} {s : Asp} → p < 16 → q ≡ asp_in p → asp_at g q ≡ s → asp_at g p ≡ s
 asp_at_lem g p b e h = let z = e ∙ asp_is p b in rw z at h
-
--- the record of the owner, read at a
-pub owned : (g : Gateway) (x : ℕ) {a n : ℕ} → a ≡ x → n ≡ number_at g.held.count a → owner_of g x ≡ record { mode = number_at g.mode a; waiting = number_at g.waiting a; held = n }
-owned g x e f = rw (f, e)
 
 -- the owner at any place of the links, also where there is none
 pub owner_any : (g : Gateway) → is_sound g ≡ true → (l : ℕ) → l < 128 → number_at g.owner l < 16

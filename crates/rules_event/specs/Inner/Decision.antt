@@ -1,24 +1,24 @@
--- The code's struct `Decision` as the rules' Effect.
+-- The code's enum `Decision` as the rules' Effect.
 -- Assumes nothing.
-use Rattle.std.specs.Prelude.{cond, List, [], ◌∷◌, eqb}
+use Rattle.std.specs.Prelude.{List, [], ◌∷◌}
 use Rattle.rules_action.specs.declared.Action.{Action}
 use Rattle.rules_action.specs.Words.{to_all}
 use Rattle.rules_event.specs.declared.Decision.{Decision}
+use Rattle.rules_event.specs.declared.Decision.TheVariants.{Send, Turn, Spread, TurnSpread, ChangeIn, TakeIn}
+use Rattle.rules_event.specs.declared.Replies.{Replies}
+use Rattle.rules_event.specs.declared.Replies.TheVariants.{Nothing, One, Two}
 use Rattle.rules_event.specs.Effect.{Effect, send, set_link, change_in, take_in}
 
 -- the actions that come first
-unfoldable pub first_actions : Decision → List Action
-first_actions w = cond (eqb w.count 0) [] (cond (eqb w.count 1) (w.first ∷ []) (w.first ∷ w.second ∷ []))
+abbrev pub replies_in : Replies → List Action
+replies_in Nothing = []
+replies_in (One a) = a ∷ []
+replies_in (Two a b) = a ∷ b ∷ []
 
--- `first` to each ASP of `who`
-unfoldable pub spread : Decision → List Action
-spread w = to_all w.who w.first.classtype w.first.subject w.first.value
-
-unfoldable pub effect_in : Decision → Effect
-effect_in w =
-    cond (eqb w.what 0) (send (first_actions w))
-    (cond (eqb w.what 1) (set_link w.link w.state (first_actions w))
-    (cond (eqb w.what 2) (change_in (first_actions w) w.change w.who)
-    (cond (eqb w.what 3) (send (spread w))
-    (cond (eqb w.what 4) (set_link w.link w.state (spread w))
-    (take_in w.link w.unit)))))
+abbrev pub effect_in : Decision → Effect
+effect_in (Send os) = send (replies_in os)
+effect_in (Turn l v a) = set_link l v (a ∷ [])
+effect_in (Spread who k s) = send (to_all who k s 0)
+effect_in (TurnSpread l v who k s) = set_link l v (to_all who k s 0)
+effect_in (ChangeIn os k who) = change_in (replies_in os) k who
+effect_in (TakeIn a x) = take_in a x
