@@ -128,12 +128,19 @@ pub fn row_info(row: usize) -> RowInfo
 pub fn slot_of(t: u16) -> usize
     ensures { (result ≡ slot t) × (result < 32) }
 {
-    match t {
-        0..=19 => usize::from(t),
-        0x301 => 20,
-        0x300..=0x308 => usize::from(t) - 748,
-        _ => NO_SLOT,
+    if t < 20 {
+        return usize::from(t);
     }
+    if t < 0x300 {
+        return NO_SLOT;
+    }
+    if t > 0x308 {
+        return NO_SLOT;
+    }
+    if t == 0x301 {
+        return 20;
+    }
+    usize::from(t) - 748
 }
 
 // How the tag of a slot may stand.
@@ -214,7 +221,10 @@ fn value_code(t: u16) -> Refusal
 fn word_code(m: Limits, t: u16, n: u32) -> Result<(), Refusal>
     ensures { code result ≡ word_code m t n }
 {
-    if n < m.low || m.high < n {
+    if n < m.low {
+        return Err(value_code(t));
+    }
+    if m.high < n {
         return Err(value_code(t));
     }
     Ok(())
@@ -225,7 +235,10 @@ fn word_code(m: Limits, t: u16, n: u32) -> Result<(), Refusal>
 fn plain_code(m: Limits, t: u16, v: &[u8]) -> Result<(), Refusal>
     ensures { code result ≡ plain_code m t v.now }
 {
-    if v.len() < m.least || m.most < v.len() {
+    if v.len() < m.least {
+        return Err(Refusal::FieldError);
+    }
+    if m.most < v.len() {
         return Err(Refusal::FieldError);
     }
     if !m.word {
@@ -242,15 +255,21 @@ fn plain_code(m: Limits, t: u16, v: &[u8]) -> Result<(), Refusal>
 fn id_code(u: Usage, v: &[u8]) -> Result<(), Refusal>
     ensures { code result ≡ id_code u v.now }
 {
-    let fits = if u == Usage::Repeated {
-        v.len() >= 4 && v.len() % 4 == 0
+    if u == Usage::Repeated {
+        if v.len() < 4 {
+            return Err(Refusal::FieldError);
+        }
+        if v.len() % 4 == 0 {
+            Ok(())
+        } else {
+            Err(Refusal::FieldError)
+        }
     } else {
-        v.len() == 4
-    };
-    if fits {
-        Ok(())
-    } else {
-        Err(Refusal::FieldError)
+        if v.len() == 4 {
+            Ok(())
+        } else {
+            Err(Refusal::FieldError)
+        }
     }
 }
 
@@ -259,7 +278,10 @@ fn id_code(u: Usage, v: &[u8]) -> Result<(), Refusal>
 fn range_code(v: &[u8]) -> Result<(), Refusal>
     ensures { code result ≡ range_code v.now }
 {
-    if v.len() < 8 || v.len() % 8 != 0 {
+    if v.len() < 8 {
+        return Err(Refusal::FieldError);
+    }
+    if v.len() % 8 != 0 {
         return Err(Refusal::FieldError);
     }
     for k in 0..v.len() / 8 {
@@ -277,11 +299,13 @@ fn range_code(v: &[u8]) -> Result<(), Refusal>
 fn body_code(u: Usage, t: u16, v: &[u8]) -> Result<(), Refusal>
     ensures { code result ≡ body_code u t v.now }
 {
-    match t {
-        INTERFACE_ID => id_code(u, v),
-        ID_RANGE => range_code(v),
-        _ => plain_code(limits_of(t), t, v),
+    if t == INTERFACE_ID {
+        return id_code(u, v);
     }
+    if t == ID_RANGE {
+        return range_code(v);
+    }
+    plain_code(limits_of(t), t, v)
 }
 
 // The refusal of a text identifier (Rule 2.13). u is how identifiers stand in the message.
@@ -301,7 +325,13 @@ fn text_code(u: Usage, first: bool) -> Refusal
 fn once_code(first: bool, again: bool, t: u16) -> Result<(), Refusal>
     ensures { code result ≡ once_code first again t }
 {
-    if again || (t == INTERFACE_ID && !first) {
+    if again {
+        return Err(Refusal::UnexpectedParameter);
+    }
+    if t == INTERFACE_ID {
+        if first {
+            return Ok(());
+        }
         return Err(Refusal::UnexpectedParameter);
     }
     Ok(())
