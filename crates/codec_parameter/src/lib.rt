@@ -54,16 +54,11 @@ pub struct RowInfo {
 }
 
 // The class is listed.
+#[tactic(auto, unfolding(crate::specs::Table::has_class, crate::specs::Table::table))]
 pub fn class_ok(c: u8) -> bool
     ensures { result ≡ has_class table c }
 {
-    match c {
-        0 => true,
-        3 => true,
-        4 => true,
-        6 => true,
-        _ => false,
-    }
+    matches!(c, 0 | 3 | 4 | 6)
 }
 
 // The row of a type in a class: four bits for each type are its place among the class's rows, 15 for none;
@@ -103,6 +98,7 @@ fn packed_row(uses: u64, musts: u32) -> RowInfo
 }
 
 // A row, packed.
+#[tactic(auto, unfolding(crate::specs::Inner::Slot::info_of))]
 pub fn row_info(row: usize) -> RowInfo
     ensures { result ≡ info_of row }
 {
@@ -128,6 +124,7 @@ pub fn row_info(row: usize) -> RowInfo
 }
 
 // The slot of a tag.
+#[tactic(auto, unfolding(crate::specs::Inner::Slot::slot))]
 pub fn slot_of(t: u16) -> usize
     ensures { (result ≡ slot t) × (result < 32) }
 {
@@ -186,6 +183,7 @@ fn number_of(low: u32, high: u32) -> Limits
 }
 
 // The limits of a tag's value.
+#[tactic(auto, unfolding(crate::specs::Value::limits_of))]
 fn limits_of(t: u16) -> Limits
     ensures { result ≡ limits_of t }
 {
@@ -219,6 +217,7 @@ fn value_code(t: u16) -> Refusal
 }
 
 // A number in its limits.
+#[tactic(auto, unfolding(crate::specs::Value::word_code))]
 fn word_code(m: Limits, t: u16, n: u32) -> Result<(), Refusal>
     ensures { code result ≡ word_code m t n }
 {
@@ -275,6 +274,7 @@ fn id_code(u: Usage, v: &[u8]) -> Result<(), Refusal>
 }
 
 // Ranges of interface identifiers: pairs of a start and a stop.
+#[tactic(auto, unfolding(crate::specs::Value::range_code))]
 fn range_code(v: &[u8]) -> Result<(), Refusal>
     ensures { code result ≡ range_code v.now }
 {
@@ -315,15 +315,8 @@ fn text_code(u: Usage, first: bool) -> Refusal
 {
     match u {
         Usage::Repeated => Refusal::UnsupportedIdentifier,
-        Usage::Mandatory => {
-            if first {
-                Refusal::UnsupportedIdentifier
-            } else {
-                Refusal::UnexpectedParameter
-            }
-        }
-        Usage::Forbidden => Refusal::UnexpectedParameter,
-        Usage::Optional => Refusal::UnexpectedParameter,
+        Usage::Mandatory if first => Refusal::UnsupportedIdentifier,
+        _ => Refusal::UnexpectedParameter,
     }
 }
 
@@ -356,8 +349,7 @@ fn allowed_code(u1: Usage, u: Usage, first: bool, again: bool, t: u16) -> Result
     match u {
         Usage::Forbidden => Err(Refusal::UnexpectedParameter),
         Usage::Repeated => Ok(()),
-        Usage::Optional => once_code(first, again, t),
-        Usage::Mandatory => once_code(first, again, t),
+        Usage::Optional | Usage::Mandatory => once_code(first, again, t),
     }
 }
 
@@ -391,6 +383,7 @@ fn met_at(met: &[bool; 32], k: usize) -> bool
 }
 
 // Each of three packed slots is met.
+#[tactic(auto, unfolding(crate::specs::Inner::Slot::all_asked))]
 pub fn musts_met(musts: u32, met: &[bool; 32]) -> bool
     ensures { result ≡ all_asked musts met.now }
 {

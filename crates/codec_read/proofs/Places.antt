@@ -8,13 +8,14 @@ use native.Mathlib.Omega.{arith}
 use lib.ListN.{length, take, drop, length-take, length-drop}
 use lib.Dec.{eqb}
 use Rattle.std.specs.Prelude.{Option, Some, None}
+use Rattle.std.specs.Option.{unwrap_or}
 use Rattle.codec_wire.specs.Walk.{padded, walk, step_at}
 use Rattle.codec_wire.specs.declared.Step.{Step}
 use Rattle.codec_wire.specs.declared.Step.TheVariants.{Param, End, Fault}
 use Rattle.codec_wire.proofs.Steps.{step_next, Next, pars_next, pars_stop, walk_step}
 use Rattle.codec_parameter.specs.Table.{key}
 use Rattle.codec_read.specs.declared.Found.{Found}
-use Rattle.codec_read.specs.Meaning.{body_in, found_in, or_zeros, place_of, data_of, data_at, LiesAt, DataLies}
+use Rattle.codec_read.specs.Meaning.{body_in, found_in, or_zeros, place_of, data_of, data_tag, data_at, LiesAt, DataLies}
 
 -- a tag counts as 0x300: it is one of the two
 pub data_key : (u : ℕ) → eqb (key u) 0x300 ≡ (eqb u 0x300 || eqb u 0x301)
@@ -74,3 +75,13 @@ lies s at = go (suc (length s - at)) at (omega arith)
 pub data_lies : DataLies
 unfolding data_of data_at
 data_lies s = lies s 8
+
+zeros_for : (o : Option Found) → unwrap_or o (record { tag = 0; start = 0; length = 0 }) ≡ or_zeros o
+zeros_for None = refl
+zeros_for (Some f) = refl
+
+-- what was found, or zeros, is what a message says of its protocol data
+pub data_is : (s : List ℕ) (o : Option Found) (d : Found) → o ≡ found_in 0x300 0x301 8 (walk s 8).pars → d ≡ unwrap_or o (record { tag = 0; start = 0; length = 0 })
+    → (d.tag ≡ data_tag s) × (d.start ≡ (data_at s).start) × (d.length ≡ (data_at s).length)
+unfolding data_tag data_at
+data_is s o d e f = let k = f ∙ zeros_for o ∙ ap or_zeros e in (ap (λ (u : Found). u.tag) k, ap (λ (u : Found). u.start) k, ap (λ (u : Found). u.length) k)

@@ -323,6 +323,8 @@ fn read_checks(s: &[u8]) -> Reading
 }
 
 // The types of which a message may have no parameter: all of the classes 3 and 4.
+// Kept: `&` and `|` without a branch, here and in is_bare: with `matches!` and `&&` an Up took 8.2 ns, so 6.8.
+#[tactic(auto, unfolding(crate::specs::Inner::Seen::needs_none))]
 fn needs_none(c: u8, t: u8) -> bool
     ensures { result ≡ needs_none c t }
 {
@@ -330,6 +332,7 @@ fn needs_none(c: u8, t: u8) -> bool
 }
 
 // A message of its header alone that is accepted.
+#[tactic(auto, unfolding(crate::specs::Inner::Seen::is_bare))]
 fn is_bare(s: &[u8]) -> bool
     ensures { result ≡ is_bare s.now }
 {
@@ -432,7 +435,5 @@ pub fn protocol_data(s: &[u8]) -> &[u8]
     ensures { result.now ≡ data_of s.now }
 {
     let d = data_at(s);
-    let start = d.start;
-    let stop = start + d.length;
-    &s[start..stop]
+    &s[d.start..d.start + d.length]
 }

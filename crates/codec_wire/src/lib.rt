@@ -36,6 +36,7 @@ impl From<Refusal> for u32 {
 
 // What stands at a position of a message: a parameter with the position after its padding, the end, or a
 // fault.
+// Kept: the form of the project's walks, `let Step::Param { .. } = .. else` (docs/DECISIONS.md).
 #[derive(Drop)]
 pub enum Step {
     Param { tag: u16, len: u16, next: usize },
@@ -60,6 +61,7 @@ pub fn get32(s: &[u8], at: usize) -> u32
 }
 
 // What stands at a position.
+#[tactic(auto, unfolding(crate::specs::Walk::step_at))]
 pub fn step_at(s: &[u8], at: usize) -> Step
     ensures { result ≡ step_at s.now at }
 {
@@ -118,16 +120,11 @@ pub fn walk_code(s: &[u8], from: usize) -> Result<(), Refusal>
 
 // The value of the parameter at a position whose length field is len, as a part of the message; nothing where
 // it is not there.
+#[tactic(auto, unfolding(crate::specs::Walk::part_of))]
 pub fn part_at(s: &[u8], at: usize, len: usize) -> &[u8]
     ensures { result.now ≡ part_of s.now at len }
 {
-    if len < 4 {
-        return &s[..0];
-    }
-    if s.len() < len {
-        return &s[..0];
-    }
-    if s.len() - len < at {
+    if len < 4 || s.len() < len || s.len() - len < at {
         return &s[..0];
     }
     &s[at + 4..at + len]
@@ -135,6 +132,7 @@ pub fn part_at(s: &[u8], at: usize, len: usize) -> &[u8]
 
 // A reading place: the message and the position in it, together. The functions over it are thin: they take it
 // apart and call those above.
+// Kept: the form of the project for a slice and a position in it (docs/DECISIONS.md).
 #[derive(Drop)]
 pub struct Place<'a> {
     pub msg: &'a [u8],

@@ -12,14 +12,6 @@ use native.Mathlib.Omega.{arith}
 use Rattle.codec_parameter.proofs.range_code.Invariants.{ordered}
 use Rattle.codec_parameter.proofs.range_code.Goals as goal
 
-pub returns-then-v-lt8 : goal.returns-then-v-lt8
-unfolding range_code
-returns-then-v-lt8 c = search choices
-
-pub returns-then-v-ne0 : goal.returns-then-v-ne0
-unfolding range_code
-returns-then-v-ne0 c = search choices
-
 pub loop-k-init : goal.loop-k-init
 unfolding all_below
 loop-k-init c = refl

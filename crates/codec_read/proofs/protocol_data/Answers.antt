@@ -7,8 +7,8 @@ use Rattle.codec_read.proofs.Places.{data_lies}
 use Rattle.codec_read.proofs.protocol_data.Goals as goal
 
 -- the data lies within the message
-pub overflow_add-stop : goal.overflow_add-stop
-overflow_add-stop c =
+pub overflow_add-result : goal.overflow_add-result
+overflow_add-result c =
     let within : c.data_at-d.result.start + c.data_at-d.result.length ≤ length c.args.s.now = rw c.data_at-d.ensures (data_lies c.args.s.now).within in
     search rules
 

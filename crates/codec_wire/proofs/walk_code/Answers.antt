@@ -1,11 +1,8 @@
 use Rattle.codec_wire.specs.Walk.{Walk}
 use Rattle.codec_wire.proofs.Steps.{step_next, walk_step, walk_stop}
-use mathlib.Core.Path.{refl, sym, ap, ◌∙◌}
+use mathlib.Core.Path.{sym, ap, ◌∙◌}
 use native.Mathlib.Omega.{arith}
 use Rattle.codec_wire.proofs.walk_code.Goals as goal
-
-pub loop-next-init : goal.loop-next-init
-loop-next-init c = refl
 
 pub returns-in_default : goal.returns-in_default
 returns-in_default c = c.step_code.ensures ∙ ap (λ (w : Walk). w.code) (sym (walk_stop _ _ _ (sym c.step_at-w.ensures) c.in_default.not-Param)) ∙ c.loop-next.invariant
