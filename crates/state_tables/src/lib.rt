@@ -4,7 +4,7 @@
 
 ghost use Rattle.std.specs.Prelude.{◌≡◌, ℕ, true, cond, ◌&&◌, ◌<◌, ◌≤◌, length, ltb};
 ghost use Rattle.laws.specs.Below.{one, all_below};
-ghost use Rattle.state_tables.specs.Inner.Every.{Every};
+ghost use Rattle.state_tables.specs.Inner.Every.{Every, EveryFrom};
 ghost use Rattle.state_tables.specs.Inner.Limits.{limit, limits_to, flags_of, Flags};
 ghost use Rattle.state_tables.specs.Inner.Differ.{pad_with, lacks_from};
 ghost use Rattle.state_tables.specs.Inner.Rows.{row_fails, sound_marks};
@@ -88,17 +88,25 @@ fn places() -> Places {
     }
 }
 
-// Every number below n passes the test. All are asked, so that the loop has no branch: it becomes operations
-// on 16 bytes.
+// Every number from the first one on, below the end, passes the test. All are asked, so that the loop has no
+// branch: it becomes operations on 16 bytes.
+fn every_from<F: Fn(usize) -> bool>(first: usize, end: usize, test: F) -> bool
+    requires { (first ≤ end) × ((i : ℕ) → first ≤ i → i < end → F.pre test i) }
+    ensures { EveryFrom (F.post test) first end result }
+{
+    let mut ok = true;
+    for i in first..end {
+        ok = ok & test(i);
+    }
+    ok
+}
+
+// Every number below n passes it.
 pub fn every<F: Fn(usize) -> bool>(n: usize, test: F) -> bool
     requires { (i : ℕ) → i < n → F.pre test i }
     ensures { Every (F.post test) n result }
 {
-    let mut ok = true;
-    for i in 0..n {
-        ok = ok & test(i);
-    }
-    ok
+    every_from(0, n, test)
 }
 
 pub fn counts_ok(asps: u8, ases: u8, links: u8) -> bool
@@ -113,14 +121,14 @@ fn blank(c: &[u32], n: usize, end: usize) -> bool
     requires { (n ≤ end) × (end ≤ length c.now) }
     ensures { result ≡ blank_from c.now n end }
 {
-    every(end - n, |k| c[n + k] == 0)
+    every_from(n, end, |i| c[i] == 0)
 }
 
 fn both_blank<'a>(c: &'a [u8], d: &'a [u8], n: usize, end: usize) -> bool
     requires { (n ≤ end) × (end ≤ length c.now) × (end ≤ length d.now) }
     ensures { result ≡ (blank_from c.now n end && blank_from d.now n end) }
 {
-    every(end - n, |k| (c[n + k] == 0) & (d[n + k] == 0))
+    every_from(n, end, |i| (c[i] == 0) & (d[i] == 0))
 }
 
 // The identifier at p differs from those before it.
