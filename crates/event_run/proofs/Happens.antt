@@ -1,5 +1,5 @@
--- What `decide` reads tells of the event on the state that it is lent: that it is refused as the rules say, and
--- what is decided of one that is not.
+-- What `decide` reads tells of the event on the state that it is lent: that it is refused as the rules say,
+-- and what is decided of one that is not.
 use Rattle.std.specs.Prelude.{ℕ, ◌<◌, ◌≤◌, ◌≡◌, Bool, true, List, refl, Result}
 use Rattle.std.proofs.Common.{◌∙◌, sym}
 use Rattle.laws.specs.Columns.{number_at}
