@@ -26,7 +26,7 @@ pub struct Node {
 }
 
 // What an event hands back: a refusal, or 0; the number of actions written; and the node, for the next event.
-// Kept: no Result, since a refused event hands the node back too, and `MeetsRules` speaks of the three at once.
+// Kept: no Result, since a refused event hands the node back too, and `MeetsRules` speaks of all three.
 #[repr(C)]
 #[derive(Drop)]
 pub struct Next {

@@ -1,5 +1,5 @@
--- What `decide` reads tells of the event on the state that it is lent: that it is refused as the rules say, and
--- what is decided of one that is not.
+-- What `decide` reads tells of the event on the state that it is lent: that it is refused as the rules say,
+-- and what is decided of one that is not.
 use Rattle.std.specs.Prelude.{ℕ, ◌<◌, ◌≤◌, ◌≡◌, Bool, true, List, refl, Result}
 use Rattle.std.proofs.Common.{◌∙◌, sym}
 use Rattle.laws.specs.Columns.{number_at}
@@ -10,6 +10,7 @@ use Rattle.rules_event.specs.Records.{link_at, owner_of, asp_at}
 use Rattle.rules_event.specs.Rules.{refusal_of, refusal, in_plan, effect_of}
 use Rattle.rules_event.specs.Inner.Accepted.{Accepted, accepted}
 use Rattle.rules_event.specs.declared.Decision.{Decision}
+use Rattle.rules_event.specs.declared.Link.{Link}
 use Rattle.event_decision.specs.Inner.Decides.{Decides, DecidesOn, decided}
 use Rattle.event_asked.specs.Happened.{happened, event_of}
 use Rattle.event_asked.specs.Inner.Ask.{Asks, ask_effect}
@@ -29,6 +30,14 @@ pub record Read (g : Gateway) (kind i : ℕ) (msg : List ℕ) (room size : ℕ) 
   pub named : sound ≡ true → Named g.links g.iid ask at.there at.index
   pub asp_is : sound ≡ true → at.asp ≡ asp_in (asp_named ask)
   pub code_is : refusal_code no ≡ refusal_of sound (known_in g.asps g.ases at.there (link_at g at.index) ask) (lending room size)
+
+-- by what the calls ensure
+pub read : (kind i : ℕ) {g : Gateway} {msg : List ℕ} {room size : ℕ} {ask : Ask} {sound : Bool} {at : Place} {k : Link} {no : Result (Unit {0}) EventRefusal}
+    → sound ≡ is_sound g → Asks kind i msg ask
+    → (at.index < 128) × (sound ≡ true → Named g.links g.iid ask at.there at.index) × (at.asp < 16) × (sound ≡ true → at.asp ≡ asp_in (asp_named ask))
+    → k ≡ link_at g at.index → refusal_code no ≡ refusal_of sound (known_in g.asps g.ases at.there k ask) (lending room size)
+    → Read g kind i msg room size ask sound at no
+read kind i s a p e c = record { sound_is = s; asks = a; near = p.0; named = p.1; asp_is = p.3; code_is = rw e at c }
 
 module _ {g : Gateway} {kind i : ℕ} {msg : List ℕ} {room size : ℕ} {ask : Ask} {sound : Bool} {at : Place} {no : Result (Unit {0}) EventRefusal} (r : Read g kind i msg room size ask sound at no) where
   pub refusal_is : refusal_code no ≡ refusal g (event_of (happened kind i msg) room size)

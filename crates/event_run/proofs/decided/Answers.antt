@@ -4,12 +4,6 @@ use Rattle.event_decision.specs.Inner.Decides.{decided}
 use Rattle.event_run.specs.Inner.Columns.{asp_at_lem, up_on, down_on, message_on, other_on}
 use Rattle.event_run.proofs.decided.Goals as goal
 
-pub up_work-requires : goal.up_work-requires
-up_work-requires c = let h = rw c.in-Up.is at c.requires.1 in omega (arith, h)
-
-pub down_work-requires : goal.down_work-requires
-down_work-requires c = let h = rw c.in-Down.is at c.requires.1 in omega (arith, h)
-
 pub traffic_work-requires : goal.traffic_work-requires
 traffic_work-requires c = rw c.from.ensures (c.requires.0, rw c.in-Traffic.is at c.requires.1)
 
@@ -18,9 +12,6 @@ sender_of-t-requires c = let i = c.requires in let h = rw c.in-Other.is at i.1 i
 
 pub other_work-requires : goal.other_work-requires
 other_work-requires c = let i = c.requires in let h = rw c.in-Other.is at i.1 in (h.0, i.2.small, h.1, h.2)
-
-pub lost_work-requires : goal.lost_work-requires
-lost_work-requires c = let h = rw c.in-Lost.is at c.requires.1 in omega (arith, h)
 
 pub link_message-requires : goal.link_message-requires
 link_message-requires c = let i = c.requires in let h = rw c.in-LinkMessage.is at i.1 in (i.3, h.0.class, h.0.msgtype, h.1)
