@@ -5,9 +5,8 @@
 ghost use Rattle.std.specs.Prelude.{◌≡◌, true, cond, ◌+◌, ◌-◌, ◌<◌, ◌≤◌, leb, length, take, drop};
 ghost use Rattle.codec_wire.specs.Walk.{walk};
 ghost use Rattle.codec_put.specs.Bytes.{overlay};
-ghost use Rattle.state_lookup.specs.Inner.Table.{Table};
 ghost use Rattle.rules_servers.specs.Changed.{column_of};
-ghost use Rattle.send_good_ids.specs.Inner.Made.{ModeFits, GoodMessage};
+ghost use Rattle.send_good_ids.specs.Inner.Made.{ModeFits};
 ghost use Rattle.event_asked.specs.Happened.{happened};
 ghost use Rattle.state_tables.specs.State.{gateway_of, units_of};
 ghost use Rattle.send_message.specs.Send.{Sends, SendsMany};
@@ -15,7 +14,7 @@ ghost use Rattle.send_message.specs.Handle.{Handles};
 ghost use Rattle.send_message.specs.Inner.Kinds.{lent_by};
 ghost use Rattle.send_orders.specs.Inner.Part.{part_of, PutIf, made_from, FitsIn, Again, lent_in, part_in, Ready};
 ghost use Rattle.send_orders.specs.Inner.Alike.{are_alike, repeats_in};
-ghost use Rattle.send_orders.specs.Inner.Parts.{is_part_in};
+ghost use Rattle.send_orders.specs.Inner.Parts.{is_part_in, GoodIf, WithinBlock, repeated_of};
 ghost use Rattle.send_orders.specs.Inner.Batch.{Ended};
 ghost use Rattle.send_orders.specs.Inner.Refusals.{number, some_reached, batch_of, sent_of, written_of, handled_of};
 ghost use Rattle.send_orders.specs.Inner.Behind.{lines_in, CanWrite, Wrote};
@@ -25,6 +24,7 @@ use codec_write::Written;
 use rules_action::{ASP_ACTIVE_ACK, ASP_INACTIVE_ACK, Action, MGMT_ERROR, USER_DATA};
 use send_message::{Batch, Handled, Owners};
 use send_unit::{Columns, Sent};
+use state_lookup::{Identifiers, Links};
 
 // The number of an event's refusal for want of words.
 const SHORT_LIST: u32 = 101;
@@ -80,41 +80,41 @@ fn in_part(words: &[u32; 1544], count: usize) -> bool
 }
 
 // Then the Ack repeats the good ones alone: a message that names these is written into a block; its length,
-// and else 0.
+// where there is one.
 fn good_if<'a>(
     part: bool,
     block: &mut [u8; 544],
     msg: &[u8],
-    links: usize,
     p: usize,
     member: &'a [u8; 256],
-    iid: &'a [u32; 128],
-    owner: &'a [u8; 128],
-) -> usize
-    requires { (length block.old ≡ 544) × (part ≡ true → (p < 16) × Table iid.now owner.now links × ModeFits (walk msg.now 8).pars) }
-    ensures { (result ≤ length block.new) × (part ≡ true → GoodMessage iid.now owner.now links (column_of member.now p) (walk msg.now 8).pars result block.new) }
+    links: Links<'a>,
+) -> Option<usize>
+    requires { (length block.old ≡ 544) × (part ≡ true → (p < 16) × ModeFits (walk msg.now 8).pars) }
+    ensures { GoodIf part links.entry.ids.iid.now links.entry.owner.now links.entry.ids.count (column_of member.now p) (walk msg.now 8).pars block.new result }
 {
     if part {
-        return send_good_ids::put_good(
+        let mine = event_asps::ases_of(member, p);
+        return Some(send_good_ids::put_good(
             block,
             msg,
-            links,
-            event_asps::ases_of(member, p),
-            iid,
-            owner,
-        );
+            links.ids.count,
+            mine,
+            links.ids.iid,
+            links.owner,
+        ));
     }
-    0
+    None
 }
 
 // The message whose parameters go out again: that one, or the received one.
-fn repeated<'a>(part: bool, kind: u32, msg: &'a [u8], good: &'a [u8]) -> &'a [u8]
-    ensures { result.now ≡ cond part good.now (lent_by kind msg.now) }
+fn repeated<'a>(kind: u32, msg: &'a [u8], block: &'a [u8], good: Option<usize>) -> &'a [u8]
+    requires { WithinBlock block.now good }
+    ensures { result.now ≡ repeated_of block.now (lent_by kind msg.now) good }
 {
-    if part {
-        return good;
-    }
-    received(kind, msg)
+    let Some(n) = good else {
+        return received(kind, msg);
+    };
+    &block[..n]
 }
 
 // What messages are made of beside the units: the links, the message whose parameters go out again, and the
@@ -217,7 +217,8 @@ fn again(out: &mut [u8], at: usize, size: usize)
     requires { (size ≤ at) × (at + size ≤ length out.old) }
     ensures { out.new ≡ overlay out.old at (take size (drop (at - size) out.old)) }
 {
-    out.copy_within(at - size..at, at);
+    let (written, rest) = out.split_at_mut(at);
+    rest[..size].copy_from_slice(&written[at - size..]);
 }
 
 // The same, where they go in; how many they are.
@@ -339,27 +340,26 @@ fn put_from<'a, 'b, 'c>(
         place: t.place,
         passed: kind == event_asked::LINK_MESSAGE,
     };
+    let ids = Identifiers {
+        iid: b.iid,
+        count: usize::from(t.links),
+    };
+    let links = Links {
+        ids,
+        owner: b.owner,
+    };
     let owners = Owners {
         iid: b.iid,
         owner: b.owner,
-        links: usize::from(t.links),
+        links: ids.count,
     };
     let list = send_unit::gone(units.counts, b.after);
     let part = (kind == event_asked::MESSAGE) & in_part(words, t.count);
     let mut block = [0u8; 544];
-    let good = good_if(
-        part,
-        &mut block,
-        msg,
-        owners.links,
-        t.index,
-        b.member,
-        b.iid,
-        b.owner,
-    );
+    let good = good_if(part, &mut block, msg, t.index, b.member, links);
     let sources = Sources {
         owners,
-        msg: repeated(part, kind, msg, &block[..good]),
+        msg: repeated(kind, msg, &block, good),
         hold,
     };
     put_many(run, words, &list, sources, units, lens, out)

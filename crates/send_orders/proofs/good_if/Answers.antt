@@ -1,16 +1,16 @@
-use native.Mathlib.Omega.{arith}
-use Rattle.laws.specs.Inner.Every.{clash}
+use mathlib.Core.Path.{refl}
+use Rattle.state_lookup.specs.Inner.Table.{table_of}
 use Rattle.send_orders.proofs.good_if.Goals as goal
 
 -- `send_orders::good_if`: what send_good_ids::put_good promises, of the sender's ASes; nothing else is said
-pub ases_of-requires : goal.ases_of-requires
-ases_of-requires c = (c.requires.1 c.if-part.true).0
+pub ases_of-mine-requires : goal.ases_of-mine-requires
+ases_of-mine-requires c = (c.requires.1 c.if-part.true).0
 
 pub put_good-requires : goal.put_good-requires
-put_good-requires c = let q = c.requires in let w = q.1 c.if-part.true in (q.0, w.1, w.2)
+put_good-requires c = let q = c.requires in (q.0, table_of c.args.links, (q.1 c.if-part.true).1)
 
 pub returns-then-part : goal.returns-then-part
-returns-then-part c = let e = rw c.ases_of.ensures at c.put_good.ensures in (e.short, λ _. e)
+returns-then-part c = (c.if-part.true, rw c.ases_of-mine.ensures at c.put_good.ensures)
 
 pub returns : goal.returns
-returns c = (omega arith, λ e. clash _ c.if-part.false e)
+returns c = c.if-part.false

@@ -1,14 +1,14 @@
 -- The message lent to the writer: where identifiers of an Active or Inactive were refused in part, one that
 -- names the good ones; else the event's own.
 -- Assumes nothing.
-use Rattle.std.specs.Prelude.{◌≡◌, refl, Bool, true, ◌&&◌, ◌||◌, List, [], ◌++◌, ℕ, ◌<◌, eqb, ltb, length, take}
+use Rattle.std.specs.Prelude.{⊤, Option, Some, None, ◌≤◌, ◌≡◌, refl, Bool, true, ◌&&◌, ◌||◌, List, [], ◌++◌, ℕ, ◌<◌, eqb, ltb, length, take}
 use Rattle.std.proofs.Math.Path.{sym, ap}
 use Rattle.std.proofs.Common.{◌∙◌, subst, arith, ne_eqb, le-ltb, eqb-true, ltb-true}
 use Rattle.std.proofs.Math.Bool.{false, cond}
 use Rattle.std.proofs.Math.Decide.{dec_lt, ℕ_discrete}
 use Rattle.laws.specs.Columns.{number_at}
 use Rattle.laws.specs.Inner.Below.{concat_ext, all_at}
-use Rattle.laws.specs.Inner.Every.{and_left, and_right}
+use Rattle.laws.specs.Inner.Every.{and_left, and_right, clash}
 use Rattle.codec_wire.specs.Walk.{Par, walk}
 use Rattle.codec_put.specs.Bytes.{bytes32}
 use Rattle.codec_select.specs.Only.{only}
@@ -76,6 +76,20 @@ module _ (g : Gateway) (h : List ℕ) (i : ℕ) (s : List ℕ) {count : ℕ} {ws
           ∙ ap (λ (v : List ℕ). list_par v ++ only is_mode (walk s 8).pars) (goods_are g i (walk s 8).pars t.sound)
       go false w e = ap (λ (y : List ℕ). (walk y 8).pars) e
 
+-- where identifiers were refused in part, the message of the good ones stands at the start of a block
+abbrev pub GoodIf : Bool → List ℕ → List ℕ → ℕ → List Bool → List Par → List ℕ → Option ℕ → Type 0
+GoodIf part iid owner links mine ps block None = part ≡ false
+GoodIf part iid owner links mine ps block (Some r) = (part ≡ true) × GoodMessage iid owner links mine ps r block
+
+-- the message lent: that one, or the received one
+abbrev pub WithinBlock : List ℕ → Option ℕ → Type 0
+WithinBlock block None = ⊤
+WithinBlock block (Some r) = r ≤ length block
+
+abbrev pub repeated_of : List ℕ → List ℕ → Option ℕ → List ℕ
+repeated_of block s None = s
+repeated_of block s (Some r) = take r block
+
 -- of a call of the kind `kind`: `part` says that a message of the good identifiers is lent, r bytes at the
 -- start of a block
 module _ (g : Gateway) (h : List ℕ) (kind i : ℕ) (s : List ℕ) {count : ℕ} {ws : List ℕ} {after : Gateway} (t : Ran g h (happened kind i s) count ws after) {m : ℕ} {part : Bool} (em : m ≡ g.links) (ep : part ≡ (eqb kind 0 && is_part_in ws count)) where
@@ -88,7 +102,7 @@ module _ (g : Gateway) (h : List ℕ) (kind i : ℕ) (s : List ℕ) {count : ℕ
       let b = sym ep ∙ e in
       ready_of g h i s (at_message (eqb-true kind 0 (and_left (eqb kind 0) _ b))) em (and_right (eqb kind 0) _ b)
 
-  pub lends_called : {r : ℕ} {block : List ℕ} (x : List ℕ) → (part ≡ true → GoodMessage g.iid g.owner m (column_of g.member i) (walk s 8).pars r block) → x ≡ cond part (take r block) (lent_by kind s)
+  lends_called : {r : ℕ} {block : List ℕ} (x : List ℕ) → (part ≡ true → GoodMessage g.iid g.owner m (column_of g.member i) (walk s 8).pars r block) → x ≡ cond part (take r block) (lent_by kind s)
       → (j : ℕ) → j < count → Lends g (happened kind i s) x (action_at (actions_on g (happened kind i s)) j)
   unfolding lent_by
   lends_called {r} {block} x w ex j l = go (ℕ_discrete kind 0)
@@ -100,3 +114,12 @@ module _ (g : Gateway) (h : List ℕ) (kind i : ℕ) (s : List ℕ) {count : ℕ
       go (no z) =
           let e : part ≡ false = ep ∙ rw (ne_eqb kind 0 z) in
           lends_other kind i s g x _ z (ex ∙ ap (λ (u : Bool). cond u (take r block) (lent_by kind s)) e ∙ sym (kinds kind i s).0)
+
+  pub good_within : (block : List ℕ) (good : Option ℕ) → GoodIf part g.iid g.owner m (column_of g.member i) (walk s 8).pars block good → WithinBlock block good
+  good_within block None w = tt
+  good_within block (Some r) w = w.1.short
+
+  pub lends_good : (block x : List ℕ) (good : Option ℕ) → GoodIf part g.iid g.owner m (column_of g.member i) (walk s 8).pars block good → x ≡ repeated_of block (lent_by kind s) good
+      → (j : ℕ) → j < count → Lends g (happened kind i s) x (action_at (actions_on g (happened kind i s)) j)
+  lends_good block x None w ex = lends_called {r = 0} {block = []} x (λ e. clash part w e) (ex ∙ ap (λ (u : Bool). cond u (take 0 []) (lent_by kind s)) (sym w))
+  lends_good block x (Some r) w ex = lends_called x (λ e. w.1) (ex ∙ rw w.0)
