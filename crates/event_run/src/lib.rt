@@ -26,6 +26,7 @@ ghost use Rattle.event_run.specs.Inner.Performed.{Changed, units_left};
 use event_asked::{Ask, EventRefusal, Place};
 use rules_event::{Asp, Decision, Link, Owner, Replies};
 use rules_server::{Arrival, Change, has_some};
+use state_lookup::{Identifiers, Links};
 
 // ---- what is decided
 
@@ -131,21 +132,20 @@ fn decided(ask: Ask, msg: &[u8], at: Place, k: Link, o: Owner, s: Asp, columns: 
 {
     let active = columns.active;
     let member = columns.member;
+    let ids = Identifiers {
+        iid: columns.iid,
+        count: usize::from(columns.links),
+    };
+    let plan = Links {
+        ids,
+        owner: columns.owner,
+    };
     match ask {
         Ask::Up(p, r) => event_asps::up_work(s, member, active, p, r),
         Ask::Down(p) => event_asps::down_work(member, p),
-        Ask::Traffic(p, r, on) => event_traffic::traffic_work(
-            on,
-            msg,
-            usize::from(columns.links),
-            s,
-            member,
-            columns.mode,
-            columns.iid,
-            columns.owner,
-            p,
-            r,
-        ),
+        Ask::Traffic(p, r, on) => {
+            event_traffic::traffic_work(on, msg, s, member, columns.mode, plan, p, r)
+        }
         Ask::Other(p, r, error) => {
             let t = event_links::sender_of(s, member, active, usize::from(k.owner), p);
             event_others::other_work(at.there, p, at.index, k, t, error, r)
@@ -259,11 +259,11 @@ fn let_go(
     let go = event_units::goes(count, who, waiting);
     if has_some(go) {
         event_units::clear_counts(count, go);
-        event_units::clear_halves(tag, go);
-        event_units::clear_halves(len, go);
-        event_units::clear_halves(marked, go);
-        event_units::clear_words(id, go);
-        event_units::clear_words(correlation, go);
+        event_units::clear_rows(tag, 0, go);
+        event_units::clear_rows(len, 0, go);
+        event_units::clear_rows(marked, 0, go);
+        event_units::clear_rows(id, 0, go);
+        event_units::clear_rows(correlation, 0, go);
     }
 }
 

@@ -5,7 +5,7 @@ use Rattle.event_run.specs.Inner.Columns.{asp_at_lem, up_on, down_on, message_on
 use Rattle.event_run.proofs.decided.Goals as goal
 
 pub traffic_work-requires : goal.traffic_work-requires
-traffic_work-requires c = rw c.from.ensures (c.requires.0, rw c.in-Traffic.is at c.requires.1)
+traffic_work-requires c = rw c.in-Traffic.is at c.requires.1
 
 pub sender_of-t-requires : goal.sender_of-t-requires
 sender_of-t-requires c = let i = c.requires in let h = rw c.in-Other.is at i.1 in (omega (arith, c.from-in-Other.ensures, i.3), h.0)
