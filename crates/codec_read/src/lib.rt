@@ -1,7 +1,7 @@
 // Reads M2UA messages: the verdict and the meaning of any bytes.
 #![tactic(auto)]
 
-ghost use Rattle.std.specs.Prelude.{◌≡◌, ◌+◌, ◌≤◌, ◌<◌, cond, false, [], length, get_or, OnOk, IfOk};
+ghost use Rattle.std.specs.Prelude.{◌≡◌, ◌+◌, ◌≤◌, ◌<◌, cond, false, [], length, get_or, OnOk, OnErr, IfOk};
 ghost use Rattle.laws.specs.Choice.{◌or_else◌};
 ghost use Rattle.codec_wire.specs.Refusal.{number, code};
 ghost use Rattle.codec_wire.specs.Walk.{walk};
@@ -79,6 +79,7 @@ pub struct Reading {
 
 // What is kept of the parameters passed. By slot: whether a tag of the slot was there, and the number of the
 // first.
+// Kept: two tables; one of options takes 256 bytes to clear for each message, these take 160.
 #[derive(Drop)]
 pub struct Seen {
     pub met: [bool; 32],
@@ -99,11 +100,12 @@ impl Seen {
         }
     }
 
-    // One parameter more, of a message of a row whose uses are packed: it is refused, or its tag and its number
-    // are kept.
+    // One parameter more, of a message of a row whose uses are packed: it is refused, or its tag and its
+    // number are kept.
     pub fn pass(&mut self, uses: u64, t: u16, v: &[u8]) -> Result<(), Refusal>
         ensures checked { code result ≡ par_code (packed_use uses 1) (packed_use uses (slot t)) self.old.first (get_or self.old.met (slot t) false) t v.now }
         ensures kept { OnOk result (self.new ≡ after self.old t v.now) }
+        ensures refused { OnErr result (self.new ≡ self.old) }
     {
         let k = codec_parameter::slot_of(t);
         let again = self.met[k];
@@ -114,8 +116,8 @@ impl Seen {
         Ok(())
     }
 
-    // Check 8, of a row whose mandatory slots are packed: a missing mandatory parameter, then the sequence number
-    // rules.
+    // Check 8, of a row whose mandatory slots are packed: a missing mandatory parameter, then the sequence
+    // number rules.
     #[tactic(auto, unfolding(crate::specs::Inner::Seen::end_at, codec_parameter::specs::Inner::Slot::slot))]
     pub fn end_code(&self, musts: u32, c: u8, t: u8) -> Result<(), Refusal>
         ensures { code result ≡ end_at musts c t self.now.met self.now.words }
@@ -132,8 +134,8 @@ impl Seen {
         )
     }
 
-    // The meaning of an accepted message. The state is read ahead of the branches (finish): read here, the compiler
-    // would load it together with the correlation id, across two stores, which takes 5 ns.
+    // The meaning of an accepted message. The state is read ahead of the branches (finish): read here, the
+    // compiler would load it together with the correlation id, across two stores, which takes 5 ns.
     #[tactic(auto, unfolding(crate::specs::Inner::Seen::meaning_at, codec_parameter::specs::Inner::Slot::slot))]
     fn meaning_at(&self, c: u8, t: u8, state: u32) -> Reading
         requires { state ≡ get_or self.now.words (slot 0x302) 0 }
