@@ -111,9 +111,9 @@ pub fn to_all(
             who[q],
             Action {
                 to: q as u32,
-                classtype: classtype,
-                subject: subject,
-                value: value,
+                classtype,
+                subject,
+                value,
                 unit: 0,
             },
         );

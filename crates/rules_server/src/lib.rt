@@ -165,6 +165,7 @@ impl Moved {
 }
 
 // x without those of y
+// Kept: minus and plus differ in an operator; by std::array::from_fn with a closure the goal returns stays open.
 fn minus(x: [bool; 16], y: [bool; 16]) -> [bool; 16]
     ensures { result ≡ less x y }
 {
@@ -242,6 +243,7 @@ pub fn changed(s: AsRecord, k: Moved) -> AsRecord
 }
 
 // Those whom the change overtakes.
+// Kept: equal arms one by one; with `|` between them the goal returns-in-AspUp stays open (as in let_out).
 pub fn overtaken_in(s: AsRecord, k: Moved) -> [bool; 16]
     ensures { result ≡ overtaken_in k.change s }
 {
