@@ -4,7 +4,7 @@
 ghost use Rattle.std.specs.Prelude.{◌≡◌, cond, not, ◌&&◌, [], ◌∷◌, ◌<◌, eqb};
 ghost use Rattle.laws.specs.Columns.{tabulate};
 ghost use Rattle.rules_action.specs.Words.{action};
-ghost use Rattle.state_sets.specs.Inner.Bits.{flags_of};
+ghost use Rattle.state_sets.specs.Inner.Members.{members};
 ghost use Rattle.rules_server.specs.Record.{some};
 ghost use Rattle.rules_servers.specs.Changed.{column_of};
 ghost use Rattle.rules_server.specs.declared.Change.TheVariants.{AspUp, Recover};
@@ -18,15 +18,16 @@ use codec_read::Reading;
 use rules_event::{Asp, Decision};
 use rules_server::{Change, has_some};
 use rules_servers::column_of;
+use state_sets::AsSet;
 
 // The ASes of ASP p, as a set.
-pub fn ases_of(member: &[u8; 256], p: usize) -> u32
+pub fn ases_of(member: &[u8; 256], p: usize) -> AsSet
     requires { p < 16 }
-    ensures { flags_of result ≡ column_of member.now p }
+    ensures { members result ≡ column_of member.now p }
 {
-    let mut r: u32 = 0;
+    let mut r = AsSet::empty();
     for a in 0..16usize {
-        r = state_sets::with_if(r, a, member[a * 16 + p] == 1);
+        r = r.with_if(a, member[a * 16 + p] == 1);
     }
     r
 }

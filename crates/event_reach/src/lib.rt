@@ -4,10 +4,9 @@
 ghost use Rattle.std.specs.Prelude.{◌≡◌, ◌&&◌, ◌<◌, eqb, ltb};
 ghost use Rattle.laws.specs.Columns.{flag_at, number_at, tabulate};
 ghost use Rattle.codec_wire.specs.Walk.{walk};
-ghost use Rattle.state_lookup.specs.Inner.Table.{Table};
-ghost use Rattle.state_ranges.specs.Named.{is_owned_by};
+ghost use Rattle.state_ranges.specs.Inner.Of.{owned_of};
 ghost use Rattle.state_ranges.specs.Inner.Owners.{Looked};
-ghost use Rattle.state_sets.specs.Inner.Bits.{flags_of};
+ghost use Rattle.state_sets.specs.Inner.Members.{members};
 ghost use Rattle.event_traffic.specs.Inner.Named.{with_par, good_pars};
 ghost use Rattle.rules_event.specs.Event.{message, lost, recovery, link_up, link_down, link_message};
 ghost use Rattle.event_asked.specs.Happened.{happened, event_of};
@@ -18,77 +17,61 @@ ghost use Rattle.event_reach.specs.Inner.Rows.{owner_row, named_row, other_row, 
 use codec_read::Reading;
 use codec_wire::Step;
 use event_asked::Ask;
+use state_lookup::{Identifiers, Links};
+use state_sets::AsSet;
 use state_tables::Gateway;
 
 // ---- owners
 
 // The set, with the ASes that own a known identifier of a parameter.
-fn owners_par<'a>(
-    set: u32,
-    far: &mut [u8; 128],
-    t: u16,
-    v: &[u8],
-    links: usize,
-    iid: &'a [u32; 128],
-    owner: &'a [u8; 128],
-) -> u32
-    requires { Table iid.now owner.now links × Looked owner.now far.old (flags_of set) }
-    ensures { (flags_of result ≡ with_par (flags_of set) (is_owned_by iid.now owner.now links) t v.now) × Looked owner.now far.new (flags_of result) }
+fn owners_par(set: AsSet, far: &mut [u8; 128], t: u16, v: &[u8], links: Links) -> AsSet
+    requires { Looked links.owner.now far.old (members set) }
+    ensures { (members result ≡ with_par (members set) (owned_of links.entry) t v.now) × Looked links.entry.owner.now far.new (members result) }
 {
     if t == 1 {
-        return state_names::owners_of(set, far, v, false, iid, owner, links);
+        return state_names::owners_of(set, far, v, false, links);
     }
     if t == 8 {
-        return state_names::owners_of(set, far, v, true, iid, owner, links);
+        return state_names::owners_of(set, far, v, true, links);
     }
     set
 }
 
 // The ASes of the set mine that own a known identifier of the message.
-fn owners_good<'a>(
-    s: &[u8],
-    links: usize,
-    iid: &'a [u32; 128],
-    owner: &'a [u8; 128],
-    mine: u32,
-) -> [bool; 16]
-    requires { Table iid.now owner.now links }
-    ensures { result ≡ good_pars (is_owned_by iid.now owner.now links) (flags_of mine) (walk s.now 8).pars }
+fn owners_good(s: &[u8], links: Links, mine: AsSet) -> [bool; 16]
+    ensures { result ≡ good_pars (owned_of links.entry) (members mine) (walk s.now 8).pars }
 {
     let mut far = [0u8; 128];
-    let mut set: u32 = 0;
+    let mut set = AsSet::empty();
     let mut at: usize = 8;
     loop {
         let w = codec_wire::step_at(s, at);
         let Step::Param { tag, len, next } = w else {
-            return state_sets::flags_of(state_sets::common(set, mine));
+            return set.common(mine).flags();
         };
         let start = at + 4;
         let stop = at + len as usize;
-        let new = owners_par(set, &mut far, tag, &s[start..stop], links, iid, owner);
-        set = new;
+        set = owners_par(set, &mut far, tag, &s[start..stop], links);
         at = next;
     }
 }
 
 // The owner of the link at l.
-fn owner_at(owner: &[u8; 128], l: usize) -> [bool; 16]
-    requires { l < 128 }
-    ensures { result ≡ tabulate 16 (eqb (number_at owner.now l)) }
+fn owner_at(links: Links, l: usize) -> [bool; 16]
+    requires { l < links.ids.count }
+    ensures { result ≡ tabulate 16 (eqb (number_at links.entry.owner.now l)) }
 {
-    event_asps::only(state_tables::wide(owner[l]))
+    event_asps::only(links.owner_at(l))
 }
 
 // The owner of the link with identifier x, if there is one.
-fn owner_of<'a>(iid: &'a [u32; 128], owner: &'a [u8; 128], links: usize, x: u32) -> [bool; 16]
-    requires { Table iid.now owner.now links }
-    ensures { result ≡ owner_row links iid.now owner.now x }
+fn owner_of(links: Links, x: u32) -> [bool; 16]
+    ensures { result ≡ owner_row links.entry.ids.count links.entry.ids.iid.now links.entry.owner.now x }
 {
-    let l = state_lookup::index_of(iid, links, x);
-    if l < links {
-        return owner_at(owner, l);
+    match links.ids.index_of(x) {
+        Some(l) => owner_at(links, l),
+        None => [false; 16],
     }
-    [false; 16]
 }
 
 // ---- what is asked
@@ -96,39 +79,30 @@ fn owner_of<'a>(iid: &'a [u32; 128], owner: &'a [u8; 128], links: usize, x: u32)
 // Active and Inactive: ids is 1 where identifiers are given.
 fn named_row<'a>(
     s: &[u8],
-    links: usize,
     member: &'a [u8; 256],
-    iid: &'a [u32; 128],
-    owner: &'a [u8; 128],
+    links: Links<'a>,
     p: usize,
     ids: u32,
 ) -> [bool; 16]
-    requires { Table iid.now owner.now links × (p < 16) }
-    ensures { result ≡ named_row links member.now iid.now owner.now p s.now ids }
+    requires { p < 16 }
+    ensures { result ≡ named_row links.entry.ids.count member.now links.entry.ids.iid.now links.entry.owner.now p s.now ids }
 {
     if ids == 1 {
-        return owners_good(s, links, iid, owner, event_asps::ases_of(member, p));
+        return owners_good(s, links, event_asps::ases_of(member, p));
     }
     rules_servers::column_of(member, p)
 }
 
 // A message of an ASP that is neither Up, Down, Active nor Inactive: error says that it is an Error.
-fn other_row<'a>(
-    error: bool,
-    links: usize,
-    iid: &'a [u32; 128],
-    owner: &'a [u8; 128],
-    r: Reading,
-) -> [bool; 16]
-    requires { Table iid.now owner.now links }
-    ensures { result ≡ other_row links iid.now owner.now error r }
+fn other_row(error: bool, links: Links, r: Reading) -> [bool; 16]
+    ensures { result ≡ other_row links.entry.ids.count links.entry.ids.iid.now links.entry.owner.now error r }
 {
     if error {
         return [false; 16];
     }
     if r.code == 0 {
         if r.class == 6 {
-            return owner_of(iid, owner, links, r.id);
+            return owner_of(links, r.id);
         }
         return [false; 16];
     }
@@ -136,27 +110,20 @@ fn other_row<'a>(
 }
 
 // Every event (Rules 9.2, 9.3).
-fn row_of<'a>(
-    ask: Ask,
-    msg: &[u8],
-    links: usize,
-    member: &'a [u8; 256],
-    iid: &'a [u32; 128],
-    owner: &'a [u8; 128],
-) -> [bool; 16]
-    requires { Table iid.now owner.now links × AskFits links iid.now msg.now ask }
-    ensures { result ≡ ask_row links member.now iid.now owner.now msg.now ask }
+fn row_of<'a>(ask: Ask, msg: &[u8], member: &'a [u8; 256], links: Links<'a>) -> [bool; 16]
+    requires { AskFits links.ids.count links.ids.iid.now msg.now ask }
+    ensures { result ≡ ask_row links.entry.ids.count member.now links.entry.ids.iid.now links.entry.owner.now msg.now ask }
 {
     match ask {
         Ask::Up(p, _) => rules_servers::column_of(member, p),
         Ask::Down(p) => rules_servers::column_of(member, p),
-        Ask::Traffic(p, r, _) => named_row(msg, links, member, iid, owner, p, r.ids),
-        Ask::Other(_, r, error) => other_row(error, links, iid, owner, r),
+        Ask::Traffic(p, r, _) => named_row(msg, member, links, p, r.ids),
+        Ask::Other(_, r, error) => other_row(error, links, r),
         Ask::Lost(p) => rules_servers::column_of(member, p),
         Ask::Recovery(a) => event_asps::only(a),
-        Ask::LinkUp(l) => owner_at(owner, l),
-        Ask::LinkDown(l) => owner_at(owner, l),
-        Ask::LinkMessage(r) => owner_of(iid, owner, links, r.id),
+        Ask::LinkUp(l) => owner_at(links, l),
+        Ask::LinkDown(l) => owner_at(links, l),
+        Ask::LinkMessage(r) => owner_of(links, r.id),
     }
 }
 
@@ -188,10 +155,19 @@ pub fn of_event(g: Gateway, kind: u32, i: usize, msg: &[u8], room: usize, hold: 
     if code != 0 {
         return [false; 16];
     }
-    let n = state_tables::wide(links);
-    let row = row_of(ask, msg, n, &g.member, &g.iid, &g.owner);
-    within(state_tables::wide(ases), row)
+    let ids = Identifiers {
+        iid: &g.iid,
+        count: usize::from(links),
+    };
+    let plan = Links {
+        ids,
+        owner: &g.owner,
+    };
+    let row = row_of(ask, msg, &g.member, plan);
+    within(usize::from(ases), row)
 }
+
+// Kept: docs/STATEMENTS.md names these six.
 
 // A message of ASP p.
 pub fn of_message(g: Gateway, p: usize, msg: &[u8], room: usize, hold: usize) -> [bool; 16]

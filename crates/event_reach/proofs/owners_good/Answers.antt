@@ -1,16 +1,15 @@
 use Rattle.event_traffic.specs.Inner.Named.{owners_none, owners_more, good_end}
 use Rattle.state_ranges.specs.Inner.Owners.{looked_none}
-use Rattle.state_sets.specs.Inner.Bits.{flags_zero}
 use Rattle.codec_wire.proofs.Steps.{step_next, pars_next, pars_stop}
 use mathlib.Core.Path.{sym, ◌∙◌}
 use native.Mathlib.Omega.{arith}
 use Rattle.event_reach.proofs.owners_good.Goals as goal
 
 pub loop-tag-init : goal.loop-tag-init
-loop-tag-init c = (rw flags_zero (owners_none _ _), c.requires, looked_none _ _)
+loop-tag-init c = (rw c.empty-set.ensures (owners_none _ _), looked_none _ _)
 
 pub returns-in_default : goal.returns-in_default
-returns-in_default c = c.flags_of.ensures ∙ good_end _ _ _ _ _ (rw (pars_stop _ _ _ (sym c.step_at-w.ensures) c.in_default.not-Param) at c.loop-tag.invariant.0) c.common.ensures
+returns-in_default c = c.flags.ensures ∙ good_end _ _ _ _ _ (rw (pars_stop _ _ _ (sym c.step_at-w.ensures) c.in_default.not-Param) at c.loop-tag.invariant.0) c.common.ensures
 
 pub overflow_add-start : goal.overflow_add-start
 overflow_add-start c = let k = step_next _ _ _ _ _ (sym c.step_at-w.ensures ∙ c.in-Param.is) in omega arith
@@ -30,8 +29,8 @@ slice_bounds-owners_par-start c = let k = step_next _ _ _ _ _ (sym c.step_at-w.e
 pub slice_bounds-owners_par-end : goal.slice_bounds-owners_par-end
 slice_bounds-owners_par-end c = let k = step_next _ _ _ _ _ (sym c.step_at-w.ensures ∙ c.in-Param.is) in omega arith
 
-pub owners_par-new-requires : goal.owners_par-new-requires
-owners_par-new-requires c = let i = c.loop-tag.invariant in (i.1, i.2)
+pub owners_par-set-requires : goal.owners_par-set-requires
+owners_par-set-requires c = c.loop-tag.invariant.1
 
 pub loop-tag-smaller : goal.loop-tag-smaller
 loop-tag-smaller c = let k = step_next _ _ _ _ _ (sym c.step_at-w.ensures ∙ c.in-Param.is) in omega arith
@@ -39,5 +38,5 @@ loop-tag-smaller c = let k = step_next _ _ _ _ _ (sym c.step_at-w.ensures ∙ c.
 pub loop-tag-preserved : goal.loop-tag-preserved
 loop-tag-preserved c =
     let i = c.loop-tag.invariant in
-    let e = c.owners_par-new.ensures in
-    (owners_more _ _ _ _ _ _ (rw (pars_next _ _ _ _ _ (sym c.step_at-w.ensures ∙ c.in-Param.is)) at i.0) e.0, i.1, e.1)
+    let e = c.owners_par-set.ensures in
+    (owners_more _ _ _ _ _ _ (rw (pars_next _ _ _ _ _ (sym c.step_at-w.ensures ∙ c.in-Param.is)) at i.0) e.0, e.1)

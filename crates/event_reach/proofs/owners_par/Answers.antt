@@ -13,4 +13,4 @@ returns-then-t-eq8 c = rw (ne_eqb _ 1 c.if-t-eq1.false, eq-eqb _ 8 c.if-t-eq8.tr
 
 pub returns : goal.returns
 unfolding with_par
-returns c = rw (ne_eqb _ 1 c.if-t-eq1.false, ne_eqb _ 8 c.if-t-eq8.false) (refl, c.requires.1)
+returns c = rw (ne_eqb _ 1 c.if-t-eq1.false, ne_eqb _ 8 c.if-t-eq8.false) (refl, c.requires)

@@ -2,22 +2,22 @@ use native.Mathlib.Omega.{arith}
 use Rattle.event_reach.proofs.row_of.Goals as goal
 
 pub column_of-requires : goal.column_of-requires
-column_of-requires c = rw c.in-Up.is at c.requires.1
+column_of-requires c = rw c.in-Up.is at c.requires
 
 pub column_of-requires-in-Down : goal.column_of-requires-in-Down
-column_of-requires-in-Down c = rw c.in-Down.is at c.requires.1
+column_of-requires-in-Down c = rw c.in-Down.is at c.requires
 
 pub named_row-requires : goal.named_row-requires
-named_row-requires c = (c.requires.0, rw c.in-Traffic.is at c.requires.1)
+named_row-requires c = rw c.in-Traffic.is at c.requires
 
 pub column_of-requires-in-Lost : goal.column_of-requires-in-Lost
-column_of-requires-in-Lost c = rw c.in-Lost.is at c.requires.1
+column_of-requires-in-Lost c = rw c.in-Lost.is at c.requires
 
 pub owner_at-requires : goal.owner_at-requires
-owner_at-requires c = (omega (arith, (rw c.in-LinkUp.is at c.requires.1), c.requires.0.few))
+owner_at-requires c = rw c.in-LinkUp.is at c.requires
 
 pub owner_at-requires-in-LinkDown : goal.owner_at-requires-in-LinkDown
-owner_at-requires-in-LinkDown c = (omega (arith, (rw c.in-LinkDown.is at c.requires.1), c.requires.0.few))
+owner_at-requires-in-LinkDown c = rw c.in-LinkDown.is at c.requires
 
 pub returns-in-Up : goal.returns-in-Up
 returns-in-Up c = rw c.in-Up.is c.column_of.ensures

@@ -1,8 +1,8 @@
 -- From the rows of flags that the code makes to the rule.
 -- Assumes nothing.
-use Rattle.std.specs.Prelude.{ℕ, ◌<◌, ◌≤◌, ◌≡◌, Bool, ◌&&◌, List, eqb, ltb, replicate}
+use Rattle.std.specs.Prelude.{ℕ, ◌<◌, ◌≤◌, ◌≡◌, Bool, ◌&&◌, List, Some, None, eqb, ltb, replicate}
 use Rattle.std.proofs.Math.Path.{refl, sym}
-use Rattle.std.proofs.Common.{◌∙◌}
+use Rattle.std.proofs.Common.{◌∙◌, arith}
 use Rattle.std.proofs.Math.Bool.{true, false, cond}
 use Rattle.std.proofs.Math.Decide.{ℕ_discrete}
 use Rattle.std.proofs.lemmas.List.{get_or-replicate}
@@ -12,7 +12,8 @@ use Rattle.laws.specs.Inner.Columns.{tabulate_ext, get_d_tabulate, is_tabulate}
 use Rattle.codec_wire.specs.Walk.{walk}
 use Rattle.codec_read.specs.declared.Reading.{Reading}
 use Rattle.state_tables.specs.declared.Gateway.{Gateway}
-use Rattle.state_lookup.specs.Links.{index_of, known}
+use Rattle.state_lookup.specs.Links.{known}
+use Rattle.state_lookup.specs.Inner.Index.{IndexIs}
 use Rattle.rules_servers.specs.Changed.{column_of}
 use Rattle.state_ranges.specs.Named.{is_owned_by, owner_by_id}
 use Rattle.event_traffic.specs.Inner.Named.{good_pars, good_is}
@@ -72,14 +73,14 @@ pub only_row : (a : ℕ) → tabulate 16 (λ c. eqb c a) ≡ tabulate 16 (eqb a)
 only_row a = tabulate_ext false 16 (λ c. eqb c a) (eqb a) (λ c b. eqb_turned c a)
 
 -- the owner of an identifier, which stands at l or nowhere
-module _ (links : ℕ) (iid owner : List ℕ) (x l : ℕ) (e : l ≡ index_of iid links x) where
-  pub id_known : l < links → tabulate 16 (eqb (number_at owner l)) ≡ owner_row links iid owner x
+module _ (links : ℕ) (iid owner : List ℕ) (x : ℕ) where
+  pub id_known : (l : ℕ) → IndexIs iid links x (Some l) → tabulate 16 (eqb (number_at owner l)) ≡ owner_row links iid owner x
   unfolding owner_row is_owned_by owner_by_id known
-  id_known h = tabulate_ext false 16 (eqb (number_at owner l)) (λ a. is_owned_by iid owner links a x) (λ a b. rw (← e, lt-ltb l links h))
+  id_known l h = tabulate_ext false 16 (eqb (number_at owner l)) (λ a. is_owned_by iid owner links a x) (λ a b. rw (← h.0, lt-ltb l links h.1))
 
-  pub id_unknown : links ≤ l → replicate 16 false ≡ owner_row links iid owner x
+  pub id_unknown : IndexIs iid links x None → replicate 16 false ≡ owner_row links iid owner x
   unfolding owner_row is_owned_by owner_by_id known
-  id_unknown h = none_row (λ a. is_owned_by iid owner links a x) (λ a. rw (← e, le-ltb l links h))
+  id_unknown h = none_row (λ a. is_owned_by iid owner links a x) (λ a. rw (← h, le-ltb links links (omega arith)))
 
 -- the rows are the rule's
 module _ (g : Gateway) where

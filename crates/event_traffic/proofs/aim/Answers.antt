@@ -1,36 +1,33 @@
 use Rattle.event_traffic.specs.Inner.Aims.{aims_all, aims_named}
 use Rattle.event_traffic.specs.Inner.Named.{refused_mine, refusing_none, refusing_more, refusing_end, owners_none, owners_more, good_end}
-use Rattle.state_ranges.specs.Inner.Names.{names_both}
+use Rattle.state_lookup.specs.Inner.Table.{table_of}
 use Rattle.state_ranges.specs.Inner.Owners.{looked_none}
-use Rattle.state_sets.specs.Inner.Bits.{flags_of, flags_zero}
 use Rattle.codec_wire.proofs.Steps.{step_next, pars_next, pars_stop}
 use mathlib.Core.Bool.{not}
-use mathlib.Core.Path.{sym, ap, ◌∙◌}
+use mathlib.Core.Path.{refl, sym, ap, ◌∙◌}
 use native.Mathlib.Omega.{arith}
 use Rattle.event_traffic.proofs.aim.Goals as goal
 
 pub returns-then-not-ids : goal.returns-then-not-ids
-returns-then-not-ids c = aims_all (ap not c.if-not-ids.true) c.passes.ensures.0 (ap flags_of c.passes.ensures.1 ∙ c.ases_of-mine.ensures)
+returns-then-not-ids c = aims_all (ap not c.if-not-ids.true) refl c.ases_of-mine.ensures
 
 pub loop-tag-init : goal.loop-tag-init
-loop-tag-init c =
-    let e = c.passes-named.ensures in
-    (rw e.0 (refusing_none _ _), rw (e.1, flags_zero) (owners_none _ _), c.requires.0, looked_none _ _, c.ases_of-mine.ensures)
+loop-tag-init c = (refusing_none _ _, rw c.empty.ensures (owners_none _ _), looked_none _ _, c.ases_of-mine.ensures)
 
 pub returns-in_default : goal.returns-in_default
 returns-in_default c =
     let i = c.loop-tag.invariant in
     let z = pars_stop _ _ _ (sym c.step_at-w.ensures) c.in_default.not-Param in
     aims_named (ap not c.if-not-ids.false)
-    (names_both c.answer.ensures.0 (refusing_end _ _ _ (rw z at i.0)) c.answer.ensures.1 (rw (sym i.4) (good_end _ _ _ _ _ (rw z at i.1) c.common.ensures)))
+    (record { refused = refusing_end _ _ _ (rw z at i.0); set = rw (sym i.3) (good_end _ _ _ _ _ (rw z at i.1) c.common.ensures) })
 
 pub loop-tag-preserved : goal.loop-tag-preserved
 loop-tag-preserved c =
     let i = c.loop-tag.invariant in
-    let n = c.named_par-new.ensures in
-    let e = rw (refused_mine _ _ _ _ _ _ i.2 i.4) at n.0.refused in
+    let n = c.named_par-named.ensures in
+    let e = rw (refused_mine _ _ _ _ _ _ (table_of c.args.links) i.3) at n.0.refused in
     let z = pars_next _ _ _ _ _ (sym c.step_at-w.ensures ∙ c.in-Param.is) in
-    (refusing_more _ _ _ _ _ _ (rw z at i.0) e, owners_more _ _ _ _ _ _ (rw z at i.1) n.0.set, i.2, n.1, i.4)
+    (refusing_more _ _ _ _ _ _ (rw z at i.0) e, owners_more _ _ _ _ _ _ (rw z at i.1) n.0.set, n.1, i.3)
 
 -- the parameter lies within the message
 pub overflow_add-start : goal.overflow_add-start

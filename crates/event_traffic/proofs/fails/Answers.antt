@@ -1,7 +1,7 @@
 use Rattle.event_traffic.proofs.fails.Goals as goal
 
-pub returns-then-bad : goal.returns-then-bad
-returns-then-bad c = rw c.if-bad.true c.error_two.ensures
+pub returns-in-Some : goal.returns-in-Some
+returns-in-Some c = rw c.in-Some.is c.error_two.ensures
 
-pub returns : goal.returns
-returns c = rw c.if-bad.false c.error.ensures
+pub returns-in-None : goal.returns-in-None
+returns-in-None c = rw c.in-None.is c.error.ensures

@@ -12,7 +12,7 @@ pub has-requires : goal.has-requires
 has-requires c = omega (arith, c.loop-a-test.true)
 
 pub loop-a-preserved : goal.loop-a-preserved
-loop-a-preserved c = (rw any_more (rw (c.wide.ensures, c.has.ensures, c.loop-a.invariant.0)), search rules)
+loop-a-preserved c = (rw any_more (rw (c.from.ensures, c.has.ensures, c.loop-a.invariant.0)), search rules)
 
 pub returns : goal.returns
 returns c = at_end (any_below _) c.loop-a.invariant.0 c.loop-a-test.false c.loop-a.invariant.1

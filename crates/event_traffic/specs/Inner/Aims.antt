@@ -15,11 +15,10 @@ use Rattle.state_tables.specs.declared.Gateway.{Gateway}
 use Rattle.rules_action.specs.declared.Action.{Action}
 use Rattle.rules_server.specs.Record.{some}
 use Rattle.rules_servers.specs.Changed.{column_of}
-use Rattle.state_ranges.specs.declared.Refused.{Refused}
-use Rattle.state_ranges.specs.Named.{is_refused, is_owned_by, nothing}
+use Rattle.state_ranges.specs.Named.{Refused, is_refused, is_owned_by, nothing}
 use Rattle.state_ranges.specs.declared.Named.{Named}
-use Rattle.state_sets.specs.Inner.Bits.{flags_of}
-use Rattle.state_ranges.specs.Inner.Names.{Names}
+use Rattle.state_sets.specs.Inner.Members.{members}
+use Rattle.state_ranges.specs.Inner.Names.{as_refused, Names}
 use Rattle.event_decision.specs.Inner.Decides.{Decides, act}
 use Rattle.rules_event.specs.declared.Asp.{Asp}
 use Rattle.rules_event.specs.declared.Decision.{Decision}
@@ -54,10 +53,10 @@ told p bad = cond bad.found (error2 p bad.id) []
 -- without any all of p's ASes
 pub record Aims (e : Named) (ids : Bool) (first : Refused) (good mine : List Bool) : Type 0 where
   pub named : ids ≡ true → Names e first good
-  pub all : ids ≡ false → (e.refused ≡ nothing) × (flags_of e.set ≡ mine)
+  pub all : ids ≡ false → ((as_refused e.refused) ≡ nothing) × (members e.set ≡ mine)
 
 module _ {e : Named} {ids : Bool} {first : Refused} {good mine : List Bool} where
-  pub aims_all : not ids ≡ true → e.refused ≡ nothing → flags_of e.set ≡ mine → Aims e ids first good mine
+  pub aims_all : not ids ≡ true → (as_refused e.refused) ≡ nothing → members e.set ≡ mine → Aims e ids first good mine
   aims_all t r f = record { named = λ h. absurd (false≢true (sym (not-true ids t) ∙ h)); all = λ h. (r, f) }
 
   pub aims_named : not ids ≡ false → Names e first good → Aims e ids first good mine
@@ -89,23 +88,23 @@ takes_whole g p = eqb (number_at g.wholelists p) 1
 -- it decides
 module _ (g : Gateway) (p : ℕ) (ps : List Par) (r : Reading) (on : Bool) (e : Named) (u : eqb (number_at g.up p) 1 ≡ true)
     (h : Aims e (eqb r.ids 1) (first_refused g p ps) (owners_good g p ps) (ases_of g p)) where
-  found_is : eqb r.ids 1 ≡ true → e.refused.found ≡ (first_refused g p ps).found
+  found_is : eqb r.ids 1 ≡ true → (as_refused e.refused).found ≡ (first_refused g p ps).found
   found_is i = ap (λ z. z.found) (h.named i).refused
 
-  pub aimed_fails : {w : Decision} → nothing_done (eqb r.ids 1) e.refused.found (takes_whole g p) (not (some (flags_of e.set))) ≡ true → Decides w (send (cond e.refused.found (error2 p e.refused.id) (error p 6))) → Decides w (traffic_effect g p r ps (act g p on r.mode))
+  pub aimed_fails : {w : Decision} → nothing_done (eqb r.ids 1) (as_refused e.refused).found (takes_whole g p) (not (some (members e.set))) ≡ true → Decides w (send (cond (as_refused e.refused).found (error2 p (as_refused e.refused).id) (error p 6))) → Decides w (traffic_effect g p r ps (act g p on r.mode))
   unfolding traffic_effect part_effect nothing_done
-  aimed_fails {w} t d = go (eqb r.ids 1) refl e.refused.found refl t
+  aimed_fails {w} t d = go (eqb r.ids 1) refl (as_refused e.refused).found refl t
     where
-      go : (i : Bool) → eqb r.ids 1 ≡ i → (f : Bool) → e.refused.found ≡ f → nothing_done i f (takes_whole g p) (not (some (flags_of e.set))) ≡ true → Decides w (does g p ps r on i (first_refused g p ps).found)
+      go : (i : Bool) → eqb r.ids 1 ≡ i → (f : Bool) → (as_refused e.refused).found ≡ f → nothing_done i f (takes_whole g p) (not (some (members e.set))) ≡ true → Decides w (does g p ps r on i (first_refused g p ps).found)
       go true i true f q = let z : (takes_whole g p || not (some (owners_good g p ps))) ≡ true = rw (h.named i).set at q in rw (u, ← found_is i, f, z) (rw (f, (h.named i).refused) at d)
       go true i false f q = absurd (false≢true q)
       go false i f k q = let z : some (ases_of g p) ≡ false = not-true _ (rw (h.all i).1 at q) in rw (u, z) (rw (h.all i).0 at d)
 
-  pub aimed_acts : {w : Decision} → nothing_done (eqb r.ids 1) e.refused.found (takes_whole g p) (not (some (flags_of e.set))) ≡ false → Decides w (act g p on r.mode (told p e.refused) (flags_of e.set)) → Decides w (traffic_effect g p r ps (act g p on r.mode))
+  pub aimed_acts : {w : Decision} → nothing_done (eqb r.ids 1) (as_refused e.refused).found (takes_whole g p) (not (some (members e.set))) ≡ false → Decides w (act g p on r.mode (told p (as_refused e.refused)) (members e.set)) → Decides w (traffic_effect g p r ps (act g p on r.mode))
   unfolding traffic_effect part_effect nothing_done
-  aimed_acts {w} t d = go (eqb r.ids 1) refl e.refused.found refl t
+  aimed_acts {w} t d = go (eqb r.ids 1) refl (as_refused e.refused).found refl t
     where
-      go : (i : Bool) → eqb r.ids 1 ≡ i → (f : Bool) → e.refused.found ≡ f → nothing_done i f (takes_whole g p) (not (some (flags_of e.set))) ≡ false → Decides w (does g p ps r on i (first_refused g p ps).found)
+      go : (i : Bool) → eqb r.ids 1 ≡ i → (f : Bool) → (as_refused e.refused).found ≡ f → nothing_done i f (takes_whole g p) (not (some (members e.set))) ≡ false → Decides w (does g p ps r on i (first_refused g p ps).found)
       go true i true f q = let z : (takes_whole g p || not (some (owners_good g p ps))) ≡ false = rw (h.named i).set at q in rw (u, ← found_is i, f, z) (rw (f, (h.named i).set, (h.named i).refused) at d)
       go true i false f q = rw (u, ← found_is i, f) (rw (f, (h.named i).set) at d)
       go false i f k q = let z : some (ases_of g p) ≡ true = not-false _ (rw (h.all i).1 at q) in rw (u, z) (rw ((h.all i).0, (h.all i).1) at d)

@@ -13,12 +13,12 @@ use Rattle.laws.specs.Inner.Columns.{tabulate_ext, get_d_tabulate, length_tabula
 use Rattle.codec_wire.specs.Walk.{Par}
 use Rattle.state_tables.specs.Sound.{pair}
 use Rattle.state_tables.specs.declared.Gateway.{Gateway}
-use Rattle.state_sets.specs.Inner.Bits.{flags_of}
+use Rattle.state_sets.specs.declared.AsSet.{AsSet}
+use Rattle.state_sets.specs.Inner.Members.{members}
 use Rattle.rules_servers.specs.Changed.{column_of}
 use Rattle.state_lookup.specs.Inner.Table.{Table}
 use Rattle.state_ranges.specs.Inner.Refused.{refused_by, refused_by_lem}
-use Rattle.state_ranges.specs.Named.{is_refused, is_owned_by, nothing, refused_in, some_of}
-use Rattle.state_ranges.specs.declared.Refused.{Refused}
+use Rattle.state_ranges.specs.Named.{Refused, is_refused, is_owned_by, nothing, refused_in, some_of}
 use Rattle.rules_event.specs.Identifiers.{is_ids, first_refused, names_some, owns_good, owners_good}
 use Rattle.rules_event.specs.Asp.{ases_of}
 use Rattle.state_names.specs.Inner.Entries.{plain_in}
@@ -100,10 +100,10 @@ module _ (g : Gateway) where
       (λ a b. rw (names_is (is_owned_by g.iid g.owner g.links a) ps, get_d_tabulate 16 (λ a. is_set g.member (pair a p)) a false b))
 
 -- one is refused by the flags of p's ASes where the rule refuses it
-pub refused_mine : (iid owner member : List ℕ) (links p mine : ℕ) → Table iid owner links → flags_of mine ≡ column_of member p → refused_by iid owner links (flags_of mine) ≡ is_refused iid owner member links p
+pub refused_mine : (iid owner member : List ℕ) (links p : ℕ) (mine : AsSet) → Table iid owner links → members mine ≡ column_of member p → refused_by iid owner links (members mine) ≡ is_refused iid owner member links p
 unfolding column_of
 refused_mine iid owner member links p mine t e =
-    refused_by_lem iid owner member links p (flags_of mine) t (λ a b. ap (λ (l : List Bool). flag_at l a) e ∙ get_d_tabulate 16 (λ a. is_set member (pair a p)) a false b)
+    refused_by_lem iid owner member links p (members mine) t (λ a b. ap (λ (l : List Bool). flag_at l a) e ∙ get_d_tabulate 16 (λ a. is_set member (pair a p)) a false b)
 
 -- ---- the walk: parameters in received order
 

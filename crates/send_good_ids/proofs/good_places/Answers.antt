@@ -5,20 +5,14 @@ use Rattle.state_ranges.specs.Inner.Laws.{owner_small}
 use Rattle.send_good_ids.specs.Inner.Marks.{swept_none, swept_more, goods_none, goods_more, goods_end}
 use Rattle.send_good_ids.proofs.good_places.Goals as goal
 
-pub marks_of-until-requires : goal.marks_of-until-requires
-marks_of-until-requires c = let t = c.requires in (t.few, t.order)
-
 pub loop-l-init : goal.loop-l-init
-loop-l-init c = (goods_none _ _ _, swept_none _, search rules, c.requires)
-
-pub has-requires : goal.has-requires
-has-requires c = rw c.wide-in-loop-l.ensures (owner_small _ _ _ c.loop-l.invariant.3 _ c.loop-l-test.true)
+loop-l-init c = (goods_none _ _ _, swept_none _, search rules)
 
 pub loop-l-preserved : goal.loop-l-preserved
 loop-l-preserved c =
     let i = c.loop-l.invariant in
-    let s = swept_more i.1 c.later-past.ensures in
-    (goods_more _ _ i.0 (omega (arith, i.3.few, c.loop-l-test.true)) s (c.bit.ensures.0 ∙ rw (c.wide.ensures, c.has.ensures, c.wide-in-loop-l.ensures)), s, search rules, i.3)
+    let s = swept_more i.1 c.max-past.ensures in
+    (goods_more _ _ i.0 (omega (arith, c.args.links.ids.few, c.loop-l-test.true)) s (c.bit.ensures.0 ∙ rw (c.from.ensures, c.has.ensures, c.owner_at.ensures.0)), s, search rules)
 
 pub returns : goal.returns
 returns c = goods_end c.loop-l.invariant.0 c.loop-l-test.false c.marks_of-until.ensures

@@ -1,11 +1,7 @@
-use Prim.Native.Nat.{◌≤◌, ◌-◌}
-use Rattle.state_sets.specs.Inner.Bits.{flags_of}
-use Rattle.state_lookup.specs.Inner.Table.{Table}
-use Rattle.send_good_ids.specs.Inner.Marks.{Swept, GoodsTo}
+use Prim.Native.Nat.{◌≤◌}
+use Rattle.state_sets.specs.Inner.Members.{members}
+use Rattle.send_good_ids.specs.Inner.Marks.{GoodsTo, Swept}
 use Rattle.send_good_ids.proofs.good_places.Given as goal
 
 abbrev pub invariant-loop-l : goal.invariant-loop-l
-invariant-loop-l l = GoodsTo l.until l.owner (flags_of l.mine) l.initial.r l.l l.r × Swept l.until l.l l.past × (l.l ≤ l.links) × Table l.iid l.owner l.links
-
-abbrev pub decreases-loop-l : goal.decreases-loop-l
-decreases-loop-l l = l.links - l.l
+invariant-loop-l l = GoodsTo l.until l.links.owner.now (members l.mine) l.initial.r l.l l.r × Swept l.until l.l l.past × (l.l ≤ l.links.ids.count)

@@ -5,7 +5,7 @@ use Rattle.send_good_ids.specs.Inner.Marks.{Passed}
 use Rattle.send_good_ids.proofs.mark_many.Given as goal
 
 abbrev pub invariant-loop-i : goal.invariant-loop-i
-invariant-loop-i l = Passed false l.initial.until l.value l.iid l.links l.n l.i l.until × Spots l.table l.iid l.links
+invariant-loop-i l = Passed false l.initial.until l.value l.ids.iid.now l.ids.count l.n l.i l.until × Spots l.table l.ids.iid.now l.ids.count
 
 abbrev pub decreases-loop-i : goal.decreases-loop-i
 decreases-loop-i l = l.n - l.i

@@ -1,14 +1,8 @@
 use Rattle.send_good_ids.specs.Inner.Marks.{par_ids, par_ranges, par_other}
 use Rattle.send_good_ids.proofs.mark_par.Goals as goal
 
-pub mark_ids-requires : goal.mark_ids-requires
-mark_ids-requires c = c.requires
-
 pub returns-then-t-eq1 : goal.returns-then-t-eq1
 returns-then-t-eq1 c = par_ids _ _ c.if-t-eq1.true c.mark_ids.ensures
-
-pub mark_ranges-requires : goal.mark_ranges-requires
-mark_ranges-requires c = c.requires
 
 pub returns-then-t-eq8 : goal.returns-then-t-eq8
 returns-then-t-eq8 c = par_ranges _ _ c.if-t-eq8.true c.mark_ranges.ensures

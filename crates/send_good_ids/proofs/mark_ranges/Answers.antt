@@ -4,16 +4,13 @@ use Rattle.send_good_ids.specs.Inner.Marks.{passed_none, passed_more, passed_end
 use Rattle.send_good_ids.proofs.mark_ranges.Goals as goal
 
 pub loop-i-init : goal.loop-i-init
-loop-i-init c = passed_none c.entries_of-n.ensures c.requires
+loop-i-init c = passed_none c.entries_of-n.ensures c.told-until
 
 pub start_at-start-requires : goal.start_at-start-requires
 start_at-start-requires c = omega (arith, c.loop-i.invariant.all)
 
 pub stop_at-stop-requires : goal.stop_at-stop-requires
 stop_at-stop-requires c = omega (arith, c.loop-i.invariant.all)
-
-pub mark_range-near-requires : goal.mark_range-near-requires
-mark_range-near-requires c = let w = c.loop-i.invariant in (w.long, w.few, w.up)
 
 pub loop-i-preserved : goal.loop-i-preserved
 loop-i-preserved c =

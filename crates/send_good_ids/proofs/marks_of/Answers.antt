@@ -4,23 +4,17 @@ use Rattle.codec_wire.proofs.Steps.{step_next, pars_next, pars_stop}
 use Rattle.send_good_ids.specs.Inner.Marks.{rest_all, rest_next, rest_end}
 use Rattle.send_good_ids.proofs.marks_of.Goals as goal
 
-pub guesses-requires : goal.guesses-requires
-guesses-requires c = c.requires.0
-
 pub loop-tag-init : goal.loop-tag-init
-loop-tag-init c = let p = c.requires in (rest_all _ _ _ p.0, p.0, p.1)
+loop-tag-init c = rest_all _ _ _ c.args.ids.few
 
 pub returns-in_default : goal.returns-in_default
-returns-in_default c = rest_end _ (rw (pars_stop _ _ _ (sym c.step_at-w.ensures) c.in_default.not-Param) at c.loop-tag.invariant.0)
-
-pub mark_par-requires : goal.mark_par-requires
-mark_par-requires c = let i = c.loop-tag.invariant in (i.0.long, i.1, i.2)
+returns-in_default c = rest_end _ (rw (pars_stop _ _ _ (sym c.step_at-w.ensures) c.in_default.not-Param) at c.loop-tag.invariant)
 
 pub loop-tag-preserved : goal.loop-tag-preserved
 loop-tag-preserved c =
     let i = c.loop-tag.invariant in
     let z = pars_next _ _ _ _ _ (sym c.step_at-w.ensures ∙ c.in-Param.is) in
-    (rest_next _ _ _ (rw z at i.0) c.mark_par.ensures, i.1, i.2)
+    rest_next _ _ _ (rw z at i) c.mark_par.ensures
 
 -- the parameter lies within the message
 pub overflow_add-start : goal.overflow_add-start

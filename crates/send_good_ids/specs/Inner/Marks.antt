@@ -1,11 +1,13 @@
 -- The places of links that a message names, marked: the mark at a place says up to where it and those behind
 -- it are named.
 -- Assumes nothing.
-use Rattle.std.specs.Prelude.{◌≡◌, cond, ◌||◌, ◌&&◌, List, [], ◌∷◌, eqb, length, set, replicate}
+use Rattle.std.specs.Prelude.{◌≡◌, cond, max, ◌||◌, ◌&&◌, List, [], ◌∷◌, eqb, length, set, replicate}
 use Rattle.std.proofs.Math.Path.{refl, sym}
 use Rattle.std.proofs.Common.{ap, ◌∙◌, arith, get_or-set_same, get_or-set_other}
 use Rattle.std.proofs.Math.Bool.{Bool, true, false, or-false, or_assoc}
 use Prim.Native.Nat.{ℕ, ◌+◌, ◌-◌, ◌*◌, ◌<◌, ◌≤◌}
+use Rattle.std.specs.Bool.{then_some}
+use Rattle.std.proofs.Math.Nat.{max-le, le-max_left, le-max_right}
 use Rattle.std.proofs.Math.Decide.{dec_lt, ℕ_discrete}
 use Rattle.std.proofs.Math.Dec.{leb, ltb}
 use Rattle.std.proofs.Math.ListN.{length-set}
@@ -22,8 +24,7 @@ use Rattle.state_tables.specs.Sound.{ascends}
 use Rattle.state_tables.specs.Inner.Laws.{ascends_any}
 use Rattle.state_lookup.specs.Links.{index_of, known}
 use Rattle.state_lookup.specs.Inner.Links.{rank, rank_below, rank_from, index_own, index_is}
-use Rattle.state_index.specs.declared.Found.{Found}
-use Rattle.state_index.specs.Inner.Spots.{Finds}
+use Rattle.state_lookup.specs.Inner.Index.{IndexIs}
 use Rattle.state_ranges.specs.Inner.Ranks.{rank_here, rank_next}
 use Rattle.state_ranges.specs.Named.{some_in, some_entry, some_of, start_at, stop_at, entries}
 use Rattle.state_ranges.specs.Places.{is_from}
@@ -62,17 +63,19 @@ same_or : (u v : Bool) → v ≡ false → u ≡ (u || v)
 same_or u v e = rw e (sym (or-false u))
 
 -- below the later of two numbers is below one of them
-below_later : (x y j : ℕ) → ltb j (cond (ltb x y) y x) ≡ (ltb j x || ltb j y)
-below_later x y j = go (dec_lt x y) (dec_lt j x) (dec_lt j y)
+below_later : (x y j : ℕ) → ltb j (max x y) ≡ (ltb j x || ltb j y)
+below_later x y j = go (dec_lt j x) (dec_lt j y)
   where
-    go : Dec (x < y) → Dec (j < x) → Dec (j < y) → ltb j (cond (ltb x y) y x) ≡ (ltb j x || ltb j y)
-    go (yes a) (yes b) c = rw (lt-ltb x y a, lt-ltb j x b, lt-ltb j y (omega arith))
-    go (yes a) (no b) c = rw (lt-ltb x y a, le-ltb j x (omega arith))
-    go (no a) (yes b) c = rw (le-ltb x y (omega arith), lt-ltb j x b)
-    go (no a) (no b) c = rw (le-ltb x y (omega arith), le-ltb j x (omega arith), le-ltb j y (omega arith))
+    above : x ≤ max x y × y ≤ max x y
+    above = (le-max_left x y, le-max_right x y)
+
+    go : Dec (j < x) → Dec (j < y) → ltb j (max x y) ≡ (ltb j x || ltb j y)
+    go (yes b) c = rw (lt-ltb j x b) (lt-ltb j (max x y) (omega (arith, above)))
+    go (no b) (yes c) = rw (le-ltb j x (omega arith), lt-ltb j y c) (lt-ltb j (max x y) (omega (arith, above)))
+    go (no b) (no c) = rw (le-ltb j x (omega arith), le-ltb j y (omega arith)) (le-ltb j (max x y) (max-le (omega arith) (omega arith)))
 
 -- the mark of first goes up to past, where it went less far
-module _ (until : List ℕ) (first past m : ℕ) (b : first < length until) (e : m ≡ cond (ltb (number_at until first) past) past (number_at until first)) where
+module _ (until : List ℕ) (first past m : ℕ) (b : first < length until) (e : m ≡ max (number_at until first) past) where
   abbrev old : ℕ → ℕ → Bool
   old l k = ltb l (number_at until k)
 
@@ -195,39 +198,29 @@ past_most past l false e b = omega arith
 
 -- ---- an identifier of which a table says where it stands: what is unknown marks nothing
 
-module _ (iid : List ℕ) (links x : ℕ) (h : ascends iid links ≡ true) {f : Found} (s : Finds iid links x f) where
+module _ (iid : List ℕ) (links x : ℕ) (h : ascends iid links ≡ true) where
   -- the number x alone
   alone : (y : ℕ) → is_from x x y ≡ true → y ≡ x
   alone y e = omega (arith, from_low x x y e, from_high x x y e)
 
-  unknown : known iid links x ≡ false → (l : ℕ) → l < links → is_from x x (number_at iid l) ≡ false
-  unfolding known
+  unknown : links ≡ index_of iid links x → (l : ℕ) → l < links → is_from x x (number_at iid l) ≡ false
   unknown n l b =
       false_of (is_from x x (number_at iid l))
-      (λ e. let i : index_of iid links x ≡ l = rw (alone (number_at iid l) e) at (index_own iid links h l b) in
-      clash (ltb (index_of iid links x) links) n (rw i (lt-ltb l links b)))
+      (λ e. let i : index_of iid links x ≡ l = rw (alone (number_at iid l) e) at (index_own iid links h l b) in omega arith)
 
-  none_marked : (u v : Bool) (l : ℕ) → v ≡ false → (u || (leb f.at l && ltb l 0)) ≡ (u || v)
-  none_marked u v l e = rw (le-ltb l 0 (omega arith), e, never (leb f.at l))
+  none_marked : (i : ℕ) (u v : Bool) (l : ℕ) → v ≡ false → (u || (leb i l && ltb l 0)) ≡ (u || v)
+  none_marked i u v l e = rw (le-ltb l 0 (omega arith), e, never (leb i l))
     where
       never : (w : Bool) → (w && false) ≡ false
       never true = refl
       never false = refl
 
-  pub found_adds : {until next : List ℕ} {past : ℕ} → past ≡ cond f.known (f.at + 1) 0 → Marked until f.at past next → Adds until iid links (is_from x x) next
-  unfolding known
-  found_adds {until} {next} {past} p m = go f.known refl
-    where
-      go : (v : Bool) → f.known ≡ v → Adds until iid links (is_from x x) next
-      go true e =
-          let k : ltb (index_of iid links x) links ≡ true = sym s.known_is ∙ e in
-          let i : f.at ≡ index_of iid links x = s.at_is k in
-          let b : f.at < links = omega (arith, i, ltb-true (index_of iid links x) links k) in
-          let z : number_at iid f.at ≡ x = rw i (index_is iid links x (ltb-true (index_of iid links x) links k)) in
-          range_adds iid links x x h (rank_here iid links h x f.at b z) (p ∙ rw e (rank_next iid links h x f.at b z)) m
-      go false e =
-          let q : past ≡ 0 = p ∙ rw e in
-          record { long = m.long; at = λ l b. m.at l ∙ rw q (none_marked (covered until l) (is_from x x (number_at iid l)) l (unknown (sym s.known_is ∙ e) l b)) }
+  pub found_adds : {until next : List ℕ} {past : ℕ} (known : Bool) (l : ℕ) → IndexIs iid links x (then_some known l) → past ≡ cond known (l + 1) 0 → Marked until l past next → Adds until iid links (is_from x x) next
+  found_adds true l s p m =
+      let z : number_at iid l ≡ x = rw s.0 (index_is iid links x (rw s.0 at s.1)) in
+      range_adds iid links x x h (rank_here iid links h x l s.1 z) (p ∙ rank_next iid links h x l s.1 z) m
+  found_adds {until} false i s p m =
+      record { long = m.long; at = λ l b. m.at l ∙ rw p (none_marked i (covered until l) (is_from x x (number_at iid l)) l (unknown s l b)) }
 
 -- a range names the numbers from start to stop
 range_names : (start stop x : ℕ) → is_from start stop x ≡ some_in (eqb x) start stop
@@ -269,16 +262,14 @@ pub record Passed (pairs : Bool) (until value iid : List ℕ) (links n i : ℕ) 
   pub all : n ≡ entries pairs value
   pub within : i ≤ n
   pub long : length next ≡ 128
-  pub few : links ≤ 128
-  pub up : ascends iid links ≡ true
 
 module _ {pairs : Bool} {until value iid : List ℕ} {links n : ℕ} where
-  pub passed_none : n ≡ entries pairs value → (length until ≡ 128) × (links ≤ 128) × (ascends iid links ≡ true) → Passed pairs until value iid links n 0 until
-  passed_none e h = record { adds = entries_none pairs value; all = e; within = omega arith; long = h.0; few = h.1; up = h.2 }
+  pub passed_none : n ≡ entries pairs value → length until ≡ 128 → Passed pairs until value iid links n 0 until
+  passed_none e h = record { adds = entries_none pairs value; all = e; within = omega arith; long = h }
 
   pub passed_more : {i start stop : ℕ} {next last : List ℕ} → Passed pairs until value iid links n i next → i < n → start ≡ start_at pairs value i → stop ≡ stop_at pairs value i
       → Adds next iid links (is_from start stop) last → Passed pairs until value iid links n (i + 1) last
-  passed_more {i} w b p q a = record { adds = entries_more pairs value i p q w.adds a; all = w.all; within = omega arith; long = a.long ∙ w.long; few = w.few; up = w.up }
+  passed_more {i} w b p q a = record { adds = entries_more pairs value i p q w.adds a; all = w.all; within = omega arith; long = a.long ∙ w.long }
 
   pub passed_end : {i : ℕ} {next : List ℕ} → Passed pairs until value iid links n i next → n ≤ i → Adds until iid links (λ x. some_of (eqb x) pairs value) next
   passed_end {i} w b = entries_end pairs value i (omega (arith, w.all, w.within)) w.adds
@@ -343,7 +334,7 @@ pub record Swept (until : List ℕ) (l past : ℕ) : Type 0 where
 pub swept_none : (until : List ℕ) → Swept until 0 0
 swept_none until = record { at = λ m. le-ltb m 0 (omega arith) ∙ sym (any_none _) }
 
-pub swept_more : {until : List ℕ} {l past next : ℕ} → Swept until l past → next ≡ cond (ltb past (number_at until l)) (number_at until l) past → Swept until (l + 1) next
+pub swept_more : {until : List ℕ} {l past next : ℕ} → Swept until l past → next ≡ max past (number_at until l) → Swept until (l + 1) next
 swept_more {until} {l} {past} s e = record { at = λ m. ap (ltb m) e ∙ below_later past (number_at until l) m ∙ rw (any_more (λ k. ltb m (number_at until k)) l, s.at m) }
 
 swept_covered : {until : List ℕ} {past : ℕ} (l : ℕ) → Swept until (l + 1) past → ltb l past ≡ covered until l

@@ -34,24 +34,19 @@ module _ (iid owner : List ℕ) (links : ℕ) (t : Table iid owner links) (mine 
           let i = index_here iid links t.order x b z in
           omega arith
 
-  -- a place of the column, whether x is known or not
-  pub found_small : (at : Option ℕ) → IndexIs iid links x at → unwrap_or at 0 < 128
-  found_small (Some l) h = omega (arith, t.few, h.1)
-  found_small None h = omega arith
-
   -- what x names: a is the owner at its place
   module _ (old : Option ℕ) (flags : List Bool) (n : length flags ≡ 16) (a : ℕ) (r : Named) where
-    pub found_names : (at : Option ℕ) → IndexIs iid links x at → a ≡ number_at owner (unwrap_or at 0) % 16 → r.refused ≡ option_or old (then_some (not (is_some at && flag_at mine a)) x)
-        → members r.set ≡ cond (is_some at) (set flags a true) flags
+    pub found_names : (known : Bool) (l : ℕ) → IndexIs iid links x (then_some known l) → a ≡ number_at owner l % 16 → r.refused ≡ option_or old (then_some (not (known && flag_at mine a)) x)
+        → members r.set ≡ cond known (set flags a true) flags
         → Names r (earlier (as_refused old) (first_in (refused_by iid owner links mine) x x)) (tabulate 16 (λ a. flag_at flags a || some_in (is_owned_by iid owner links a) x x))
-    found_names (Some l) h o p q =
+    found_names true l h o p q =
         let z : number_at iid l ≡ x = rw h.0 (index_is iid links x (rw h.0 at h.1)) in
         let own : a ≡ number_at owner l = omega (arith, o, owner_small iid owner links t l h.1) in
         record {
           refused = ap as_refused p ∙ as_or old _ ∙ ap (earlier (as_refused old)) (present_refusal iid owner links t mine l x (rank_here iid links t.order x l h.1 z) h.1 z (flag_at mine a) (ap (flag_at mine) own));
           set = q ∙ alone_marked iid owner links t l x a h.1 z own flags n;
         }
-    found_names None h o p q =
+    found_names false l h o p q =
         record {
           refused = ap as_refused p ∙ as_or old _ ∙ ap (earlier (as_refused old)) (absent_refused iid owner links t (rank iid links x) x refl (nowhere h) mine);
           set = q ∙ absent_none iid owner links t (rank iid links x) x refl (nowhere h) flags n;

@@ -30,19 +30,23 @@ returns-then-is_within c =
     let t = table_of c.args.links in
     let f = c.rank_at-first.ensures.0 in
     let p = c.past_of-past.ensures.0 in
-    let o = c.owners_between-all.ensures in
-    (record {
-      refused = range_good _ _ _ t _ _ _ _ f p (members c.args.set) _ o.0 _ c.if-stop-start.false c.if-past-first.true (sym c.is_within.ensures ∙ c.if-is_within.true);
-      set = owners_range _ _ _ t _ _ _ _ f p (members c.args.set) _ o.0;
-    }, o.1)
+    let o = c.owners_between-all.ensures in (
+      record {
+        refused = range_good _ _ _ t _ _ _ _ f p (members c.args.set) _ o.0 _ c.if-stop-start.false c.if-past-first.true (sym c.is_within.ensures ∙ c.if-is_within.true);
+        set = owners_range _ _ _ t _ _ _ _ f p (members c.args.set) _ o.0;
+      },
+      o.1,
+    )
 
 pub first_refused-requires : goal.first_refused-requires
 first_refused-requires c = (c.rank_at-first.ensures.0, c.if-stop-start.false)
 
 pub returns : goal.returns
 returns c =
-    let o = c.owners_between-all.ensures in
-    (record {
-      refused = c.first_refused.ensures;
-      set = owners_range _ _ _ (table_of c.args.links) _ _ _ _ c.rank_at-first.ensures.0 c.past_of-past.ensures.0 (members c.args.set) _ o.0;
-    }, o.1)
+    let o = c.owners_between-all.ensures in (
+      record {
+        refused = c.first_refused.ensures;
+        set = owners_range _ _ _ (table_of c.args.links) _ _ _ _ c.rank_at-first.ensures.0 c.past_of-past.ensures.0 (members c.args.set) _ o.0;
+      },
+      o.1,
+    )

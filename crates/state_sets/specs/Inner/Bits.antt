@@ -113,8 +113,8 @@ pub flag_zero : (a : ℕ) → a < 16 → flag_at (flags_of 0) a ≡ false
 flag_zero a b = ap (λ (l : List Bool). flag_at l a) flags_zero ∙ get_or-replicate 16 a false false b
 
 -- none of the ASes was looked at
-pub half_zero : (f : ℕ → Bool) → Half f (flag_at (flags_of 0)) 16 0 (flags_of 0)
-half_zero f = half_none f 16 (flags_of 0) (flags_long 0)
+pub half_empty : (f : ℕ → Bool) {l : List Bool} → l ≡ replicate 16 false → Half f (flag_at (flags_of 0)) 16 0 l
+half_empty f e = rw (e ∙ sym flags_zero) (half_none f 16 (flags_of 0) (flags_long 0))
 
 -- AS k is looked at
 pub half_if : (f : ℕ → Bool) (k : ℕ) {l next : List Bool} (t : Bool) → Half f (flag_at (flags_of 0)) 16 k l → k < 16 → t ≡ f k → next ≡ cond t (set l k true) l → Half f (flag_at (flags_of 0)) 16 (k + 1) next
