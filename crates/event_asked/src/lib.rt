@@ -12,6 +12,7 @@ ghost use Rattle.event_asked.specs.Inner.Place.{asp_in, asp_named, known_in, Nam
 
 use codec_read::Reading;
 use rules_event::Link;
+use state_lookup::Identifiers;
 
 // The numbers of the six kinds of event.
 pub const MESSAGE: u32 = 0;
@@ -108,7 +109,8 @@ fn place_in(iid: &[u32; 128], links: usize, r: Reading, asp: usize) -> Place
     ensures { Placed links (link_in links iid.now r) result.there result.index × (result.asp ≡ asp) }
 {
     if r.class == 6 {
-        return place_at(state_lookup::index_of(iid, links, r.id), links, asp);
+        let ids = Identifiers { iid, count: links };
+        return place_at(ids.index_of(r.id).unwrap_or(links), links, asp);
     }
     place_at(links, links, asp)
 }

@@ -20,6 +20,7 @@ ghost use Rattle.event_run.specs.Inner.Decision.{first_of, Changed, link_after, 
 use event_asked::{Ask, Place};
 use rules_event::{Asp, Decision, Link, Owner};
 use rules_server::has_some;
+use state_lookup::{Identifiers, Links};
 
 // ---- what is done
 
@@ -47,7 +48,9 @@ fn decided<'a>(
         Ask::Up(p, r) => event_asps::up_work(s, member, active, p, r),
         Ask::Down(p) => event_asps::down_work(member, p),
         Ask::Traffic(p, r, on) => {
-            event_traffic::traffic_work(on, msg, links, s, member, mode, iid, owner, p, r)
+            let ids = Identifiers { iid, count: links };
+            let plan = Links { ids, owner };
+            event_traffic::traffic_work(on, msg, s, member, mode, plan, p, r)
         }
         Ask::Other(p, r, error) => {
             let t = event_links::sender_of(s, member, active, state_tables::wide(k.owner), p);

@@ -6,8 +6,7 @@ use Rattle.codec_wire.specs.Walk.{Par}
 use Rattle.state_tables.specs.Sound.{pair}
 use Rattle.state_tables.specs.declared.Gateway.{Gateway}
 use Rattle.state_lookup.specs.Links.{index_of, known}
-use Rattle.state_ranges.specs.Named.{is_refused, is_owned_by, nothing, refused_in, some_of}
-use Rattle.state_ranges.specs.declared.Refused.{Refused}
+use Rattle.state_ranges.specs.Named.{Refused, is_refused, is_owned_by, nothing, refused_in, some_of}
 
 -- the AS that owns the link at an index
 abbrev pub owner_at : Gateway → ℕ → ℕ

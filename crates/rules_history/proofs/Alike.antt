@@ -24,7 +24,7 @@ use Rattle.state_tables.specs.Sound as sound
 use Rattle.state_tables.specs.Inner.Laws.{active_is_member, counts_within}
 use Rattle.state_tables.specs.declared.Gateway.{Gateway}
 use Rattle.state_lookup.specs.Servers.{receives, before}
-use Rattle.state_ranges.specs.declared.Refused.{Refused}
+use Rattle.state_ranges.specs.Named.{Refused}
 use Rattle.rules_server.specs.declared.Change.TheVariants.{AspUp, Activate}
 use Rattle.rules_action.specs.Words.{to_all}
 use Rattle.rules_action.specs.Types.{asp_active_ack, asp_up_ack, asp_up, asp_down, beat, beat_ack, asp_active, asp_inactive, establish_confirm, release_confirm, release_indication}

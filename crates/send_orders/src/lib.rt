@@ -25,6 +25,7 @@ use codec_write::Written;
 use rules_action::{ASP_ACTIVE_ACK, ASP_INACTIVE_ACK, Action, MGMT_ERROR, USER_DATA};
 use send_message::{Batch, Handled};
 use send_unit::Sent;
+use state_lookup::{Identifiers, Links};
 
 // A list of words that is short; a buffer that is; no action at the place that goes to an ASP.
 const SHORT_LIST: u32 = 101;
@@ -78,14 +79,9 @@ fn good_if<'a>(
     ensures { (result ≤ length block.new) × (part ≡ true → GoodMessage iid.now owner.now links (column_of member.now p) (walk msg.now 8).pars result block.new) }
 {
     if part {
-        return send_good_ids::put_good(
-            block,
-            msg,
-            links,
-            event_asps::ases_of(member, p),
-            iid,
-            owner,
-        );
+        let ids = Identifiers { iid, count: links };
+        let plan = Links { ids, owner };
+        return send_good_ids::put_good(block, msg, plan, event_asps::ases_of(member, p));
     }
     0
 }

@@ -9,8 +9,14 @@ up_work-requires c = let h = rw c.in-Up.is at c.requires.1 in omega (arith, h)
 pub down_work-requires : goal.down_work-requires
 down_work-requires c = let h = rw c.in-Down.is at c.requires.1 in omega (arith, h)
 
+pub invariant_of-ids : goal.invariant_of-ids
+invariant_of-ids c = let t = c.requires.0 in record { few = t.few; order = t.order }
+
+pub invariant_of-plan : goal.invariant_of-plan
+invariant_of-plan c = record { owned = c.requires.0.owned }
+
 pub traffic_work-requires : goal.traffic_work-requires
-traffic_work-requires c = (c.requires.0, rw c.in-Traffic.is at c.requires.1)
+traffic_work-requires c = rw c.in-Traffic.is at c.requires.1
 
 pub sender_of-t-requires : goal.sender_of-t-requires
 sender_of-t-requires c = let i = c.requires in let h = rw c.in-Other.is at i.1 in (omega (arith, c.wide.ensures, i.3), h.0)
