@@ -1,4 +1,5 @@
 use mathlib.Core.Path.{sym, ◌∙◌}
+use native.Mathlib.Omega.{arith}
 use Rattle.abi_query.proofs.Laws.{unsound_link, link_there, link_unknown}
 use Rattle.state_ranges.specs.Inner.Laws.{table}
 use Rattle.abi_query.proofs.m2ua_link_place_at.Goals as goal
