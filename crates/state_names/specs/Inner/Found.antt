@@ -1,20 +1,20 @@
 -- An identifier of which a table says where it stands: what it names.
 -- Assumes nothing.
-use Rattle.std.specs.Prelude.{ℕ, ◌%◌, ◌<◌, ◌≡◌, refl, Bool, false, cond, not, ◌||◌, ◌&&◌, List, Option, Some, None, ltb, length, set}
+use Rattle.std.specs.Prelude.{ℕ, ◌%◌, ◌<◌, ◌≡◌, refl, Bool, false, cond, not, ◌||◌, ◌&&◌, List, Option, ltb, length, set}
 use Rattle.std.specs.Bool.{then_some}
-use Rattle.std.specs.Option.{option_or, unwrap_or, is_some}
-use Rattle.std.proofs.Common.{sym, ap, ◌∙◌, arith}
+use Rattle.std.specs.Option.{option_or}
+use Rattle.std.proofs.Common.{ap, ◌∙◌, arith}
 use Rattle.std.proofs.Math.Bool.{true}
 use Rattle.std.proofs.Math.Dec.{eqb}
-use borrow.Author.Tests.{lt-ltb, ltb-true, eqb-true}
+use borrow.Author.Tests.{ltb-true, eqb-true}
 use Rattle.laws.specs.Columns.{flag_at, number_at, tabulate}
-use Rattle.laws.specs.Inner.Every.{and_left, and_right, false_of, clash}
-use Rattle.state_lookup.specs.Links.{index_of, known}
+use Rattle.laws.specs.Inner.Every.{and_left, and_right, false_of}
+use Rattle.state_lookup.specs.Links.{index_of}
 use Rattle.state_lookup.specs.Inner.Links.{rank, index_here, index_is}
 use Rattle.state_lookup.specs.Inner.Index.{IndexIs}
 use Rattle.state_sets.specs.Inner.Members.{members}
 use Rattle.state_ranges.specs.declared.Named.{Named}
-use Rattle.state_ranges.specs.Named.{Refused, is_owned_by, nothing, refusing, first_in, some_in}
+use Rattle.state_ranges.specs.Named.{is_owned_by, first_in, some_in}
 use Rattle.state_lookup.specs.Inner.Table.{Table}
 use Rattle.state_ranges.specs.Inner.Laws.{owner_small}
 use Rattle.state_ranges.specs.Inner.Refused.{refused_by}
