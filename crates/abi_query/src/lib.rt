@@ -9,6 +9,7 @@ ghost use Rattle.abi_query.specs.Query.{param_at, as_state_at, link_place, new_i
 
 use codec_read::DataAt;
 use codec_wire::HEADER;
+use state_lookup::Identifiers;
 
 // A state that is not sound, and an AS or a link that the plan has not.
 const NOT_SOUND: u32 = 105;
@@ -202,17 +203,19 @@ pub fn m2ua_link_place_at<'a>(
             value: 0,
         };
     }
-    let n = usize::from(links);
-    let l = state_lookup::index_of(iid, n, wanted);
-    if l < n {
-        return Answer {
+    let ids = Identifiers {
+        iid,
+        count: usize::from(links),
+    };
+    match ids.index_of(wanted) {
+        Some(l) => Answer {
             code: 0,
             value: l as u32,
-        };
-    }
-    Answer {
-        code: NOT_IN_PLAN,
-        value: 0,
+        },
+        None => Answer {
+            code: NOT_IN_PLAN,
+            value: 0,
+        },
     }
 }
 

@@ -168,6 +168,8 @@ pub fn of_event(g: Gateway, kind: u32, i: usize, msg: &[u8], room: usize, hold: 
     }
 }
 
+// Kept: docs/STATEMENTS.md names these six.
+
 // A message of ASP p.
 pub fn of_message(g: Gateway, p: usize, msg: &[u8], room: usize, hold: usize) -> [bool; 16]
     ensures { result ≡ reached g (event_of (message p msg.now) room hold) }

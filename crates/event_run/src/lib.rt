@@ -132,18 +132,18 @@ fn decided(ask: Ask, msg: &[u8], at: Place, k: Link, o: Owner, s: Asp, columns: 
 {
     let active = columns.active;
     let member = columns.member;
-    let ids = Identifiers {
-        iid: columns.iid,
-        count: usize::from(columns.links),
-    };
-    let plan = Links {
-        ids,
-        owner: columns.owner,
-    };
     match ask {
         Ask::Up(p, r) => event_asps::up_work(s, member, active, p, r),
         Ask::Down(p) => event_asps::down_work(member, p),
         Ask::Traffic(p, r, on) => {
+            let ids = Identifiers {
+                iid: columns.iid,
+                count: usize::from(columns.links),
+            };
+            let plan = Links {
+                ids,
+                owner: columns.owner,
+            };
             event_traffic::traffic_work(on, msg, s, member, columns.mode, plan, p, r)
         }
         Ask::Other(p, r, error) => {

@@ -140,6 +140,7 @@ fn past_if(named: bool, l: usize) -> usize
     if named { l + 1 } else { 0 }
 }
 
+// Kept: beside mark_few, for its speed (docs/DECISIONS.md).
 // The same of many, in no order as a rule: by a table. What is unknown marks nothing, and no branch goes by
 // it.
 fn mark_many(until: &mut [u8; 128], value: &[u8], ids: Identifiers)
@@ -149,9 +150,9 @@ fn mark_many(until: &mut [u8; 128], value: &[u8], ids: Identifiers)
     let n = state_names::entries_of(value, false);
     for i in 0..n {
         let x = state_names::start_at(value, false, i);
-        let at = state_index::find(&table, ids, x);
-        let l = at.unwrap_or(0);
-        mark(until, l, past_if(at.is_some(), l));
+        let f = state_index::find(&table, ids, x);
+        let l = f.at;
+        mark(until, l, past_if(f.known, l));
     }
 }
 

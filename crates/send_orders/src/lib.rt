@@ -94,14 +94,7 @@ fn good_if<'a>(
 {
     if part {
         let mine = event_asps::ases_of(member, p);
-        return Some(send_good_ids::put_good(
-            block,
-            msg,
-            links.ids.count,
-            mine,
-            links.ids.iid,
-            links.owner,
-        ));
+        return Some(send_good_ids::put_good(block, msg, links, mine));
     }
     None
 }

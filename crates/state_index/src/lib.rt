@@ -3,6 +3,7 @@
 #![tactic(auto)]
 
 ghost use Rattle.std.specs.Prelude.{◌≡◌, cond, ◌+◌, ◌-◌, ◌<◌, ◌≤◌, eqb};
+ghost use Rattle.std.specs.Bool.{then_some};
 ghost use Rattle.state_lookup.specs.Inner.Index.{IndexIs};
 ghost use Rattle.state_index.specs.Inner.Spots.{slot_of, Spots};
 
@@ -41,22 +42,45 @@ pub fn table_of(iid: &[u32; 128], links: usize) -> [u8; 1024]
     table
 }
 
+// Whether an identifier is known, and where it stands; else any place of the column.
+// Kept: as an Option<usize> 509 ids in no order take 13 per cent longer, since a place is chosen for none.
+#[derive(Drop)]
+pub struct Found {
+    pub known: bool,
+    pub at: usize,
+}
+
 fn before(t: usize) -> usize
     ensures { result ≡ cond (eqb t 0) 0 (t - 1) }
 {
     if t == 0 { 0 } else { t - 1 }
 }
 
-// Where identifier x stands, if it is known. No branch goes by whether it is, so that identifiers in no order
-// cost no wrong guesses of the processor; a search is made where several links fall on one spot.
-pub fn find<'a>(table: &'a [u8; 1024], ids: Identifiers<'a>, x: u32) -> Option<usize>
+fn searched(ids: Identifiers, x: u32) -> Found
+    ensures { IndexIs ids.entry.iid.now ids.entry.count x (then_some result.known result.at) × (result.at < 128) }
+{
+    match ids.index_of(x) {
+        Some(l) => Found { known: true, at: l },
+        None => Found {
+            known: false,
+            at: 0,
+        },
+    }
+}
+
+// Where identifier x stands. No branch goes by whether it is known, so that identifiers in no order cost no
+// wrong guesses of the processor; a search is made where several links fall on one spot.
+pub fn find<'a>(table: &'a [u8; 1024], ids: Identifiers<'a>, x: u32) -> Found
     requires { Spots table.now ids.iid.now ids.count }
-    ensures { IndexIs ids.entry.iid.now ids.entry.count x result }
+    ensures { IndexIs ids.entry.iid.now ids.entry.count x (then_some result.known result.at) × (result.at < 128) }
 {
     let t = table[slot_of(x)];
     if t == SEVERAL {
-        return ids.index_of(x);
+        return searched(ids, x);
     }
     let l = before(usize::from(t));
-    ((t != 0) & (ids.iid[l] == x)).then_some(l)
+    Found {
+        known: (t != 0) & (ids.iid[l] == x),
+        at: l,
+    }
 }

@@ -14,6 +14,8 @@ pub use links::{Identifiers, Links};
 
 // ---- ASes
 
+// Kept: `a < 16` and `p < 16` stand in each contract: an index type with the bound would be no plainer.
+
 // Whether ASP p is a member of AS a.
 pub fn is_member(member: &[u8; 256], a: usize, p: usize) -> bool
     requires { (a < 16) × (p < 16) }
@@ -35,6 +37,7 @@ pub fn some_active(active: &[u8; 256], a: usize) -> bool
 }
 
 // Whether some member of AS a is up.
+// Kept: beside some_active: a test of two columns, and a closure for it would be no plainer.
 pub fn some_up<'a>(up: &'a [u8; 16], member: &'a [u8; 256], a: usize) -> bool
     requires { a < 16 }
     ensures { result ≡ any_below (λ q. is_set member.now (pair a q) && is_set up.now q) 16 }
@@ -46,6 +49,7 @@ pub fn some_up<'a>(up: &'a [u8; 16], member: &'a [u8; 256], a: usize) -> bool
     found
 }
 
+// Kept: the C interface (include/m2ua.h) and Notify tell these numbers.
 // The state of AS a (Rule 5.2): 0 down, 2 inactive, 3 active, 4 pending.
 pub fn as_state<'a>(
     up: &'a [u8; 16],

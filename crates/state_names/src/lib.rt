@@ -3,6 +3,7 @@
 #![tactic(auto)]
 
 ghost use Rattle.std.specs.Prelude.{◌≡◌, true, false, cond, ◌||◌, ◌<◌, ◌≤◌};
+ghost use Rattle.std.specs.Bool.{then_some};
 ghost use Rattle.laws.specs.Columns.{flag_at, tabulate};
 ghost use Rattle.state_lookup.specs.Inner.Links.{rank};
 ghost use Rattle.state_lookup.specs.Inner.Index.{IndexIs};
@@ -13,6 +14,7 @@ ghost use Rattle.state_ranges.specs.Inner.Owners.{Looked};
 ghost use Rattle.state_ranges.specs.Inner.Names.{earlier, as_refused, Names};
 ghost use Rattle.state_names.specs.Inner.Run.{GoodAt, GoesOn};
 
+use state_index::Found;
 use state_lookup::{Identifiers, Links};
 use state_ranges::Named;
 use state_sets::AsSet;
@@ -80,22 +82,23 @@ fn in_order(go: bool, from: Run, value: &[u8], links: Links, mine: AsSet) -> Run
 // From so many bytes on a table of the links is worth its time.
 pub const MANY: usize = 256;
 
-// What was named before, with x, that stands at `at` if it is known. (No branch goes by whether it is: so an
-// owner is read for one that is not known too, and what is left over of it by 16.)
-fn with_found(old: Named, links: Links, mine: AsSet, at: Option<usize>, x: u32) -> Named
-    requires { IndexIs links.ids.iid.now links.ids.count x at }
+// What was named before, with x, of which a table says where it stands. (A place that is not that of x may
+// have any owner: so what is left over by 16.)
+fn with_found(old: Named, links: Links, mine: AsSet, f: Found, x: u32) -> Named
+    requires { IndexIs links.ids.iid.now links.ids.count x (then_some f.known f.at) × (f.at < 128) }
     ensures { Names result (earlier (as_refused old.refused) (first_in (refused_of links.entry mine) x x)) (tabulate 16 (λ a. flag_at (members old.set) a || some_in (owned_of links.entry a) x x)) }
 {
-    let known = at.is_some();
-    let a = usize::from(links.owner[at.unwrap_or(0)]) % 16;
-    let good = known & mine.has(a);
+    let l = f.at;
+    let a = usize::from(links.owner[l]) % 16;
+    let good = f.known & mine.has(a);
     Named {
         refused: old.refused.or((!good).then_some(x)),
-        set: old.set.with_if(a, known),
+        set: old.set.with_if(a, f.known),
     }
 }
 
 // The same of many, in no order as a rule.
+// Kept: beside of_few, which in_order serves: each is faster where it is taken (docs/DECISIONS.md).
 fn of_many(old: Named, value: &[u8], links: Links, mine: AsSet) -> Named
     ensures { Names result (earlier (as_refused old.refused) (refused_in (refused_of links.entry mine) false value.now)) (tabulate 16 (λ a. flag_at (members old.set) a || some_of (owned_of links.entry a) false value.now)) }
 {
@@ -104,8 +107,8 @@ fn of_many(old: Named, value: &[u8], links: Links, mine: AsSet) -> Named
     let mut r = old;
     for i in 0..n {
         let x = codec_wire::get32(value, 4 * i);
-        let at = state_index::find(&table, links.ids, x);
-        r = with_found(r, links, mine, at, x);
+        let f = state_index::find(&table, links.ids, x);
+        r = with_found(r, links, mine, f, x);
     }
     r
 }
@@ -167,6 +170,7 @@ pub fn of_ranges(old: Named, far: &mut [u8; 128], value: &[u8], links: Links, mi
 }
 
 // ---- the owners alone; pairs says that the tag is 0x8
+// Kept: `pairs` is what the believed definitions of state_ranges/specs/Named ask (`entries`, `some_of`).
 
 pub fn entries_of(value: &[u8], pairs: bool) -> usize
     ensures { result ≡ entries pairs value.now }

@@ -1,4 +1,5 @@
 use mathlib.Core.Path.{sym, ◌∙◌}
+use native.Mathlib.Omega.{arith}
 use Rattle.abi_query.proofs.Laws.{unsound_link, link_there, link_unknown}
 use Rattle.state_ranges.specs.Inner.Laws.{table}
 use Rattle.abi_query.proofs.m2ua_link_place_at.Goals as goal
@@ -6,15 +7,17 @@ use Rattle.abi_query.proofs.m2ua_link_place_at.Goals as goal
 pub returns-then-not-sound : goal.returns-then-not-sound
 returns-then-not-sound c = unsound_link _ _ (sym c.sound_of-sound.ensures ∙ c.if-not-sound.true)
 
-pub index_of-l-requires : goal.index_of-l-requires
-index_of-l-requires c =
+pub invariant_of-ids : goal.invariant_of-ids
+invariant_of-ids c =
     let t = table _ (sym c.sound_of-sound.ensures ∙ c.if-not-sound.false) in
-    (rw c.from-n.ensures t.few, rw c.from-n.ensures t.order)
+    record { few = rw c.from-n.ensures t.few; order = rw c.from-n.ensures t.order }
 
-pub returns-then-l-n : goal.returns-then-l-n
-returns-then-l-n c =
-    link_there _ _ _ (sym c.sound_of-sound.ensures ∙ c.if-not-sound.false) (rw c.from-n.ensures at c.index_of-l.ensures) (rw c.from-n.ensures at c.if-l-n.true)
+pub returns-in-Some : goal.returns-in-Some
+returns-in-Some c =
+    let i = rw c.from-n.ensures at c.in-Some.ensures in
+    link_there _ _ _ (sym c.sound_of-sound.ensures ∙ c.if-not-sound.false) i.0 i.1
 
-pub returns : goal.returns
-returns c =
-    link_unknown _ _ _ (sym c.sound_of-sound.ensures ∙ c.if-not-sound.false) (rw c.from-n.ensures at c.index_of-l.ensures) (rw c.from-n.ensures at c.if-l-n.false)
+pub returns-in-None : goal.returns-in-None
+returns-in-None c =
+    let i = rw c.from-n.ensures at c.in-None.ensures in
+    link_unknown _ _ _ (sym c.sound_of-sound.ensures ∙ c.if-not-sound.false) i (omega arith)

@@ -57,6 +57,25 @@ invariant_of-plan c =
     let a = passed g c.args.kind c.args.i c.args.room c.args.hold c.args.msg.now c.refused.ensures c.link_at-k.ensures c.is_sound-sound.ensures c.placed-at.ensures.1 c.asked-ask.ensures (ap refusal_code c.in-Ok.is) in
     record { owned = rw c.from.ensures (table g a.sound_yes).owned }
 
+-- an event that is not refused is one of a sound state, and fits it
+passed : (g : Gateway) (kind i room hold : ℕ) (s : List ℕ) {ask : Ask} {sound there : Bool} {k : Link} {n no : ℕ}
+    → no ≡ refusal_of sound (known_in g.asps g.ases there k ask) (lending room hold) → k ≡ link_at g n → sound ≡ is_sound g
+    → (sound ≡ true → Named g.links g.iid ask there n) → Asks kind i s ask → no ≡ 0 → Accepted (is_sound g) (in_plan g (happened kind i s)) (lending room hold)
+passed g kind i room hold s e q z p a h = accepted _ _ _ (sym (refusal_is g kind i room hold s e q z p a) ∙ h)
+
+pub invariant_of-ids : goal.invariant_of-ids
+invariant_of-ids c =
+    let g = c.args.g in
+    let a = passed g c.args.kind c.args.i c.args.room c.args.hold c.args.msg.now c.refused-code.ensures c.link_at-k.ensures c.is_sound-sound.ensures c.placed-at.ensures.1 c.asked-ask.ensures c.if-code-ne0.false in
+    let t = table g a.sound_yes in
+    record { few = rw c.from.ensures t.few; order = rw c.from.ensures t.order }
+
+pub invariant_of-plan : goal.invariant_of-plan
+invariant_of-plan c =
+    let g = c.args.g in
+    let a = passed g c.args.kind c.args.i c.args.room c.args.hold c.args.msg.now c.refused-code.ensures c.link_at-k.ensures c.is_sound-sound.ensures c.placed-at.ensures.1 c.asked-ask.ensures c.if-code-ne0.false in
+    record { owned = rw c.from.ensures (table g a.sound_yes).owned }
+
 pub row_of-row-requires : goal.row_of-row-requires
 row_of-row-requires c =
     let g = c.args.g in

@@ -1,4 +1,3 @@
-use native.Mathlib.Omega.{arith}
 use Rattle.event_reach.proofs.row_of.Goals as goal
 
 pub column_of-requires : goal.column_of-requires

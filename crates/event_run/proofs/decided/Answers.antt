@@ -4,6 +4,12 @@ use Rattle.event_decision.specs.Inner.Decides.{decided}
 use Rattle.event_run.specs.Inner.Columns.{asp_at_lem, up_on, down_on, message_on, other_on}
 use Rattle.event_run.proofs.decided.Goals as goal
 
+pub invariant_of-ids : goal.invariant_of-ids
+invariant_of-ids c = let t = c.requires.0 in record { few = rw c.from.ensures t.few; order = rw c.from.ensures t.order }
+
+pub invariant_of-plan : goal.invariant_of-plan
+invariant_of-plan c = record { owned = rw c.from.ensures c.requires.0.owned }
+
 pub traffic_work-requires : goal.traffic_work-requires
 traffic_work-requires c = rw c.in-Traffic.is at c.requires.1
 

@@ -14,21 +14,19 @@ loop-i-init c = (passed_none c.entries_of-n.ensures c.told-until, c.table_of-tab
 pub start_at-x-requires : goal.start_at-x-requires
 start_at-x-requires c = omega (arith, c.loop-i.invariant.0.all)
 
-pub find-at-requires : goal.find-at-requires
-find-at-requires c = c.loop-i.invariant.1
+pub find-f-requires : goal.find-f-requires
+find-f-requires c = c.loop-i.invariant.1
 
 pub past_if-requires : goal.past_if-requires
-past_if-requires c = rw c.unwrap_or-l.ensures (index_small _ _ _ c.args.ids.few _ c.find-at.ensures)
+past_if-requires c = c.find-f.ensures.1
 
 pub mark-requires : goal.mark-requires
-mark-requires c =
-    let b = rw (sym c.unwrap_or-l.ensures) at (index_small _ _ _ c.args.ids.few _ c.find-at.ensures) in
-    (b, past_most _ _ c.is_some.result c.past_if.ensures b)
+mark-requires c = let b = c.find-f.ensures.1 in (b, past_most _ _ c.find-f.result.known c.past_if.ensures b)
 
 pub loop-i-preserved : goal.loop-i-preserved
 loop-i-preserved c =
     let w = c.loop-i.invariant in
-    (passed_id w.0 (search rules) c.start_at-x.ensures (found_adds _ _ _ c.args.ids.order _ c.find-at.ensures (rw (c.unwrap_or-l.ensures, c.is_some.ensures) at c.past_if.ensures) (rw c.unwrap_or-l.ensures at c.mark.ensures)), w.1)
+    (passed_id w.0 (search rules) c.start_at-x.ensures (found_adds _ _ _ c.args.ids.order _ _ c.find-f.ensures.0 c.past_if.ensures c.mark.ensures), w.1)
 
 pub returns : goal.returns
 returns c = passed_end c.loop-i.invariant.0 (search rules)

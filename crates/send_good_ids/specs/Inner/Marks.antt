@@ -1,12 +1,12 @@
 -- The places of links that a message names, marked: the mark at a place says up to where it and those behind
 -- it are named.
 -- Assumes nothing.
-use Rattle.std.specs.Prelude.{◌≡◌, Option, Some, None, cond, max, ◌||◌, ◌&&◌, List, [], ◌∷◌, eqb, length, set, replicate}
+use Rattle.std.specs.Prelude.{◌≡◌, cond, max, ◌||◌, ◌&&◌, List, [], ◌∷◌, eqb, length, set, replicate}
 use Rattle.std.proofs.Math.Path.{refl, sym}
 use Rattle.std.proofs.Common.{ap, ◌∙◌, arith, get_or-set_same, get_or-set_other}
 use Rattle.std.proofs.Math.Bool.{Bool, true, false, or-false, or_assoc}
 use Prim.Native.Nat.{ℕ, ◌+◌, ◌-◌, ◌*◌, ◌<◌, ◌≤◌}
-use Rattle.std.specs.Option.{unwrap_or, is_some}
+use Rattle.std.specs.Bool.{then_some}
 use Rattle.std.proofs.Math.Nat.{max-le, le-max_left, le-max_right}
 use Rattle.std.proofs.Math.Decide.{dec_lt, ℕ_discrete}
 use Rattle.std.proofs.Math.Dec.{leb, ltb}
@@ -208,19 +208,19 @@ module _ (iid : List ℕ) (links x : ℕ) (h : ascends iid links ≡ true) where
       false_of (is_from x x (number_at iid l))
       (λ e. let i : index_of iid links x ≡ l = rw (alone (number_at iid l) e) at (index_own iid links h l b) in omega arith)
 
-  none_marked : (u v : Bool) (l : ℕ) → v ≡ false → (u || (leb 0 l && ltb l 0)) ≡ (u || v)
-  none_marked u v l e = rw (le-ltb l 0 (omega arith), e, never (leb 0 l))
+  none_marked : (i : ℕ) (u v : Bool) (l : ℕ) → v ≡ false → (u || (leb i l && ltb l 0)) ≡ (u || v)
+  none_marked i u v l e = rw (le-ltb l 0 (omega arith), e, never (leb i l))
     where
       never : (w : Bool) → (w && false) ≡ false
       never true = refl
       never false = refl
 
-  pub found_adds : {until next : List ℕ} {past : ℕ} (at : Option ℕ) → IndexIs iid links x at → past ≡ cond (is_some at) (unwrap_or at 0 + 1) 0 → Marked until (unwrap_or at 0) past next → Adds until iid links (is_from x x) next
-  found_adds (Some l) s p m =
+  pub found_adds : {until next : List ℕ} {past : ℕ} (known : Bool) (l : ℕ) → IndexIs iid links x (then_some known l) → past ≡ cond known (l + 1) 0 → Marked until l past next → Adds until iid links (is_from x x) next
+  found_adds true l s p m =
       let z : number_at iid l ≡ x = rw s.0 (index_is iid links x (rw s.0 at s.1)) in
       range_adds iid links x x h (rank_here iid links h x l s.1 z) (p ∙ rank_next iid links h x l s.1 z) m
-  found_adds {until} None s p m =
-      record { long = m.long; at = λ l b. m.at l ∙ rw p (none_marked (covered until l) (is_from x x (number_at iid l)) l (unknown s l b)) }
+  found_adds {until} false i s p m =
+      record { long = m.long; at = λ l b. m.at l ∙ rw p (none_marked i (covered until l) (is_from x x (number_at iid l)) l (unknown s l b)) }
 
 -- a range names the numbers from start to stop
 range_names : (start stop x : ℕ) → is_from start stop x ≡ some_in (eqb x) start stop

@@ -16,4 +16,6 @@ bounds-ids-l c = spot_within c.requires c.args.ids.order _ _ (ap (number_at c.ar
 
 pub returns : goal.returns
 returns c =
-    spot_finds c.requires c.args.ids.order _ _ (ap (number_at c.args.table.now) c.slot_of.ensures.0) c.if-t.false _ (rw c.from.ensures at c.before-l.ensures) _ c.then_some.ensures
+    let w = rw c.from.ensures at c.before-l.ensures in
+    let e = ap (number_at c.args.table.now) c.slot_of.ensures.0 in
+    (spot_finds c.requires c.args.ids.order _ _ e c.if-t.false _ w _ refl, spot_within c.requires c.args.ids.order _ _ e c.if-t.false _ w c.args.ids.few)

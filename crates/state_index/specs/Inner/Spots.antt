@@ -4,17 +4,15 @@ use Rattle.std.specs.Bool.{then_some}
 use Rattle.std.specs.Prelude.{ℕ, ◌+◌, ◌-◌, ◌*◌, ◌/◌, ◌%◌, ◌<◌, ◌≤◌, ◌≡◌, true, cond, not, ◌&&◌, List, Option, length, set, replicate}
 use Rattle.std.proofs.Common.{ap, ◌∙◌, length-set, get_or-set_same, get_or-set_other}
 use Rattle.std.proofs.Math.Path.{sym}
-use Rattle.std.proofs.Math.Bool.{false}
-use Rattle.std.proofs.lemmas.Bool.{false≢true}
 use native.Mathlib.Omega.{arith}
 use Rattle.std.proofs.Math.Decide.{ℕ_discrete}
-use Rattle.std.proofs.Math.Dec.{eqb, ltb}
+use Rattle.std.proofs.Math.Dec.{eqb}
 use Rattle.std.proofs.lemmas.List.{length-replicate, get_or-replicate}
-use borrow.Author.Tests.{eq-eqb, ne_eqb, lt-ltb, le-ltb}
+use borrow.Author.Tests.{eq-eqb, ne_eqb}
 use Rattle.laws.specs.Columns.{number_at}
 use Rattle.laws.specs.Inner.Rank.{first_not}
 use Rattle.state_tables.specs.Sound.{ascends}
-use Rattle.state_lookup.specs.Links.{index_of, known}
+use Rattle.state_lookup.specs.Links.{index_of}
 use Rattle.state_lookup.specs.Inner.Links.{index_own}
 use Rattle.state_lookup.specs.Inner.Index.{IndexIs}
 

@@ -18,11 +18,11 @@ pub get32-x-requires : goal.get32-x-requires
 unfolding entries
 get32-x-requires c = omega (arith, c.loop-i.invariant.2)
 
-pub find-at-requires : goal.find-at-requires
-find-at-requires c = c.loop-i.invariant.3
+pub find-f-requires : goal.find-f-requires
+find-f-requires c = c.loop-i.invariant.3
 
 pub with_found-r-requires : goal.with_found-r-requires
-with_found-r-requires c = c.find-at.ensures
+with_found-r-requires c = c.find-f.ensures
 
 pub loop-i-preserved : goal.loop-i-preserved
 unfolding start_at

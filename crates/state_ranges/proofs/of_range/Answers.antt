@@ -1,7 +1,6 @@
 use Prim.Native.Nat.{◌+◌}
 use mathlib.Core.Path.{sym, ◌∙◌}
 use native.Mathlib.Omega.{arith}
-use borrow.Author.Rules.{rules}
 use Rattle.state_sets.specs.Inner.Bits.{flags_long}
 use Rattle.state_sets.specs.Inner.Members.{members}
 use Rattle.state_lookup.specs.Inner.Table.{table_of}

@@ -1,10 +1,10 @@
 -- What the search for identifiers needs of the links; a sound state has it.
 -- Assumes nothing.
-use Rattle.std.specs.Prelude.{ℕ, ◌<◌, ◌≤◌, ◌≡◌, true, List}
+use Rattle.std.specs.Prelude.{ℕ, ◌<◌, ◌≡◌, true, List}
 use Rattle.laws.specs.Columns.{number_at}
-use Rattle.state_tables.specs.Sound.{all_under, is_sound}
+use Rattle.state_tables.specs.Sound.{is_sound}
 use Rattle.state_tables.specs.Inner.Laws.{parts, links_parts, counts_within}
-use Rattle.state_tables.specs.Inner.Column.{column_all, under_at, under_fewer, under_wider}
+use Rattle.state_tables.specs.Inner.Column.{column_all, under_at, under_wider}
 use Rattle.state_lookup.specs.Inner.Table.{Table}
 use Rattle.state_tables.specs.declared.Gateway.{Gateway}
 
@@ -21,7 +21,3 @@ table g h =
 
 pub owner_small : (iid owner : List ℕ) (links : ℕ) → Table iid owner links → (l : ℕ) → l < links → number_at owner l < 16
 owner_small iid owner links t = under_at owner 16 links t.owned
-
--- the owners of its first places are
-pub owners_under : (iid owner : List ℕ) (links : ℕ) → Table iid owner links → (past : ℕ) → past ≤ links → all_under owner 16 past ≡ true
-owners_under iid owner links t past b = under_fewer owner 16 links past b t.owned
