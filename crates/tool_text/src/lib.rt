@@ -12,7 +12,6 @@ pub use buffer::Text;
 
 // A number with one more decimal digit; none where the character is no digit or the number doesn't fit 32
 // bits.
-#[tactic(auto, unfolding(crate::specs::Inner::Parse::add_digit))]
 fn add_digit(n: u32, b: u8) -> Option<u32>
     ensures { result ≡ add_digit n b }
 {
