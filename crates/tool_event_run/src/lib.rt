@@ -13,22 +13,16 @@ ghost use Rattle.abi_node.specs.Next.{outcome_of};
 use abi_node::{Next, Node};
 use codec_write::Written;
 use state_tables::Gateway;
-use tool_event_line::EventKind;
+use tool_event_line::{Event, EventKind};
 
 // One of the six events, with the index and the message of its line.
-pub fn happen(
-    kind: EventKind,
-    index: u32,
-    msg: &[u8],
-    hold: &mut [u8],
-    words: &mut [u32],
-    g: Gateway,
-) -> Next
-    ensures { MeetsRules g (event (said kind index msg.now) words.old hold.old) words.old words.new hold.old hold.new (outcome_of result) }
+pub fn happen(e: Event, hold: &mut [u8], words: &mut [u32], g: Gateway) -> Next
+    ensures { MeetsRules g (event (said e.entry.kind e.entry.index e.entry.message.now) words.old hold.old) words.old words.new hold.old hold.new (outcome_of result) }
 {
-    let i = index as usize;
+    let i = e.index as usize;
+    let msg = e.message;
     let node = Node { gateway: g };
-    match kind {
+    match e.kind {
         EventKind::Message => node.message(i, msg, hold, words),
         EventKind::Lost => node.lost(i, hold, words),
         EventKind::Recovery => node.recovery(i, hold, words),
@@ -38,19 +32,14 @@ pub fn happen(
     }
 }
 
-// The ASes that it reaches, where its list has `room` words and its hold `hold` bytes.
-pub fn reached_by(
-    kind: EventKind,
-    index: u32,
-    msg: &[u8],
-    room: usize,
-    hold: usize,
-    g: Gateway,
-) -> [bool; 16]
-    ensures { result ≡ reached g (event_of (said kind index msg.now) room hold) }
+// The ASes that it reaches, where its list has as many words as the line says, and its hold `hold` bytes.
+pub fn reached_by(e: Event, hold: usize, g: Gateway) -> [bool; 16]
+    ensures { result ≡ reached g (event_of (said e.entry.kind e.entry.index e.entry.message.now) e.entry.words hold) }
 {
-    let i = index as usize;
-    match kind {
+    let i = e.index as usize;
+    let msg = e.message;
+    let room = e.words;
+    match e.kind {
         EventKind::Message => event_reach::of_message(g, i, msg, room, hold),
         EventKind::Lost => event_reach::of_lost(g, i, room, hold),
         EventKind::Recovery => event_reach::of_recovery(g, i, room, hold),
@@ -62,20 +51,19 @@ pub fn reached_by(
 
 // One of its actions as bytes.
 pub fn written_by<'a>(
-    kind: EventKind,
-    index: u32,
-    msg: &'a [u8],
+    e: Event<'a>,
     hold: &'a [u8],
     place: u32,
     out: &mut [u8],
     g: Gateway,
 ) -> Written
-    ensures { Sends g hold.now (said kind index msg.now) place out.old result out.new }
+    ensures { Sends g hold.now (said e.entry.kind e.entry.index e.entry.message.now) place out.old result out.new }
 {
-    let i = index as usize;
+    let i = e.index as usize;
+    let msg = e.message;
     let n = place as usize;
     let node = Node { gateway: g };
-    match kind {
+    match e.kind {
         EventKind::Message => node.message_order(i, msg, hold, n, out),
         EventKind::Lost => node.lost_order(i, hold, n, out),
         EventKind::Recovery => node.recovery_order(i, hold, n, out),

@@ -121,14 +121,7 @@ impl Session {
     {
         let e = event_of(line, &mut self.bytes)?;
         let mut list = [0u32; 2048];
-        let next = tool_event_run::happen(
-            e.kind,
-            e.index,
-            e.message,
-            self.hold.lent(),
-            &mut list[..e.words],
-            self.gateway,
-        );
+        let next = tool_event_run::happen(e, self.hold.lent(), &mut list[..e.words], self.gateway);
         self.gateway = next.node.gateway;
         put_outcome(out, next.refusal, first(&list, 4 * next.count));
         Some(())
@@ -139,14 +132,7 @@ impl Session {
         requires { length line.now ≤ 65535 }
     {
         let e = event_of(line, &mut self.bytes)?;
-        Some(tool_event_run::reached_by(
-            e.kind,
-            e.index,
-            e.message,
-            e.words,
-            self.hold.lends(),
-            self.gateway,
-        ))
+        Some(tool_event_run::reached_by(e, self.hold.lends(), self.gateway))
     }
 
     // `bytes PLACE BUFLEN` with one of these lines: the action of the event as bytes; the gateway stays as it
@@ -161,9 +147,7 @@ impl Session {
         let e = event_of(rest_of(after), &mut self.bytes)?;
         let mut message = [0u8; 8192];
         let written = tool_event_run::written_by(
-            e.kind,
-            e.index,
-            e.message,
+            e,
             self.hold.lent(),
             place,
             &mut message[..room.min(8192) as usize],
