@@ -57,25 +57,6 @@ invariant_of-plan c =
     let a = passed g c.args.kind c.args.i c.args.room c.args.hold c.args.msg.now c.refused.ensures c.link_at-k.ensures c.is_sound-sound.ensures c.placed-at.ensures.1 c.asked-ask.ensures (ap refusal_code c.in-Ok.is) in
     record { owned = rw c.from.ensures (table g a.sound_yes).owned }
 
--- an event that is not refused is one of a sound state, and fits it
-passed : (g : Gateway) (kind i room hold : ℕ) (s : List ℕ) {ask : Ask} {sound there : Bool} {k : Link} {n no : ℕ}
-    → no ≡ refusal_of sound (known_in g.asps g.ases there k ask) (lending room hold) → k ≡ link_at g n → sound ≡ is_sound g
-    → (sound ≡ true → Named g.links g.iid ask there n) → Asks kind i s ask → no ≡ 0 → Accepted (is_sound g) (in_plan g (happened kind i s)) (lending room hold)
-passed g kind i room hold s e q z p a h = accepted _ _ _ (sym (refusal_is g kind i room hold s e q z p a) ∙ h)
-
-pub invariant_of-ids : goal.invariant_of-ids
-invariant_of-ids c =
-    let g = c.args.g in
-    let a = passed g c.args.kind c.args.i c.args.room c.args.hold c.args.msg.now c.refused-code.ensures c.link_at-k.ensures c.is_sound-sound.ensures c.placed-at.ensures.1 c.asked-ask.ensures c.if-code-ne0.false in
-    let t = table g a.sound_yes in
-    record { few = rw c.from.ensures t.few; order = rw c.from.ensures t.order }
-
-pub invariant_of-plan : goal.invariant_of-plan
-invariant_of-plan c =
-    let g = c.args.g in
-    let a = passed g c.args.kind c.args.i c.args.room c.args.hold c.args.msg.now c.refused-code.ensures c.link_at-k.ensures c.is_sound-sound.ensures c.placed-at.ensures.1 c.asked-ask.ensures c.if-code-ne0.false in
-    record { owned = rw c.from.ensures (table g a.sound_yes).owned }
-
 pub row_of-row-requires : goal.row_of-row-requires
 row_of-row-requires c =
     let g = c.args.g in
@@ -88,4 +69,4 @@ returns-in-Ok c =
     let g = c.args.g in
     let a = c.asked-ask.ensures in
     let r = refusal_is g c.args.kind c.args.i c.args.room c.args.hold c.args.msg.now c.refused.ensures c.link_at-k.ensures c.is_sound-sound.ensures c.placed-at.ensures.1 a in
-    reached_yes g _ r (ap refusal_code c.in-Ok.is) (row_is g c.args.msg.now c.asked-ask.result (event_of (happened c.args.kind c.args.i c.args.msg.now) c.args.room c.args.hold) c.from.ensures c.row_of-row.ensures (a.reach g)) (rw c.from-2.ensures at c.within.ensures)
+    reached_yes g _ r (ap refusal_code c.in-Ok.is) (row_is g c.args.msg.now c.asked-ask.result (event_of (happened c.args.kind c.args.i c.args.msg.now) c.args.room c.args.hold) c.from.ensures c.row_of-row.ensures (a.reach g)) (rw c.from-in-Ok.ensures at c.within.ensures)
