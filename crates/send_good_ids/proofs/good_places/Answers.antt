@@ -1,7 +1,6 @@
 use mathlib.Core.Path.{◌∙◌}
 use native.Mathlib.Omega.{arith}
 use borrow.Author.Rules.{rules}
-use Rattle.state_ranges.specs.Inner.Laws.{owner_small}
 use Rattle.send_good_ids.specs.Inner.Marks.{swept_none, swept_more, goods_none, goods_more, goods_end}
 use Rattle.send_good_ids.proofs.good_places.Goals as goal
 

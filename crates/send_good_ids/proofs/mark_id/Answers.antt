@@ -1,6 +1,5 @@
 use mathlib.Core.Path.{sym, ◌∙◌}
 use native.Mathlib.Omega.{arith}
-use borrow.Author.Rules.{rules}
 use borrow.Author.Tests.{not-true, not-false}
 use Rattle.send_good_ids.specs.Inner.Marks.{range_unknown, range_adds, one_past}
 use mathlib.Core.Path.{ap}

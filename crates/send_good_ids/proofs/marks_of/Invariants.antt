@@ -1,9 +1,6 @@
-use Prim.Native.Nat.{◌≤◌, ◌-◌}
-use mathlib.Core.Path.{◌≡◌}
-use mathlib.Core.Bool.{true}
+use Prim.Native.Nat.{◌-◌}
 use lib.ListN.{length}
 use Rattle.codec_wire.specs.Walk.{walk}
-use Rattle.state_tables.specs.Sound.{ascends}
 use Rattle.send_good_ids.specs.Inner.Marks.{Rest}
 use Rattle.send_good_ids.proofs.marks_of.Given as goal
 

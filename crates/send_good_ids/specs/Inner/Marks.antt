@@ -15,14 +15,14 @@ use Rattle.std.proofs.lemmas.List.{get_or-replicate}
 use borrow.Author.Tests.{eq-eqb, ne_eqb, eqb-true, le-leb, lt-leb, leb-true, leb-false, lt-ltb, le-ltb, ltb-true}
 use Rattle.laws.specs.Below.{one, any_below}
 use Rattle.laws.specs.Inner.Below.{any_none, any_more, any_at, any_in}
-use Rattle.laws.specs.Inner.Every.{and_left, and_right, and_both, same_truth, or_case, false_of, clash}
+use Rattle.laws.specs.Inner.Every.{and_left, and_right, and_both, same_truth, or_case, false_of}
 use Rattle.laws.specs.Columns.{flag_at, number_at}
 use Rattle.laws.specs.Inner.Columns.{HalfCol, half_none, half_more}
 use Rattle.codec_wire.specs.Number.{be}
 use Rattle.codec_wire.specs.Walk.{Par}
 use Rattle.state_tables.specs.Sound.{ascends}
 use Rattle.state_tables.specs.Inner.Laws.{ascends_any}
-use Rattle.state_lookup.specs.Links.{index_of, known}
+use Rattle.state_lookup.specs.Links.{index_of}
 use Rattle.state_lookup.specs.Inner.Links.{rank, rank_below, rank_from, index_own, index_is}
 use Rattle.state_lookup.specs.Inner.Index.{IndexIs}
 use Rattle.state_ranges.specs.Inner.Ranks.{rank_here, rank_next}
