@@ -81,10 +81,11 @@ fn put_value(v: &[u8], out: &mut Text)
     requires { length out.old + 1 + 2 * length v.now ≤ 65536 }
     ensures { out.new ≡ out.old ++ value v.now }
 {
-    if !v.is_empty() {
-        out.push(b' ');
-        out.push_hex(v);
+    if v.is_empty() {
+        return;
     }
+    out.push(b' ');
+    out.push_hex(v);
 }
 
 fn put_tagged(style: Style, tag: u16, v: &[u8], out: &mut Text)
@@ -160,9 +161,9 @@ fn put_accepted(style: Style, r: Reading, s: &[u8], out: &mut Text)
 // What `show` says of any bytes.
 #[tactic(auto, using(std::proofs::Common::append_assoc), unfolding(crate::specs::Shown::shown_text))]
 pub fn put_shown(style: Style, s: &[u8], out: &mut Text)
-    requires { Room out.old }
+    requires { length out.old + 17000 ≤ 65536 }
     ensures text { out.new ≡ out.old ++ shown_text style s.now }
-    ensures upper_bound { Within out.old out.new }
+    ensures upper_bound { length out.new ≤ length out.old + 17000 }
 {
     let r = codec_read::read(s);
     if r.code == 0 {
@@ -175,9 +176,9 @@ pub fn put_shown(style: Style, s: &[u8], out: &mut Text)
 // What `read` says of any bytes.
 #[tactic(auto, using(std::proofs::Common::append_assoc), unfolding(crate::specs::Shown::read_text))]
 pub fn put_read(s: &[u8], out: &mut Text)
-    requires { Room out.old }
+    requires { length out.old + 17000 ≤ 65536 }
     ensures text { out.new ≡ out.old ++ read_text s.now }
-    ensures upper_bound { Within out.old out.new }
+    ensures upper_bound { length out.new ≤ length out.old + 17000 }
 {
     let r = codec_read::read(s);
     out.push_number(r.code);

@@ -11,7 +11,7 @@ use native.Mathlib.Omega.{arith}
 use native.Mathlib.Numerals.{add-one}
 use lib.ListN.{length, get_or, take, drop, set, drop_of_length-le}
 use lib.Seq.{drop-cons}
-use Rattle.std.proofs.lemmas.List.{take_more_set}
+use Rattle.std.proofs.lemmas.List.{take_more_set, drop-drop, drop-set-lt}
 use borrow.Author.Tests.{ne_eqb}
 use Rattle.tool_text.specs.Parse.{octet_of, is_hex, unhex, is_dash, octets}
 use Rattle.tool_text.specs.Word.{same}
@@ -56,6 +56,10 @@ module _ (w : List ℕ) (i : ℕ) (h : 2 * i + 1 < length w) where
   pub unhex_next : (l : List ℕ) (v : ℕ) → i < length l → Some v ≡ octet_in (get_or w (2 * i) 0) (get_or w (2 * i + 1) 0) → take (i + 1) (set l i v) ++ unhex (drop (2 * (i + 1)) w) ≡ take i l ++ unhex (drop (2 * i) w)
   unfolding unhex
   unhex_next l v k e = let p = (some_of _ _ v (sym e)).1 in sym (rw (drop_two w i h, take_more_set l i v k, append_assoc (take i l), p))
+
+-- a byte is written; what stands behind it is as it was
+pub rest_next : (l k : List ℕ) (i v : ℕ) → drop i l ≡ drop i k → drop (i + 1) (set l i v) ≡ drop (i + 1) k
+rest_next l k i v h = drop-set-lt (i + 1) l i v (omega arith) ∙ sym (drop-drop 1 i l) ∙ ap (drop 1) h ∙ drop-drop 1 i k
 
 pub number_empty : (w : List ℕ) → true ≡ eqb (length w) 0 → None ≡ number_of w
 unfolding number_of

@@ -1,41 +1,56 @@
 -- Where a line's first blank stands, and how words are compared.
 -- Assumes nothing.
-use Rattle.std.proofs.Common.{◌≡◌, refl, sym, ap, ◌∙◌, Bool, true, false, cond, not, ◌&&◌, List, [], ◌∷◌, ℕ, suc, ◌+◌, ◌-◌, ◌<◌, ◌≤◌, Some, None, length, take, drop, nat_eq, ◌==◌, position, get_or, arith, one-add, length-drop, get_or-drop}
-use Rattle.std.specs.Option.{unwrap_or}
+use Rattle.std.proofs.Common.{◌≡◌, refl, sym, ap, ◌∙◌, Bool, true, false, cond, not, ◌&&◌, List, [], ◌∷◌, ℕ, suc, ◌+◌, ◌-◌, ◌≤◌, Some, None, length, take, drop, nat_eq, ◌==◌, position, arith, one-add, length-drop, drop_of_length-le}
 use Rattle.std.specs.List.{position_or_len}
 use Rattle.std.specs.Cmp.Lexicographic.{pointwise}
-use Rattle.std.proofs.lemmas.List.Sums.{prefix_len-le-length, prefix_len_passes}
+use Rattle.std.proofs.lemmas.Bool.{ltb-false}
 use Rattle.std.proofs.lemmas.List.{take_all}
-use Rattle.std.proofs.lemmas.List.Quantifiers.{position-Some}
-use Rattle.std.proofs.lemmas.Bool.{eqb-false, eqb-true, ltb-false, not-true}
-use Rattle.std.proofs.lemmas.Option.{none-some}
+use Rattle.std.proofs.lemmas.Option.{none-some, cond_some}
 use Rattle.tool_text.specs.Word.{word_in, rest_in, same}
-use Rattle.tool_text.specs.Inner.Word.{Blank}
 
-at_first : (line : List ℕ) → Blank line (position_or_len (λ x. x == 32) line)
-unfolding word_in rest_in
-at_first [] = record { within = omega arith; word = refl; rest = refl }
-at_first (x ∷ line) =
-    let h = at_first line in
-    record { within = in_line _ (x == 32) h.within; word = before _ (x == 32) h.word; rest = behind _ (x == 32) h.rest }
+-- the word before the first blank, and the rest behind it
+word_before : (line : List ℕ) → take (position_or_len (λ x. x == 32) line) line ≡ word_in line
+unfolding word_in
+word_before [] = refl
+word_before (x ∷ line) = go _ (x == 32) (word_before line)
   where
-    in_line : (n : ℕ) (t : Bool) → n ≤ length line → cond (not t) (1 + n) 0 ≤ suc (length line)
-    in_line n true h = omega arith
-    in_line n false h = omega arith
+    go : (n : ℕ) (t : Bool) → take n line ≡ word_in line → take (cond (not t) (1 + n) 0) (x ∷ line) ≡ cond t [] (x ∷ word_in line)
+    go n true h = refl
+    go n false h = rw (one-add n) (ap (λ l. x ∷ l) h)
 
-    before : (n : ℕ) (t : Bool) → take n line ≡ word_in line → take (cond (not t) (1 + n) 0) (x ∷ line) ≡ cond t [] (x ∷ word_in line)
-    before n true h = refl
-    before n false h = rw (one-add n) (ap (λ l. x ∷ l) h)
-
-    behind : (n : ℕ) (t : Bool) → drop (n + 1) line ≡ rest_in line → drop (cond (not t) (1 + n) 0 + 1) (x ∷ line) ≡ cond t line (rest_in line)
-    behind n true h = refl
-    behind n false h = let e : 1 + n + 1 ≡ suc (n + 1) = omega arith in rw e h
-
-pub blank_first : (line : List ℕ) (n : ℕ) → n ≡ unwrap_or (position (λ x. x == 32) line) (length line) → Blank line n
-blank_first line n e = rw (e, is_first) (at_first line)
+rest_behind : (line : List ℕ) → drop (position_or_len (λ x. x == 32) line + 1) line ≡ rest_in line
+unfolding rest_in
+rest_behind [] = refl
+rest_behind (x ∷ line) = go _ (x == 32) (rest_behind line)
   where
-    is_first : unwrap_or (position (λ x. x == 32) line) (length line) ≡ position_or_len (λ x. x == 32) line
-    is_first = grind (arith, prefix_len-le-length (λ x. not (x == 32)) line)
+    go : (n : ℕ) (t : Bool) → drop (n + 1) line ≡ rest_in line → drop (cond (not t) (1 + n) 0 + 1) (x ∷ line) ≡ cond t line (rest_in line)
+    go n true h = refl
+    go n false h = let e : 1 + n + 1 ≡ suc (n + 1) = omega arith in rw e h
+
+no_place : (t : Bool) (x : ℕ) → cond t (Some x) None ≡ None → t ≡ false
+no_place true x q = absurd (none-some x (sym q))
+no_place false x q = refl
+
+module _ (line : List ℕ) where
+  module _ (at : ℕ) (e : position (λ x. x == 32) line ≡ Some at) where
+    is_at : position_or_len (λ x. x == 32) line ≡ at
+    is_at = (cond_some _ _ at e).1
+
+    pub word_some : take at line ≡ word_in line
+    word_some = ap (λ n. take n line) (sym is_at) ∙ word_before line
+
+    pub rest_some : take (length line - (at + 1)) (drop (at + 1) line) ≡ rest_in line
+    rest_some = take_all (length line - (at + 1)) (drop (at + 1) line) (omega (arith, length-drop (at + 1) line)) ∙ ap (λ n. drop (n + 1) line) (sym is_at) ∙ rest_behind line
+
+  module _ (e : position (λ x. x == 32) line ≡ None) where
+    is_past : length line ≤ position_or_len (λ x. x == 32) line
+    is_past = ltb-false _ _ (no_place _ _ e)
+
+    pub word_none : line ≡ word_in line
+    word_none = sym (take_all _ line is_past) ∙ word_before line
+
+    pub rest_none : [] ≡ rest_in line
+    rest_none = sym (drop_of_length-le line {i = position_or_len (λ x. x == 32) line + 1} (omega (arith, is_past))) ∙ rest_behind line
 
 -- slices are compared one by one
 pub same_is : (a b : List ℕ) → pointwise nat_eq a b ≡ same a b
@@ -48,34 +63,3 @@ same_is (x ∷ a) (y ∷ b) = go (nat_eq x y) (same_is a b)
     go : (t : Bool) → pointwise nat_eq a b ≡ same a b → t && pointwise nat_eq a b ≡ cond t (same a b) false
     go true e = e
     go false e = refl
-
-no_place : (t : Bool) (x : ℕ) → cond t (Some x) None ≡ None → t ≡ false
-no_place true x q = absurd (none-some x (sym q))
-no_place false x q = refl
-
--- where a byte first stands, from a place on
-module _ (s : List ℕ) (from b : ℕ) where
-  is_drop : take (length s - from) (drop from s) ≡ drop from s
-  is_drop = take_all (length s - from) (drop from s) (omega (arith, length-drop from s))
-
-  pub found_before : (at : ℕ) → position (λ x. x == b) (take (length s - from) (drop from s)) ≡ Some at → (k : ℕ) → from ≤ k → k < from + at → get_or s k 0 ≡ b → ⊥
-  found_before at e k h m q =
-      let p = position-Some (λ x. x == b) (drop from s) at 0 (rw is_drop at e) in
-      let z : from + (k - from) ≡ k = omega arith in
-      let n : get_or (drop from s) (k - from) 0 ≡ b → ⊥ = eqb-false _ b (p.2 (k - from) (omega arith)) in
-      n (get_or-drop from s (k - from) 0 ∙ rw z q)
-
-  pub found_at : (at : ℕ) → position (λ x. x == b) (take (length s - from) (drop from s)) ≡ Some at → get_or s (from + at) 0 ≡ b
-  found_at at e =
-      let p = position-Some (λ x. x == b) (drop from s) at 0 (rw is_drop at e) in
-      let n : get_or (drop from s) at 0 ≡ b = eqb-true _ b p.1 in
-      sym (get_or-drop from s at 0) ∙ n
-
-  pub found_nowhere : position (λ x. x == b) (take (length s - from) (drop from s)) ≡ None → (k : ℕ) → from ≤ k → k < length s → get_or s k 0 ≡ b → ⊥
-  found_nowhere e k h m q =
-      let g : position (λ x. x == b) (drop from s) ≡ None = rw is_drop at e in
-      let p : length (drop from s) ≤ position_or_len (λ x. x == b) (drop from s) = ltb-false _ _ (no_place _ _ g) in
-      let z : from + (k - from) ≡ k = omega arith in
-      let i : k - from < position_or_len (λ x. x == b) (drop from s) = omega (arith, length-drop from s) in
-      let n : get_or (drop from s) (k - from) 0 ≡ b → ⊥ = eqb-false _ b (not-true _ (prefix_len_passes (λ x. not (x == b)) (drop from s) (k - from) 0 i)) in
-      n (get_or-drop from s (k - from) 0 ∙ rw z q)

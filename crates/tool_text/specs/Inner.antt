@@ -1,3 +1,2 @@
 pub mod Parse
 pub mod Room
-pub mod Word

@@ -7,6 +7,7 @@ use crate::first;
 use std::marker::Model;
 
 // Clauses see the text itself. What stands behind it in the buffer is nobody's.
+// Kept: no heap, so a buffer with its length beside it, in this struct alone.
 #[derive(Drop)]
 pub struct Text {
     bytes: [u8; 65536],

@@ -1,9 +1,8 @@
 // Text out, and the words of a line in: decimal numbers and lower-case hex.
 #![tactic(auto)]
 
-ghost use Rattle.std.specs.Prelude.{◌≡◌, ◌≢◌, ◌==◌, position, IfSome, ℕ, ◌+◌, ◌*◌, ◌-◌, ◌/◌, ◌%◌, ◌≤◌, ◌<◌, length, take, slice_index, [], ◌∷◌, ◌++◌};
+ghost use Rattle.std.specs.Prelude.{◌≡◌, ◌==◌, position, IfSome, ◌/◌, ◌≤◌, ◌<◌, length, take, drop};
 ghost use Rattle.tool_text.specs.Word.{word_in, rest_in, same};
-ghost use Rattle.tool_text.specs.Inner.Word.{Blank};
 ghost use Rattle.tool_text.specs.Parse.{unhex, octets, size_of};
 ghost use Rattle.tool_text.specs.Inner.Parse.{nibble_in, octet_in, add_digit, number_of};
 
@@ -13,7 +12,6 @@ pub use buffer::Text;
 
 // A number with one more decimal digit; none where the character is no digit or the number doesn't fit 32
 // bits.
-#[tactic(auto, unfolding(crate::specs::Inner::Parse::add_digit))]
 fn add_digit(n: u32, b: u8) -> Option<u32>
     ensures { result ≡ add_digit n b }
 {
@@ -53,7 +51,7 @@ fn nibble(b: u8) -> Option<u8>
 
 // The byte of two hex digits.
 #[tactic(auto, unfolding(crate::specs::Parse::octet_of))]
-pub fn octet(h: u8, l: u8) -> Option<u8>
+fn octet(h: u8, l: u8) -> Option<u8>
     ensures { result ≡ octet_in h l }
 {
     Some(nibble(h)? * 16 + nibble(l)?)
@@ -65,6 +63,7 @@ pub fn bytes_of(w: &[u8], bytes: &mut [u8; 32768]) -> Option<usize>
     requires { length w.now ≤ 65536 }
     ensures size { result ≡ size_of w.now }
     ensures bytes { IfSome result (λ n. take n bytes.new ≡ unhex w.now) }
+    ensures rest { IfSome result (λ n. drop n bytes.new ≡ drop n bytes.old) }
 {
     if is(w, b"-") {
         return Some(0);
@@ -80,6 +79,7 @@ pub fn octets_of(w: &[u8], bytes: &mut [u8]) -> Option<usize>
     requires { length w.now / 2 ≤ length bytes.old }
     ensures size { result ≡ octets w.now }
     ensures bytes { IfSome result (λ n. take n bytes.new ≡ unhex w.now) }
+    ensures rest { IfSome result (λ n. drop n bytes.new ≡ drop n bytes.old) }
     ensures in_bounds { IfSome result (λ n. n ≤ length bytes.new) }
 {
     let n = w.len() / 2;
@@ -94,47 +94,33 @@ pub fn octets_of(w: &[u8], bytes: &mut [u8]) -> Option<usize>
 
 // ---- Words, which one blank separates.
 
-// Where a byte first stands.
-fn place_of(s: &[u8], b: u8) -> Option<usize>
-    ensures { result ≡ position (λ x. x == b) s.now }
+// Where the first blank of a line stands.
+fn first_blank(line: &[u8]) -> Option<usize>
+    ensures { result ≡ position (λ x. x == 32) line.now }
 {
-    s.iter().position(|x| *x == b)
-}
-
-// Where the first blank of a line stands; its length where there is none.
-fn blank_at(line: &[u8]) -> usize
-    ensures { Blank line.now result }
-{
-    place_of(line, b' ').unwrap_or(line.len())
+    line.iter().position(|b| *b == b' ')
 }
 
 // The first word of a line.
+#[tactic(auto, using(crate::proofs::Words::word_some, crate::proofs::Words::word_none))]
 pub fn word_of(line: &[u8]) -> &[u8]
     ensures { result.now ≡ word_in line.now }
 {
-    &line[..blank_at(line)]
+    match first_blank(line) {
+        Some(at) => &line[..at],
+        None => line,
+    }
 }
 
 // What follows the first blank of a line; nothing where there is none.
+#[tactic(auto, using(crate::proofs::Words::rest_some, crate::proofs::Words::rest_none))]
 pub fn rest_of(line: &[u8]) -> &[u8]
     ensures result_value { result.now ≡ rest_in line.now }
     ensures result_in_bounds { length result.now ≤ length line.now }
 {
-    let at = blank_at(line);
-    &line[(at + 1).min(line.len())..]
-}
-
-// Where a byte first stands in `s`, from a place on; the length of `s` where it stands nowhere there.
-pub fn find(s: &[u8], from: usize, b: u8) -> usize
-    requires { from ≤ length s.now }
-    ensures at_least { from ≤ result }
-    ensures at_most { result ≤ length s.now }
-    ensures before { (k : ℕ) → from ≤ k → k < result → slice_index s.now k ≢ b }
-    ensures found { result < length s.now → slice_index s.now result ≡ b }
-{
-    match place_of(&s[from..], b) {
-        Some(at) => from + at,
-        None => s.len(),
+    match first_blank(line) {
+        Some(at) => &line[at + 1..],
+        None => &line[..0],
     }
 }
 

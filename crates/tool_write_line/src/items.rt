@@ -8,6 +8,7 @@ use tool_text::{first, number_of, octets_of};
 
 // Tags, the lengths of the values, and the values one after the other. Of a list of more than 512 items the
 // first 512 are kept, and the values of all: it has more than 2,048 bytes either way.
+// Kept: no heap, and codec_write::write takes these columns.
 #[derive(Drop)]
 pub struct Items<'a> {
     tags: [u16; 512],
