@@ -3,7 +3,6 @@
 #![tactic(auto)]
 
 ghost use Rattle.std.specs.Prelude.{◌≡◌, true, ◌+◌, ◌*◌, ◌<◌, ◌≤◌, length};
-ghost use Rattle.laws.specs.Below.{one};
 ghost use Rattle.laws.specs.Columns.{number_at};
 ghost use Rattle.rules_action.specs.Inner.Words.{Written};
 ghost use Rattle.rules_server.specs.Record.{row, members_up, record_from, some, state_in};
@@ -39,13 +38,6 @@ pub enum Change {
     Deactivate(usize),
     Activate(usize),
     Recover,
-}
-
-// A flag as a column keeps it.
-pub fn bit(t: bool) -> u8
-    ensures { (result ≡ one t) × (result ≤ 1) }
-{
-    u8::from(t)
 }
 
 // Whether some flag is set.

@@ -226,7 +226,7 @@ pub fn good_places(s: &[u8], links: Links, mine: AsSet) -> [u8; 128]
     for l in 0..links.ids.count {
         past = past.max(until[l]);
         let named = l < usize::from(past);
-        r[l] = rules_server::bit(named & mine.has(links.owner_at(l)));
+        r[l] = u8::from(named & mine.has(links.owner_at(l)));
     }
     r
 }

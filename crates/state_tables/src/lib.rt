@@ -3,7 +3,7 @@
 #![tactic(auto)]
 
 ghost use Rattle.std.specs.Prelude.{◌≡◌, ℕ, true, cond, ◌&&◌, ◌<◌, ◌≤◌, length, ltb};
-ghost use Rattle.laws.specs.Below.{one, all_below};
+ghost use Rattle.laws.specs.Below.{all_below};
 ghost use Rattle.state_tables.specs.Inner.Every.{Every, EveryFrom};
 ghost use Rattle.state_tables.specs.Inner.Limits.{limit, limits_to, flags_of, Flags};
 ghost use Rattle.state_tables.specs.Inner.Differ.{pad_with, lacks_from};
@@ -54,18 +54,6 @@ pub struct Units {
     pub marked: [u16; 128],
     pub id: [u32; 128],
     pub correlation: [u32; 128],
-}
-
-pub fn wide(x: u8) -> usize
-    ensures { result ≡ x }
-{
-    usize::from(x)
-}
-
-pub fn unit(t: bool) -> usize
-    ensures { (result ≡ one t) × (result ≤ 1) }
-{
-    usize::from(t)
 }
 
 // A count, where it is within the table.

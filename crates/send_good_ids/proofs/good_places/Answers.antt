@@ -11,7 +11,7 @@ pub loop-l-preserved : goal.loop-l-preserved
 loop-l-preserved c =
     let i = c.loop-l.invariant in
     let s = swept_more i.1 c.max-past.ensures in
-    (goods_more _ _ i.0 (omega (arith, c.args.links.ids.few, c.loop-l-test.true)) s (c.bit.ensures.0 ∙ rw (c.from.ensures, c.has.ensures, c.owner_at.ensures.0)), s, search rules)
+    (goods_more _ _ i.0 (omega (arith, c.args.links.ids.few, c.loop-l-test.true)) s (c.from-in-loop-l.ensures ∙ rw (c.from.ensures, c.has.ensures, c.owner_at.ensures.0)), s, search rules)
 
 pub returns : goal.returns
 returns c = goods_end c.loop-l.invariant.0 c.loop-l-test.false c.marks_of-until.ensures
