@@ -5,8 +5,7 @@ use mathlib.Core.Path.{◌≡◌, refl, ◌∙◌}
 use mathlib.Core.Bool.{Bool, true, false, ◌||◌, ◌&&◌}
 use mathlib.Core.List.{List}
 use lib.Dec.{eqb, ltb}
-use mir.Val.{bool_byte}
-use Rattle.laws.specs.Below.{all_below, one}
+use Rattle.laws.specs.Below.{all_below}
 use Rattle.laws.specs.Inner.Every.{all_ext, all_two}
 use Rattle.laws.specs.Columns.{number_at}
 use Rattle.state_tables.specs.Sound.{blank_from}
@@ -21,8 +20,3 @@ both_blank_is c d n end =
     apart : (u x y : Bool) → (u || (x && y)) ≡ ((u || x) && (u || y))
     apart true x y = refl
     apart false x y = refl
-
--- a flag as the library makes a number of it
-pub one_byte : (t : Bool) → bool_byte t ≡ one t
-one_byte true = refl
-one_byte false = refl

@@ -8,6 +8,7 @@ use Rattle.std.proofs.lemmas.Bool.{false≢true}
 use Rattle.std.proofs.Math.Numerals.{add-one}
 use Rattle.std.proofs.Math.Nat.{zero-mul}
 use Rattle.std.proofs.Math.Decide.{dec_lt}
+use mir.Val.{bool_byte}
 use Rattle.laws.specs.Below.{any_below, all_below, concat_below, when, first_below, one, count_below}
 
 pub any_none : (f : ℕ → Bool) → any_below f 0 ≡ false
@@ -114,9 +115,18 @@ pub count_more : (f : ℕ → Bool) (n : ℕ) → count_below f (n + 1) ≡ coun
 unfolding count_below
 count_more f n = rw add-one
 
-one_small : (t : Bool) → one t ≤ 1
+pub one_small : (t : Bool) → one t ≤ 1
 one_small true = omega arith
 one_small false = omega arith
+
+-- a test as a number: what `u32::from` gives
+pub from_one : (t : Bool) → bool_byte t ≡ one t
+from_one true = refl
+from_one false = refl
+
+pub from_small : (t : Bool) → bool_byte t ≤ 1
+from_small true = omega arith
+from_small false = omega arith
 
 pub count_small : (f : ℕ → Bool) (n : ℕ) → count_below f n ≤ n
 unfolding count_below

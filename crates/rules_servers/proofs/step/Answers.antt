@@ -1,4 +1,4 @@
-use Rattle.state_tables.proofs.Turns.{one_byte}
+use Rattle.laws.specs.Inner.Below.{from_one}
 use mathlib.Core.Path.{ap}
 use mathlib.Core.Bool.{not}
 use mathlib.Core.Path.{◌∙◌}
@@ -21,4 +21,4 @@ pub shape_of-words : goal.shape_of-words
 shape_of-words c = written_length c.speak.ensures ∙ written_length c.let_out-m.ensures
 
 pub returns : goal.returns
-returns c = stepped_on _ _ _ (ap not c.if-not-named.false) c.record_of-s.ensures c.changed-t.ensures c.put_row.ensures (c.from.ensures ∙ one_byte _) c.overtaken_in-lost.ensures c.let_out-m.ensures c.speak.ensures c.args.k.sane
+returns c = stepped_on _ _ _ (ap not c.if-not-named.false) c.record_of-s.ensures c.changed-t.ensures c.put_row.ensures (c.from.ensures ∙ from_one _) c.overtaken_in-lost.ensures c.let_out-m.ensures c.speak.ensures c.args.k.sane

@@ -5,7 +5,7 @@ use borrow.Author.Rules.{rules}
 use Rattle.laws.specs.Below.{count_below, one}
 use Rattle.laws.specs.Inner.Below.{at_end, count_none, count_more}
 use Rattle.laws.specs.Columns.{number_at}
-use Rattle.send_message.proofs.Flags.{from_one, one_small}
+use Rattle.laws.specs.Inner.Below.{from_one, one_small}
 use Rattle.send_message.proofs.Owned.{is_owner}
 use Rattle.send_message.proofs.count_owned.Goals as goal
 

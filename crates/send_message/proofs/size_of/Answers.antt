@@ -3,7 +3,7 @@ use native.Mathlib.Omega.{arith}
 use Rattle.std.specs.Option.{is_some}
 use Rattle.laws.specs.Below.{one}
 use Rattle.codec_wire.specs.Walk.{walk}
-use Rattle.send_message.proofs.Flags.{from_one}
+use Rattle.laws.specs.Inner.Below.{from_one}
 use Rattle.send_message.proofs.Sizes.{form_size}
 use Rattle.send_message.proofs.size_of.Goals as goal
 

@@ -15,7 +15,7 @@ use Rattle.laws.specs.Below.{one}
 use Rattle.laws.specs.Columns.{number_at}
 use Rattle.rules_action.specs.declared.Action.{Action}
 use Rattle.rules_event.specs.Sent.{is_data}
-use Rattle.send_message.proofs.Flags.{from_one, one_small}
+use Rattle.laws.specs.Inner.Below.{from_one, one_small}
 use Rattle.send_unit.specs.Inner.Words.{action_in, data_in, data_more, data_small}
 use Rattle.send_unit.specs.Inner.Made.{held_of}
 use Rattle.send_orders.specs.Inner.Part.{Lent, lent_in, Ready, Again, made_in, part_in, part_of_lem, PutIf, put_as, put_length, put_none, put_done}

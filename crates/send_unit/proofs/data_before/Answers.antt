@@ -3,7 +3,7 @@ use native.Mathlib.Omega.{arith}
 use Rattle.laws.specs.Below.{one}
 use Rattle.laws.specs.Inner.Below.{at_end}
 use Rattle.rules_event.specs.Sent.{is_data}
-use Rattle.send_message.proofs.Flags.{from_one, one_small}
+use Rattle.laws.specs.Inner.Below.{from_one, one_small}
 use Rattle.send_unit.specs.Inner.Words.{action_in, data_in, data_none, data_more, data_small}
 use borrow.Author.Rules.{rules}
 use Rattle.send_unit.proofs.data_before.Goals as goal

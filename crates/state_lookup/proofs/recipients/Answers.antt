@@ -6,7 +6,7 @@ use Rattle.state_lookup.specs.Inner.Servers.{before_none, before_more, before_sm
 use Rattle.laws.specs.Inner.Columns.{half_none, half_more, half_end}
 use Rattle.laws.specs.Columns.{is_set}
 use Rattle.state_tables.specs.Sound.{pair}
-use Rattle.state_lookup.specs.Inner.Index.{from_one, from_small}
+use Rattle.laws.specs.Inner.Below.{from_one, from_small}
 use Rattle.state_lookup.proofs.recipients.Goals as goal
 
 pub loop-q-init : goal.loop-q-init

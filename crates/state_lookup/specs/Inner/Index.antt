@@ -1,11 +1,8 @@
 -- The index of a link, if an identifier has one.
 -- Assumes nothing.
 use Rattle.std.specs.Prelude.{ℕ, ◌<◌, ◌≤◌, ◌≡◌, refl, List, Option, Some, None}
-use Rattle.std.proofs.Math.Bool.{Bool, true, false}
 use Rattle.std.specs.Option.{unwrap_or, is_some}
 use Rattle.std.proofs.Common.{arith, sym, lt-ltb, le-ltb}
-use mir.Val.{bool_byte}
-use Rattle.laws.specs.Below.{one}
 use Rattle.state_lookup.specs.Links.{index_of, known}
 
 -- the link with identifier x, and none where its index is the number of links
@@ -28,12 +25,3 @@ pub index_known : (iid : List ℕ) (links x : ℕ) (r : Option ℕ) → IndexIs 
 unfolding known
 index_known iid links x (Some l) h = rw (sym h.0) (sym (lt-ltb l links h.1))
 index_known iid links x None h = rw (sym h) (sym (le-ltb links links (omega arith)))
-
--- a test as a number: what `u32::from` gives
-pub from_one : (t : Bool) → bool_byte t ≡ one t
-from_one true = refl
-from_one false = refl
-
-pub from_small : (t : Bool) → bool_byte t ≤ 1
-from_small true = omega arith
-from_small false = omega arith

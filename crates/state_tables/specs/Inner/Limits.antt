@@ -5,6 +5,7 @@ use Rattle.std.specs.Prelude.{ℕ, zero, suc, ◌<◌, ◌≤◌, ◌≡◌, ref
 use Rattle.std.proofs.Common.{arith, not-suc-le-zero, lt-ltb, le-ltb, le-leb, ne_eqb}
 use Rattle.std.proofs.Math.Decide.{dec_lt}
 use Rattle.std.proofs.lemmas.Bool.{lt-leb}
+use Rattle.laws.specs.Inner.Below.{one_small}
 use Rattle.laws.specs.Below.{all_below, any_below, one}
 use Rattle.laws.specs.Columns.{number_at, is_set, tabulate}
 use Rattle.laws.specs.Inner.Columns.{HalfCol, get_d_tabulate}
@@ -38,10 +39,6 @@ limits_at n most q b = get_d_tabulate 16 (λ q. limit (ltb q n) most) q 0 b
 pub flags_at : (c : List ℕ) (q : ℕ) → q < 16 → number_at (flags_of c) q ≡ one (is_set c q)
 unfolding flags_of
 flags_at c q b = get_d_tabulate 16 (λ q. one (is_set c q)) q 0 b
-
-pub one_small : (t : Bool) → one t ≤ 1
-one_small true = omega arith
-one_small false = omega arith
 
 pub flags_small : (l c : List ℕ) → l ≡ flags_of c → Flags l
 flags_small l c e q b = rw (e, flags_at c q b) (one_small (is_set c q))

@@ -6,7 +6,7 @@ use native.Mathlib.Omega.{arith}
 use borrow.Author.Rules.{rules}
 use Rattle.laws.specs.Below.{count_below}
 use Rattle.laws.specs.Inner.Below.{at_end, count_none, count_more}
-use Rattle.state_lookup.specs.Inner.Index.{from_one, from_small}
+use Rattle.laws.specs.Inner.Below.{from_one, from_small}
 use Rattle.state_lookup.proofs.links.below_from.Goals as goal
 
 pub loop-j-init : goal.loop-j-init

@@ -6,7 +6,7 @@ use native.Mathlib.Omega.{arith}
 use borrow.Author.Rules.{rules}
 use Rattle.laws.specs.Below.{count_below}
 use Rattle.laws.specs.Inner.Below.{at_end, count_none, count_more}
-use Rattle.state_lookup.specs.Inner.Index.{from_one, from_small}
+use Rattle.laws.specs.Inner.Below.{from_one, from_small}
 use Rattle.state_lookup.proofs.links.Identifiers.eighths_below.Goals as goal
 
 pub loop-k-init : goal.loop-k-init
