@@ -32,12 +32,12 @@ pub record Read (g : Gateway) (kind i : ℕ) (msg : List ℕ) (room size : ℕ) 
   pub code_is : refusal_code no ≡ refusal_of sound (known_in g.asps g.ases at.there (link_at g at.index) ask) (lending room size)
 
 -- by what the calls ensure
-pub read : (kind i : ℕ) {g : Gateway} {msg : List ℕ} {room size : ℕ} {ask : Ask} {sound : Bool} {at : Place} {k : Link} {no : Result (Unit {0}) EventRefusal}
+pub asked_of : (kind i : ℕ) {g : Gateway} {msg : List ℕ} {room size : ℕ} {ask : Ask} {sound : Bool} {at : Place} {k : Link} {no : Result (Unit {0}) EventRefusal}
     → sound ≡ is_sound g → Asks kind i msg ask
     → (at.index < 128) × (sound ≡ true → Named g.links g.iid ask at.there at.index) × (at.asp < 16) × (sound ≡ true → at.asp ≡ asp_in (asp_named ask))
     → k ≡ link_at g at.index → refusal_code no ≡ refusal_of sound (known_in g.asps g.ases at.there k ask) (lending room size)
     → Read g kind i msg room size ask sound at no
-read kind i s a p e c = record { sound_is = s; asks = a; near = p.0; named = p.1; asp_is = p.3; code_is = rw e at c }
+asked_of kind i s a p e c = record { sound_is = s; asks = a; near = p.0; named = p.1; asp_is = p.3; code_is = rw e at c }
 
 module _ {g : Gateway} {kind i : ℕ} {msg : List ℕ} {room size : ℕ} {ask : Ask} {sound : Bool} {at : Place} {no : Result (Unit {0}) EventRefusal} (r : Read g kind i msg room size ask sound at no) where
   pub refusal_is : refusal_code no ≡ refusal g (event_of (happened kind i msg) room size)
