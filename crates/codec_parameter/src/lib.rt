@@ -21,7 +21,7 @@ const ID_RANGE: u16 = 0x8;
 const TRAFFIC_MODE: u16 = 0xb;
 
 // The slot of every tag that no message has.
-// Kept: the reader's and the writer's tables have a place for it, so that a tag is looked up without a branch.
+// Kept: reader's and writer's tables have a place for it, so that a tag is looked up without a branch.
 const NO_SLOT: usize = 31;
 
 // How a tag stands in a message: not at all; once at most; exactly once; as often as one likes (Rule 2.11).

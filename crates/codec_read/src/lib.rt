@@ -266,8 +266,8 @@ fn read_pars(s: &[u8], info: RowInfo) -> Reading
     }
 }
 
-// The checks 3 to 5, of whether the class is listed, the row, the length field and the number of bytes: the row
-// of a message that passes.
+// The checks 3 to 5, of whether the class is listed, the row, the length field and the number of bytes: the
+// row of a message that passes.
 #[tactic(auto, unfolding(crate::specs::Inner::Seen::row_code))]
 fn row_code(listed: bool, row: Option<usize>, n: u32, len: usize) -> Result<usize, Refusal>
     ensures number { code result ≡ row_code listed row n len }
@@ -325,7 +325,7 @@ fn read_checks(s: &[u8]) -> Reading
 }
 
 // The types of which a message may have no parameter: all of the classes 3 and 4.
-// Kept: `&` and `|` without a branch, here and in is_bare: with `matches!` and `&&` an Up took 8.2 ns, so 6.8.
+// Kept: `&` and `|` without a branch, here and in is_bare: with `matches!` and `&&` an Up took 8.2 for 6.8 ns.
 #[tactic(auto, unfolding(crate::specs::Inner::Seen::needs_none))]
 fn needs_none(c: u8, t: u8) -> bool
     ensures { result ≡ needs_none c t }

@@ -18,8 +18,8 @@ struct Replay {
     ghost room: { length out ≤ 40000 },
 }
 
-// Writes the answers when they nearly fill their buffer. The only error, here and in what calls it, is that of
-// reading or writing: it ends the program.
+// Writes the answers when they nearly fill their buffer. The only error, here and in what calls it, is that
+// of reading or writing: it ends the program.
 fn flush(rt: &impl Print, out: &mut Text) -> io::Result<()>
     ensures { length out.new ≤ 40000 }
 {
@@ -67,8 +67,8 @@ impl Replay {
         rt.write_all(self.out.as_bytes())
     }
 
-    // The blocks of the input. Nothing says that the input ends, so the loop has a last block, behind any that
-    // an input has.
+    // The blocks of the input. Nothing says that the input ends, so the loop has a last block, behind any
+    // that an input has.
     // Kept: no heap, so blocks in fixed memory and not std's lines.
     fn take_input(&mut self, rt: &(impl Input + Print)) -> io::Result<()> {
         let mut input = rt.reader();
@@ -78,7 +78,7 @@ impl Replay {
                 Ok(0) => break,
                 Ok(n) => self.take_block(rt, &block[..n])?,
                 Err(e) => {
-                    // as at the end of the input: what was read is answered and written, then the error ends it
+                    // as at the end of the input: what was read is answered, then the error ends it
                     self.finish(rt)?;
                     return Err(e);
                 }

@@ -157,7 +157,7 @@ impl Moved {
 }
 
 // x without those of y
-// Kept: minus and plus differ in an operator; by std::array::from_fn with a closure the goal returns stays open.
+// Kept: minus and plus differ in an operator; by array::from_fn with a closure the goal returns stays open.
 fn minus(x: [bool; 16], y: [bool; 16]) -> [bool; 16]
     ensures { result ≡ less x y }
 {

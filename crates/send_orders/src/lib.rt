@@ -34,8 +34,8 @@ const LINK_SIDE: u32 = 255;
 // Room for the messages of every event: 2,048 bytes for each of 386 actions.
 const ROOM_BYTES: usize = 790528;
 
-// Why no message is written: the event is refused, for this number; the buffer is short; there is no action at
-// the place that goes to an ASP.
+// Why no message is written: the event is refused, for this number; the buffer is short; there is no action
+// at the place that goes to an ASP.
 #[derive(Clone, Copy)]
 pub enum Refusal {
     Event(u32),
@@ -245,8 +245,8 @@ fn put_turn<'a, 'b, 'c>(
 }
 
 // From a place on what is written for each action, one behind the other, and its length: up to the last
-// action, the last length of the list, or the first message that does not go in. `list` has the indices of the
-// units that go out, of which d are out.
+// action, the last length of the list, or the first message that does not go in. `list` has the indices of
+// the units that go out, of which d are out.
 fn put_many<'a, 'b, 'c>(
     run: Run,
     words: &[u32; 1544],

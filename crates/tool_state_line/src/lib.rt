@@ -64,8 +64,8 @@ fn put_unit(out: &mut Text, u: &Units, i: usize)
     }
 }
 
-// The units held, ASes ascending, in each the oldest first: that at index i is of AS i / 8, and only the first
-// places of an AS are in use.
+// The units held, ASes ascending, in each the oldest first: that at index i is of AS i / 8, and only the
+// first places of an AS are in use.
 // Kept: the C interface (include/m2ua.h) has these columns.
 fn put_units(out: &mut Text, u: &Units)
     requires { length out.old + 7040 ≤ 65536 }
