@@ -203,10 +203,8 @@ pub fn m2ua_link_place_at<'a>(
             value: 0,
         };
     }
-    let ids = Identifiers {
-        iid,
-        count: usize::from(links),
-    };
+    let n = usize::from(links);
+    let ids = Identifiers { iid, count: n };
     match ids.index_of(wanted) {
         Some(l) => Answer {
             code: 0,

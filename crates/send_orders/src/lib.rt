@@ -149,7 +149,7 @@ fn put_new<'a, 'b, 'c>(t: Turn, s: Sources<'a, 'b>, units: Columns<'c>, out: &mu
 {
     let o = t.o;
     let x = send_unit::sent_at(o, t.passed, t.index, units);
-    let shown = send_unit::body(s.msg, s.hold, x.held);
+    let shown = send_unit::shown(s.msg, s.hold, x.held);
     let size = part_size(x, s.msg, shown, s.owners);
     if out.len() - t.at < size {
         return size;

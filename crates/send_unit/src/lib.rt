@@ -2,7 +2,7 @@
 // that it sends (Rules 8.14 and 8.18).
 #![tactic(auto)]
 
-ghost use Rattle.std.specs.Prelude.{◌≡◌, true, ◌+◌, ◌<◌, ◌≤◌, length};
+ghost use Rattle.std.specs.Prelude.{◌≡◌, true, cond, ◌+◌, ◌-◌, ◌<◌, ◌≤◌, length, take, drop};
 ghost use Rattle.std.specs.Bool.{then_some};
 ghost use Rattle.laws.specs.Columns.{number_at};
 ghost use Rattle.codec_select.specs.Inner.Picks.{PutBytes};
@@ -173,14 +173,26 @@ pub fn sent_at<'a>(o: Action, passed: bool, i: usize, units: Columns<'a>) -> Sen
     }
 }
 
-// The data that its message shows: a part of the hold where a unit was held, else the empty part of the
-// received message.
-pub fn body<'a>(msg: &'a [u8], hold: &'a [u8], held: Option<Extent>) -> &'a [u8]
+// A part of the hold where a unit was held, else of the received message.
+// Kept: docs/STATEMENTS.md promises it of any part of either; shown below takes the option.
+pub fn body<'a>(msg: &'a [u8], hold: &'a [u8], held: bool, from: usize, to: usize) -> &'a [u8]
+    requires { (from ≤ to) × (to ≤ length (cond held hold.now msg.now)) }
+    ensures { result.now ≡ cond held (take (to - from) (drop from hold.now)) (take (to - from) (drop from msg.now)) }
+{
+    if held {
+        return &hold[from..to];
+    }
+    &msg[from..to]
+}
+
+// The data that an action's message shows: the unit's where it was held, else the empty part of the received
+// message.
+pub fn shown<'a>(msg: &'a [u8], hold: &'a [u8], held: Option<Extent>) -> &'a [u8]
     requires { LiesIn hold.now held }
     ensures { result.now ≡ shown_of hold.now held }
 {
-    let Some(lies) = held else {
-        return &msg[..0];
-    };
-    &hold[lies.from..lies.to]
+    match held {
+        Some(lies) => body(msg, hold, true, lies.from, lies.to),
+        None => body(msg, hold, false, 0, 0),
+    }
 }

@@ -24,7 +24,6 @@ pub struct Event<'a> {
     pub index: u32,
     pub words: usize,
     pub message: &'a [u8],
-    ghost few: { words ≤ 2048 },
 }
 
 // ---- Reading
@@ -61,6 +60,7 @@ fn listed<'a>(
     bytes: &'a mut [u8; 32768],
 ) -> Option<Event<'a>>
     requires { length rest.now ≤ 65535 }
+    ensures { IfSome result (λ e. e.words ≤ 2048) }
 {
     let words = words_of(word_of(rest))?;
     let size = bytes_of(rest_of(rest), bytes)?;
@@ -75,6 +75,7 @@ fn listed<'a>(
 // One of the six event lines, its message in the first bytes of a buffer.
 pub fn event_of<'a>(line: &[u8], bytes: &'a mut [u8; 32768]) -> Option<Event<'a>>
     requires { length line.now ≤ 65535 }
+    ensures { IfSome result (λ e. e.words ≤ 2048) }
 {
     let kind = kind_of(word_of(line))?;
     let rest = rest_of(line);

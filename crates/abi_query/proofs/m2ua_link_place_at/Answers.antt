@@ -10,14 +10,14 @@ returns-then-not-sound c = unsound_link _ _ (sym c.sound_of-sound.ensures ∙ c.
 pub invariant_of-ids : goal.invariant_of-ids
 invariant_of-ids c =
     let t = table _ (sym c.sound_of-sound.ensures ∙ c.if-not-sound.false) in
-    record { few = rw c.from.ensures t.few; order = rw c.from.ensures t.order }
+    record { few = rw c.from-n.ensures t.few; order = rw c.from-n.ensures t.order }
 
 pub returns-in-Some : goal.returns-in-Some
 returns-in-Some c =
-    let i = rw c.from.ensures at c.in-Some.ensures in
+    let i = rw c.from-n.ensures at c.in-Some.ensures in
     link_there _ _ _ (sym c.sound_of-sound.ensures ∙ c.if-not-sound.false) i.0 i.1
 
 pub returns-in-None : goal.returns-in-None
 returns-in-None c =
-    let i = rw c.from.ensures at c.in-None.ensures in
+    let i = rw c.from-n.ensures at c.in-None.ensures in
     link_unknown _ _ _ (sym c.sound_of-sound.ensures ∙ c.if-not-sound.false) i (omega arith)

@@ -49,33 +49,33 @@ module _ {iid owner : List ℕ} {n : ℕ} {tags lengths marks correlations : Lis
 pub sent_at-x-requires : goal.sent_at-x-requires
 sent_at-x-requires c = let p = c.requires in (p.place, λ e. omega (arith, (p.long e).least))
 
-pub body-shown-requires : goal.body-shown-requires
-body-shown-requires c = let l = lies_at c.requires c.sent_at-x.ensures in l.inside
+pub shown-shown-requires : goal.shown-shown-requires
+shown-shown-requires c = let l = lies_at c.requires c.sent_at-x.ensures in l.inside
 
 pub part_size-size-requires : goal.part_size-size-requires
 part_size-size-requires c =
     let p = c.requires in
-    (short-at p c.sent_at-x.ensures c.body-shown.ensures, rw (made_at p c.sent_at-x.ensures c.body-shown.ensures) p.small)
+    (short-at p c.sent_at-x.ensures c.shown-shown.ensures, rw (made_at p c.sent_at-x.ensures c.shown-shown.ensures) p.small)
 
 pub overflow_sub-out : goal.overflow_sub-out
 overflow_sub-out c = c.requires.room
 
 pub returns-then-out-t : goal.returns-then-out-t
 returns-then-out-t c =
-    put_short _ _ _ (c.part_size-size.ensures ∙ ap length (made_at c.requires c.sent_at-x.ensures c.body-shown.ensures)) c.if-out-t.true
+    put_short _ _ _ (c.part_size-size.ensures ∙ ap length (made_at c.requires c.sent_at-x.ensures c.shown-shown.ensures)) c.if-out-t.true
 
 pub returns-then-o-eq-LINK_SIDE : goal.returns-then-o-eq-LINK_SIDE
 returns-then-o-eq-LINK_SIDE c =
-    put_fits _ _ _ (c.part_size-size.ensures ∙ ap length (made_at c.requires c.sent_at-x.ensures c.body-shown.ensures)) c.if-out-t.false
+    put_fits _ _ _ (c.part_size-size.ensures ∙ ap length (made_at c.requires c.sent_at-x.ensures c.shown-shown.ensures)) c.if-out-t.false
     (side_put _ _ _ _ _ _ _ _ c.if-o-eq-LINK_SIDE.true)
 
 pub put_form-requires : goal.put_form-requires
 put_form-requires c =
     let p = c.requires in
-    let z = c.part_size-size.ensures ∙ ap length (made_at p c.sent_at-x.ensures c.body-shown.ensures) in
+    let z = c.part_size-size.ensures ∙ ap length (made_at p c.sent_at-x.ensures c.shown-shown.ensures) in
     record {
-      short = omega (arith, short-at p c.sent_at-x.ensures c.body-shown.ensures);
-      size_is = z ∙ long-at p c.sent_at-x.ensures c.body-shown.ensures c.form_of-form.ensures c.if-o-eq-LINK_SIDE.false;
+      short = omega (arith, short-at p c.sent_at-x.ensures c.shown-shown.ensures);
+      size_is = z ∙ long-at p c.sent_at-x.ensures c.shown-shown.ensures c.form_of-form.ensures c.if-o-eq-LINK_SIDE.false;
       small = omega (arith, z, p.small);
       room = omega (arith, c.if-out-t.false, p.room);
     }
@@ -83,5 +83,5 @@ put_form-requires c =
 pub returns : goal.returns
 returns c =
     let p = c.requires in
-    put_fits _ _ _ (c.part_size-size.ensures ∙ ap length (made_at p c.sent_at-x.ensures c.body-shown.ensures)) c.if-out-t.false
-    (c.put_form.ensures.1 ∙ ap (overlay _ _) (bytes-at p c.sent_at-x.ensures c.body-shown.ensures c.form_of-form.ensures c.if-o-eq-LINK_SIDE.false))
+    put_fits _ _ _ (c.part_size-size.ensures ∙ ap length (made_at p c.sent_at-x.ensures c.shown-shown.ensures)) c.if-out-t.false
+    (c.put_form.ensures.1 ∙ ap (overlay _ _) (bytes-at p c.sent_at-x.ensures c.shown-shown.ensures c.form_of-form.ensures c.if-o-eq-LINK_SIDE.false))

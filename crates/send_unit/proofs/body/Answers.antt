@@ -1,11 +1,12 @@
 use mathlib.Core.Path.{refl}
-use Rattle.send_unit.specs.Inner.Made.{shown_of}
+use Rattle.laws.specs.Inner.Choice.{at_yes, at_no}
 use Rattle.send_unit.proofs.body.Goals as goal
 
-pub returns-in_default : goal.returns-in_default
-unfolding shown_of
-returns-in_default c = rw c.in_default.is
+pub slice_bounds-result-end : goal.slice_bounds-result-end
+slice_bounds-result-end c = rw c.if-held.true at c.requires.1
+
+pub returns-then-held : goal.returns-then-held
+returns-then-held c = at_yes _ _ _ c.if-held.true refl
 
 pub returns : goal.returns
-unfolding shown_of
-returns c = rw c.in-Some.is
+returns c = at_no _ _ _ c.if-held.false refl
