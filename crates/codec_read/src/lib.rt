@@ -325,7 +325,7 @@ fn read_checks(s: &[u8]) -> Reading
 }
 
 // The types of which a message may have no parameter: all of the classes 3 and 4.
-// Kept: `&` and `|` without a branch, here and in is_bare: with `matches!` and `&&` an Up took 8.2 for 6.8 ns.
+// Kept: no branch, here and in is_bare: with `matches!` and `&&` an Up took 8.2 ns and not 6.8.
 #[tactic(auto, unfolding(crate::specs::Inner::Seen::needs_none))]
 fn needs_none(c: u8, t: u8) -> bool
     ensures { result ≡ needs_none c t }
