@@ -12,12 +12,14 @@ use codec_wire::HEADER;
 use state_lookup::Identifiers;
 
 // A state that is not sound, and an AS or a link that the plan has not.
+// Kept: the C interface (include/m2ua.h) has these numbers; event_asked's enum speaks of events.
 const NOT_SOUND: u32 = 105;
 
 const NOT_IN_PLAN: u32 = 102;
 
 // Where a parameter's value lies: found is 1, its first byte and the number of its bytes; zeros where there
 // is no such parameter.
+// Kept: the C interface (include/m2ua.h) has this struct.
 #[repr(C)]
 #[derive(Drop)]
 pub struct ParamAt {

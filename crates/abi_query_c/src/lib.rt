@@ -1,5 +1,6 @@
 // What a host asks beside the events over the C ABI, for hosts in C and Rust (include/m2ua.h): each calls the
 // entry of its name in crate abi_query and promises the same.
+// Kept: twins of the entries of abi_query: a crate is a library or a static library (decision 177).
 #![tactic(auto)]
 
 ghost use Rattle.std.specs.Prelude.{◌≡◌};

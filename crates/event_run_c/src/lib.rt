@@ -2,6 +2,7 @@
 // crate event_run and promises the same. (Each crate with entries has a static library of its own, so that a
 // function with one caller is compiled into it.)
 // Kept: the C interface (include/m2ua.h) has these columns.
+// Kept: twins of the entries of event_run: a crate is a library or a static library (decision 177).
 #![tactic(auto)]
 
 ghost use Rattle.rules_event.specs.Entry.{MeetsRules};

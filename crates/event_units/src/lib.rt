@@ -1,5 +1,4 @@
-// The columns of the units held (Rule 5.21), changed in place: what ASes that wait no longer leave of them,
-// and one unit more.
+// The columns of the units held (Rule 5.21), changed in place: what ASes that wait no longer leave of them.
 #![tactic(auto)]
 
 ghost use Rattle.std.specs.Prelude.{◌≡◌, cond, ◌&&◌, ◌/◌, ◌<◌, eqb, set};

@@ -108,7 +108,8 @@ fn mark_range(until: &mut [u8; 128], search: Search, start: u32, stop: u32, near
     past
 }
 
-// That of identifier x; the place behind it. (As a range from x to x it takes longer: docs/DECISIONS.md 104.)
+// That of identifier x; the place behind it.
+// Kept: as a range from x to x it takes longer (docs/DECISIONS.md 104).
 fn mark_id(until: &mut [u8; 128], search: Search, x: u32, near: usize) -> usize
     ensures { Adds until.old search.entry.ids.iid.now search.entry.ids.count (is_from x x) until.new }
 {

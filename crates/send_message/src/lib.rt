@@ -315,7 +315,7 @@ fn put_owned<'a>(out: &mut [u8], from: usize, owners: Owners<'a>, a: usize) -> u
     at
 }
 
-// The parameter that lists them, of so many bytes; none where there are none.
+// The parameter that lists them; none where there are none.
 fn put_listed<'a>(out: &mut [u8], at: usize, owners: Owners<'a>, listed: Option<usize>) -> usize
     requires { at + length (pars_bytes (as_pars owners.iid.now owners.owner.now owners.links listed)) ≤ length out.old }
     ensures { PutPars out.old at (as_pars owners.entry.iid.now owners.entry.owner.now owners.entry.links listed) result out.new }

@@ -34,8 +34,8 @@ const LINK_SIDE: u32 = 255;
 // Room for the messages of every event: 2,048 bytes for each of 386 actions.
 const ROOM_BYTES: usize = 790528;
 
-// Why no message is written: the event is refused, for this number; the buffer is short; there is no action
-// at the place that goes to an ASP.
+// Why no message is written: the event, or a batch, is refused for this number; the buffer is short; there is
+// no action at the place that goes to an ASP.
 #[derive(Clone, Copy)]
 pub enum Refusal {
     Event(u32),

@@ -1,5 +1,6 @@
 // The actions as bytes over the C ABI, for hosts in C and Rust (include/m2ua.h): each calls the entry of its
 // name in crate send_orders and promises the same.
+// Kept: twins of the entries of send_orders: a crate is a library or a static library (decision 177).
 #![tactic(auto)]
 
 // Kept: the state column by column, as the C interface (include/m2ua.h) has it.

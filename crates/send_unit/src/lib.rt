@@ -174,7 +174,7 @@ pub fn sent_at<'a>(o: Action, passed: bool, i: usize, units: Columns<'a>) -> Sen
 }
 
 // A part of the hold where a unit was held, else of the received message.
-// Kept: docs/STATEMENTS.md promises it of any part of either; shown below takes the option.
+// Kept: a form of docs/DECISIONS.md, promised of any part of either; shown below takes the option.
 pub fn body<'a>(msg: &'a [u8], hold: &'a [u8], held: bool, from: usize, to: usize) -> &'a [u8]
     requires { (from ≤ to) × (to ≤ length (cond held hold.now msg.now)) }
     ensures { result.now ≡ cond held (take (to - from) (drop from hold.now)) (take (to - from) (drop from msg.now)) }

@@ -6,6 +6,7 @@ ghost use Rattle.std.specs.Prelude.{◌+◌, ◌≤◌, length, IfSome};
 use tool_text::{Text, bytes_of, first, number_of, rest_of, word_of};
 
 // `msg`, `lost`, `recovery`, `up`, `down`, `linkmsg`
+// Kept: tool_event_run's believed definition `said` (docs/BELIEVED.md) speaks of it.
 #[derive(Clone, Copy)]
 pub enum EventKind {
     Message,
