@@ -1,4 +1,5 @@
--- Cases of `step_at`, each from facts on numbers, and what a parameter's step tells of the place after it.
+-- The cases of `step_at`, each from facts on numbers, and what a parameter's step tells of the place after
+-- it.
 -- Assumes nothing.
 use mathlib.Core.Path.{◌≡◌, refl, sym, ap, ◌∙◌}
 use mathlib.Core.Bool.{Bool, true, false, cond}
@@ -7,7 +8,7 @@ use Prim.Native.Nat.{ℕ, zero, suc, ◌+◌, ◌-◌, ◌<◌, ◌≤◌}
 use native.Mathlib.Omega.{arith}
 use lib.ListN.{length, take, drop}
 use lib.Dec.{ltb, leb}
-use borrow.Author.Tests.{le-ltb, le-leb, lt-leb, ltb-false, leb-true, leb-false}
+use borrow.Author.Tests.{le-ltb, lt-ltb, le-leb, lt-leb, ltb-false, leb-true, leb-false}
 use Rattle.codec_wire.specs.Number.{be}
 use Rattle.codec_wire.specs.Walk.{step_at, padded, Walk, walk_f, walk, on_step, step_code}
 use Rattle.codec_wire.specs.declared.Step.{Step}
@@ -17,6 +18,18 @@ module _ (s : List ℕ) (at : ℕ) where
   pub step_end : length s ≤ at → step_at s at ≡ End
   unfolding step_at
   step_end h = simp (le-leb (length s) at h)
+
+  pub step_short : at < length s → length s - at < 4 → step_at s at ≡ Fault
+  unfolding step_at
+  step_short h k = simp (lt-leb (length s) at h, lt-ltb (length s - at) 4 k)
+
+  pub step_low : at + 4 ≤ length s → be 2 s (at + 2) < 4 → step_at s at ≡ Fault
+  unfolding step_at
+  step_low h k = simp (lt-leb (length s) at (omega arith), le-ltb (length s - at) 4 (omega arith), lt-ltb (be 2 s (at + 2)) 4 k)
+
+  pub step_over : at + 4 ≤ length s → 4 ≤ be 2 s (at + 2) → length s - at < padded (be 2 s (at + 2)) → step_at s at ≡ Fault
+  unfolding step_at
+  step_over h k o = simp (lt-leb (length s) at (omega arith), le-ltb (length s - at) 4 (omega arith), le-ltb (be 2 s (at + 2)) 4 k, lt-leb (padded (be 2 s (at + 2))) (length s - at) o)
 
   pub step_param : (t l : ℕ) → t ≡ be 2 s at → l ≡ be 2 s (at + 2) → at + 4 ≤ length s → 4 ≤ l → padded l ≤ length s - at → step_at s at ≡ Param t l (at + padded l)
   unfolding step_at

@@ -10,7 +10,7 @@ ghost use Rattle.state_lookup.specs.Inner.Servers.{state_of};
 
 mod links;
 
-pub use links::{Identifiers, Links};
+pub use links::{Identifiers, Links, holds};
 
 // ---- ASes
 

@@ -37,6 +37,17 @@ fn below_from(iid: &[u32; 128], first: usize, n: usize, x: u32) -> usize
     c as usize
 }
 
+// Whether x stands at place l. (It asks for no order, so it stands beside the struct.)
+pub fn holds(iid: &[u32; 128], links: usize, l: usize, x: u32) -> bool
+    requires { links ≤ 128 }
+    ensures { result ≡ (ltb l links && eqb (number_at iid.now l) x) }
+{
+    if l < links {
+        return iid[l] == x;
+    }
+    false
+}
+
 impl<'a> Identifiers<'a> {
     // How many of the places 0, 8, 16, .. have an identifier below x.
     fn eighths_below(self, x: u32) -> usize
@@ -67,10 +78,7 @@ impl<'a> Identifiers<'a> {
     pub fn holds(self, l: usize, x: u32) -> bool
         ensures { result ≡ (ltb l self.entry.count && eqb (number_at self.entry.iid.now l) x) }
     {
-        if l < self.count {
-            return self.iid[l] == x;
-        }
-        false
+        holds(self.iid, self.count, l, x)
     }
 
     // The index of the link with identifier x, if there is one.

@@ -12,6 +12,7 @@ ghost use Rattle.state_ranges.specs.Inner.Of.{refused_of, owned_of};
 ghost use Rattle.state_ranges.specs.Inner.Owners.{owns_from, Looked};
 ghost use Rattle.state_ranges.specs.Inner.Names.{earlier, as_refused, Names};
 
+pub use state_lookup::holds;
 use state_lookup::{Identifiers, Links};
 use state_sets::AsSet;
 
