@@ -1,16 +1,17 @@
 use native.Mathlib.Omega.{arith}
-use mathlib.Core.Path.{refl, sym, ◌∙◌}
+use mathlib.Core.Path.{refl, sym, ap, ◌∙◌}
 use Rattle.codec_wire.proofs.Refusals.{number_some}
 use Rattle.codec_read.proofs.Turns.{head_none, ends, refused, passes}
 use Rattle.codec_wire.proofs.Steps.{step_next}
+use Rattle.codec_read.specs.declared.Seen.{Seen}
 use Rattle.codec_read.proofs.read_pars.Goals as goal
 
 pub loop-tag-init : goal.loop-tag-init
-loop-tag-init c = rw c.none-seen.ensures (record { here = head_none _ _; same_code = refl })
+loop-tag-init c = rw c.none-seen.ensures (record { here = head_none _ _; same_code = refl }, refl)
 
 pub returns-in_default : goal.returns-in_default
 returns-in_default c = c.finish.ensures
-    ∙ ends c.loop-tag.invariant c.requires.1.0 c.requires.1.1 _
+    ∙ ends c.loop-tag.invariant.0 c.requires.1.0 c.requires.1.1 _
     (sym c.step_at-w.ensures) c.in_default.not-Param _
     c.step_code.ensures
 
@@ -20,14 +21,14 @@ overflow_add-start c = let k = step_next _ _ _ _ _ (sym c.step_at-w.ensures ∙ 
 pub overflow_add-stop : goal.overflow_add-stop
 overflow_add-stop c = let k = step_next _ _ _ _ _ (sym c.step_at-w.ensures ∙ c.in-Param.is) in omega arith
 
-pub slice_bounds-pass-count : goal.slice_bounds-pass-count
-slice_bounds-pass-count c = let k = step_next _ _ _ _ _ (sym c.step_at-w.ensures ∙ c.in-Param.is) in omega arith
+pub slice_bounds-pass_as-count : goal.slice_bounds-pass_as-count
+slice_bounds-pass_as-count c = let k = step_next _ _ _ _ _ (sym c.step_at-w.ensures ∙ c.in-Param.is) in omega arith
 
-pub slice_bounds-pass-start : goal.slice_bounds-pass-start
-slice_bounds-pass-start c = let k = step_next _ _ _ _ _ (sym c.step_at-w.ensures ∙ c.in-Param.is) in omega arith
+pub slice_bounds-pass_as-start : goal.slice_bounds-pass_as-start
+slice_bounds-pass_as-start c = let k = step_next _ _ _ _ _ (sym c.step_at-w.ensures ∙ c.in-Param.is) in omega arith
 
-pub slice_bounds-pass-end : goal.slice_bounds-pass-end
-slice_bounds-pass-end c = let k = step_next _ _ _ _ _ (sym c.step_at-w.ensures ∙ c.in-Param.is) in omega arith
+pub slice_bounds-pass_as-end : goal.slice_bounds-pass_as-end
+slice_bounds-pass_as-end c = let k = step_next _ _ _ _ _ (sym c.step_at-w.ensures ∙ c.in-Param.is) in omega arith
 
 pub loop-tag-smaller : goal.loop-tag-smaller
 loop-tag-smaller c = let k = step_next _ _ _ _ _ (sym c.step_at-w.ensures ∙ c.in-Param.is) in omega arith
@@ -35,10 +36,12 @@ loop-tag-smaller c = let k = step_next _ _ _ _ _ (sym c.step_at-w.ensures ∙ c.
 pub returns-in-Err : goal.returns-in-Err
 returns-in-Err c =
     c.refused_at.ensures
-    ∙ refused c.loop-tag.invariant c.requires.1.0 c.requires.1.1 _ _ _ _
+    ∙ refused c.loop-tag.invariant.0 c.requires.1.0 c.requires.1.1 _ _ _ _
     (sym c.step_at-w.ensures ∙ c.in-Param.is) (rw c.from.ensures at c.in-Err.ensures.checked) (number_some _)
 
 pub loop-tag-preserved : goal.loop-tag-preserved
-loop-tag-preserved c =
-    passes c.loop-tag.invariant c.requires.1.0 c.requires.1.1 _ _ _ _
-    (sym c.step_at-w.ensures ∙ c.in-Param.is) (rw c.from.ensures at c.in_default-pass.ensures.checked) refl _ (rw c.from.ensures at c.in_default-pass.ensures.kept)
+loop-tag-preserved c = (
+  passes c.loop-tag.invariant.0 c.requires.1.0 c.requires.1.1 _ _ _ _
+      (sym c.step_at-w.ensures ∙ c.in-Param.is) (rw c.from.ensures at c.in_default-pass_as.ensures.checked) refl _ (rw c.from.ensures at c.in_default-pass_as.ensures.kept),
+  ap (λ (z : Seen). z.first) (sym (rw c.from.ensures at c.in_default-pass_as.ensures.kept)),
+)
