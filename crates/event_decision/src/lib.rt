@@ -8,7 +8,7 @@ ghost use Rattle.rules_event.specs.Inner.Decision.{replies_in};
 ghost use Rattle.event_decision.specs.Inner.Decides.{Decides, asp_of};
 
 use rules_action::Action;
-use rules_event::{Decision, Replies};
+use rules_event::{Decision, Replies, Told};
 use rules_server::{Arrival, Change};
 
 // An action to ASP p.
@@ -98,11 +98,11 @@ pub fn turn_and_send(link: usize, state: u8, classtype: u32, subject: u32) -> De
 pub fn spread(who: [bool; 16], classtype: u32, subject: u32) -> Decision
     ensures { Decides result (send (to_all who classtype subject 0)) }
 {
-    Decision::Spread {
-        who,
+    Decision::Spread(Told {
         classtype,
+        who,
         subject,
-    }
+    })
 }
 
 // The link at an index comes to a state, with an action to each ASP of `who`.
@@ -116,13 +116,12 @@ pub fn turn_spread(
     requires { link < 128 }
     ensures { Decides result (set_link link state (to_all who classtype subject 0)) }
 {
-    Decision::TurnSpread {
-        link,
-        state,
-        who,
+    let told = Told {
         classtype,
+        who,
         subject,
-    }
+    };
+    Decision::TurnSpread { link, state, told }
 }
 
 // A change in the ASes of `who`, behind replies.

@@ -24,7 +24,7 @@ ghost use Rattle.event_run.specs.Inner.Decided.{Decided};
 ghost use Rattle.event_run.specs.Inner.Performed.{Changed, units_left};
 
 use event_asked::{Ask, EventRefusal, Place};
-use rules_event::{Asp, Decision, Link, Owner, Replies};
+use rules_event::{Asp, Decision, Link, Owner, Replies, Told};
 use rules_server::{Arrival, Change, has_some};
 use state_lookup::{Identifiers, Links};
 
@@ -211,12 +211,12 @@ fn say(replies: Replies, words: &mut [u32]) -> usize
     }
 }
 
-// An action of a class and type, and a subject, to each ASP of `who`.
-fn spread(who: [bool; 16], classtype: u32, subject: u32, words: &mut [u32]) -> usize
+// An action to several ASPs.
+fn spread(told: Told, words: &mut [u32]) -> usize
     requires { 64 ≤ length words.old }
-    ensures { Written words.old 0 (to_all who classtype subject 0) words.new result }
+    ensures { Written words.old 0 (to_all told.who told.classtype told.subject 0) words.new result }
 {
-    rules_action::to_all(who, classtype, subject, 0, words, 0)
+    rules_action::to_all(told.who, told.classtype, told.subject, 0, words, 0)
 }
 
 // The change in the ASes of `who`, behind n actions; and who is up after it.
@@ -397,24 +397,16 @@ pub fn run<'a>(
             state[link] = new;
             accepted(say(Replies::One(action), words))
         }
-        Ok(
-            Decision::Spread {
-                who,
-                classtype,
-                subject,
-            },
-        ) => accepted(spread(who, classtype, subject, words)),
+        Ok(Decision::Spread(told)) => accepted(spread(told, words)),
         Ok(
             Decision::TurnSpread {
                 link,
                 state: new,
-                who,
-                classtype,
-                subject,
+                told,
             },
         ) => {
             state[link] = new;
-            accepted(spread(who, classtype, subject, words))
+            accepted(spread(told, words))
         }
         Ok(
             Decision::ChangeIn {

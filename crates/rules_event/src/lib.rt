@@ -63,6 +63,16 @@ pub enum Replies {
     Two(Action, Action),
 }
 
+// An action of a class and type and a subject, to each ASP of `who`. (In this order the flags begin at a
+// multiple of 8 bytes of a `Decision`. At an odd byte they are cut up and put together again each time.)
+#[repr(C)]
+#[derive(Clone, Copy)]
+pub struct Told {
+    pub classtype: u32,
+    pub who: [bool; 16],
+    pub subject: u32,
+}
+
 // What an accepted event does, as the code decides it before it does it (the definitions' Effect, by
 // `effect_in`).
 #[derive(Clone, Copy)]
@@ -75,19 +85,13 @@ pub enum Decision {
         state: u8,
         action: Action,
     },
-    // an action of a class and type and a subject to each ASP of `who`
-    Spread {
-        who: [bool; 16],
-        classtype: u32,
-        subject: u32,
-    },
-    // the link at an index comes to a state, with an action to each ASP of `who`
+    // an action to several ASPs
+    Spread(Told),
+    // the link at an index comes to a state, with an action to several ASPs
     TurnSpread {
         link: usize,
         state: u8,
-        who: [bool; 16],
-        classtype: u32,
-        subject: u32,
+        told: Told,
     },
     // replies, then a change in the ASes of `who`
     ChangeIn {

@@ -26,8 +26,8 @@ asp_of Recover = 0
 abbrev pub Within : Decision → Type 0
 Within (Send os) = Unit {0}
 Within (Turn l v a) = l < 128
-Within (Spread who k s) = Unit {0}
-Within (TurnSpread l v who k s) = l < 128
+Within (Spread t) = Unit {0}
+Within (TurnSpread l v t) = l < 128
 Within (ChangeIn os k who) = asp_of k < 16
 Within (TakeIn a x) = a < 16
 

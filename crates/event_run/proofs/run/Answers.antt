@@ -79,11 +79,13 @@ overflow_sub-from c =
     let t = taken d in
     rw c.from-in-Ok-TakeIn.ensures t.least
 
+-- (That there is room holds of smaller places too: that the bytes go to this one, returns-in-Ok-TakeIn says.)
 pub lay-requires : goal.lay-requires
 lay-requires c =
     let d = rw c.in-Ok-TakeIn.field-0-is at (rw c.in-Ok-TakeIn.is at c.decide.ensures) in
     let t = taken d in
-    lay_room _ _ _ _ _ _ _ (c.from-in-Ok-TakeIn.ensures) t.as_16 (rw c.from-k.ensures t.few) t.most t.within (whole d).whole
+    let room = lay_room _ c.from-k.result _ _ _ _ _ (c.from-in-Ok-TakeIn.ensures) t.as_16 (rw c.from-k.ensures t.few) t.most t.within (whole d).whole in
+    (room.0, omega (arith, room.1))
 
 pub returns-in-Ok-TakeIn : goal.returns-in-Ok-TakeIn
 returns-in-Ok-TakeIn c =

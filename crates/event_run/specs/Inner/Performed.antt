@@ -24,6 +24,7 @@ use Rattle.rules_event.specs.declared.Replies.{Replies}
 use Rattle.rules_event.specs.declared.Replies.TheVariants.{Nothing, One, Two}
 use Rattle.rules_event.specs.declared.Decision.{Decision}
 use Rattle.rules_event.specs.declared.Decision.TheVariants.{Send, Turn, Spread, TurnSpread, ChangeIn, TakeIn}
+use Rattle.rules_event.specs.declared.Told.{Told}
 use Rattle.rules_event.specs.declared.Outcome.{Outcome}
 use Rattle.rules_event.specs.Event.{message_of}
 use Rattle.rules_event.specs.Effect.{Effect, send, set_link, change_in, take_in, hold_at, hold_after}
@@ -114,13 +115,13 @@ module _ {g : Gateway} {kind i : ℕ} {msg : List ℕ} {size : ℕ} {ws part : L
       → Runs g (event_of (happened kind i msg) (length ws) size) ws ws' part part (record { refusal = 0; count = n; gateway = with_link g l v })
   ran_turn {l} {v} {a} d x = finished d (did_set g l v (a ∷ []) (omega arith) x) (same _)
 
-  pub ran_spread : {who : List Bool} {k s : ℕ} {ws' : List ℕ} {n : ℕ} → Does g kind i msg size (length ws) (Spread who k s) → Written ws 0 (to_all who k s 0) ws' n
+  pub ran_spread : {t : Told} {ws' : List ℕ} {n : ℕ} → Does g kind i msg size (length ws) (Spread t) → Written ws 0 (to_all t.who t.classtype t.subject 0) ws' n
       → Runs g (event_of (happened kind i msg) (length ws) size) ws ws' part part (record { refusal = 0; count = n; gateway = g })
-  ran_spread {who} {k} {s} d x = finished d (did_send g (to_all who k s 0) (to_all_short who k s 0) x) (same _)
+  ran_spread {t} d x = finished d (did_send g (to_all t.who t.classtype t.subject 0) (to_all_short t.who t.classtype t.subject 0) x) (same _)
 
-  pub ran_turn_spread : {l v : ℕ} {who : List Bool} {k s : ℕ} {ws' : List ℕ} {n : ℕ} → Does g kind i msg size (length ws) (TurnSpread l v who k s) → Written ws 0 (to_all who k s 0) ws' n
+  pub ran_turn_spread : {l v : ℕ} {t : Told} {ws' : List ℕ} {n : ℕ} → Does g kind i msg size (length ws) (TurnSpread l v t) → Written ws 0 (to_all t.who t.classtype t.subject 0) ws' n
       → Runs g (event_of (happened kind i msg) (length ws) size) ws ws' part part (record { refusal = 0; count = n; gateway = with_link g l v })
-  ran_turn_spread {l} {v} {who} {k} {s} d x = finished d (did_set g l v (to_all who k s 0) (to_all_short who k s 0) x) (same _)
+  ran_turn_spread {l} {v} {t} d x = finished d (did_set g l v (to_all t.who t.classtype t.subject 0) (to_all_short t.who t.classtype t.subject 0) x) (same _)
 
   pub ran_change : {os : Replies} {k : Change} {who : List Bool} {ws' ws'' up active waiting : List ℕ} {held : Units} {n m : ℕ} → Does g kind i msg size (length ws) (ChangeIn os k who)
       → Written ws 0 (replies_in os) ws' n

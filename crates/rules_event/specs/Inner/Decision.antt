@@ -18,7 +18,7 @@ replies_in (Two a b) = a ∷ b ∷ []
 abbrev pub effect_in : Decision → Effect
 effect_in (Send os) = send (replies_in os)
 effect_in (Turn l v a) = set_link l v (a ∷ [])
-effect_in (Spread who k s) = send (to_all who k s 0)
-effect_in (TurnSpread l v who k s) = set_link l v (to_all who k s 0)
+effect_in (Spread t) = send (to_all t.who t.classtype t.subject 0)
+effect_in (TurnSpread l v t) = set_link l v (to_all t.who t.classtype t.subject 0)
 effect_in (ChangeIn os k who) = change_in (replies_in os) k who
 effect_in (TakeIn a x) = take_in a x
