@@ -4,7 +4,7 @@ ghost use Rattle.std.specs.Prelude.{◌≡◌, ◌≤◌, ◌<◌, length};
 
 // The hold that is kept, another of zeros, and how many bytes the events are lent, as it is written.
 // Kept: no heap, so the other has as many bytes as are ever lent.
-#[derive(Drop)]
+#[derive(Clone, Copy)]
 pub struct Hold {
     kept: [u8; 34944],
     other: [u8; 65536],

@@ -5,6 +5,7 @@
 #![tactic(auto)]
 
 ghost use Rattle.std.specs.Prelude.{◌≡◌, ◌+◌, ◌*◌, ◌≤◌, ◌<◌, length, IfSome};
+ghost use Rattle.state_tables.specs.Sound.{zeros};
 
 use state_tables::Gateway;
 use tool_event_line::{event_of, is_event, put_outcome, put_reached};
@@ -14,8 +15,9 @@ mod hold;
 
 use hold::Hold;
 
-// What goes from line to line: the gateway's state and the hold; and the buffer for the bytes of a line.
-#[derive(Drop)]
+// What goes from line to line: the gateway's state and the hold; and the buffer for the bytes of a line. A
+// copy goes on by itself.
+#[derive(Clone, Copy)]
 pub struct Session {
     gateway: Gateway,
     hold: Hold,
@@ -53,7 +55,9 @@ fn command_of(line: &[u8]) -> Option<Command> {
 
 impl Session {
     // The gateway is the one of zeros.
-    pub fn new() -> Self {
+    pub fn new() -> Self
+        ensures { result.gateway ≡ zeros }
+    {
         Session {
             gateway: Gateway::zeros(),
             hold: Hold::new(),

@@ -1,13 +1,13 @@
 -- How long numbers and bytes are as text, and one byte more.
 -- Assumes nothing.
-use mathlib.Core.Path.{◌≡◌, refl, sym, ◌∙◌}
-use mathlib.Core.List.{List, [], ◌∷◌, ◌++◌, append_assoc, append-nil}
+use mathlib.Core.Path.{◌≡◌, refl, sym, ap, ◌∙◌}
+use mathlib.Core.List.{List, [], ◌∷◌, ◌++◌, append_assoc}
 use Prim.Native.Nat.{ℕ, zero, suc, ◌+◌, ◌*◌, ◌/◌, ◌%◌, ◌-◌, ◌<◌, ◌≤◌}
 use native.Mathlib.Omega.{arith}
 use native.Mathlib.Numerals.{add-one}
-use lib.ListN.{length, get_or, take, drop, set, length-append, length-drop}
+use lib.ListN.{length, get_or, take, drop, set, length-append, length-drop, length-set}
 use lib.Seq.{take-suc, length-take-le}
-use Rattle.std.proofs.lemmas.List.{drop-set}
+use Rattle.std.proofs.lemmas.List.{drop-set, take_all, take_more_set}
 use Rattle.tool_text.specs.Digits.{glyph, digits, places, decimal, pair, hex}
 
 pub length_digits : (k n : ℕ) → length (digits k n) ≡ k
@@ -49,17 +49,23 @@ unfolding digits
 digits_end l zero n h = refl
 digits_end l (suc i) n h = absurd (omega arith)
 
-pub hex_start : (l : List ℕ) → l ≡ l ++ hex []
+-- a loop that writes bytes as digits, two for each
+pub hex_start : (out s : List ℕ) → take (2 * 0) out ≡ hex (take 0 s)
 unfolding hex
-hex_start l = sym (append-nil l)
+hex_start out s = refl
 
-pub hex_turn : (k m l l₀ s : List ℕ) (i x y : ℕ) → i < length s → k ≡ m ++ y ∷ [] → m ≡ l ++ x ∷ [] → x ≡ glyph (get_or s i 0 / 16) → y ≡ glyph (get_or s i 0 % 16)
-    → (l ≡ l₀ ++ hex (take i s)) × (length l ≡ length l₀ + 2 * i)
-    → (k ≡ l₀ ++ hex (take (i + 1) s)) × (length k ≡ length l₀ + 2 * (i + 1))
-hex_turn k m l l₀ s i x y h e f p q v = (
-  rw (e, f, v.0, p, q, hex_more s i h, append_assoc (l₀ ++ hex (take i s)), append_assoc l₀),
-  rw (e, f, length-append, length-append) (omega (arith, v.1)),
-)
+pub hex_turn : (out s : List ℕ) (i x y : ℕ) → i < length s → length out ≡ 2 * length s → x ≡ glyph (get_or s i 0 / 16) → y ≡ glyph (get_or s i 0 % 16)
+    → take (2 * i) out ≡ hex (take i s) → take (2 * (i + 1)) (set (set out (2 * i) x) (2 * i + 1) y) ≡ hex (take (i + 1) s)
+hex_turn out s i x y h n p q v =
+    let e : 2 * (i + 1) ≡ (2 * i + 1) + 1 = omega arith in
+    rw (e, take_more_set (set out (2 * i) x) (2 * i + 1) y (rw length-set (omega (arith, h, n))), take_more_set out (2 * i) x (omega (arith, h, n)), v, p, q, hex_more s i h, append_assoc)
+
+pub hex_end : (out s : List ℕ) (i : ℕ) → length s ≤ i → length out ≡ 2 * length s → take (2 * i) out ≡ hex (take i s) → out ≡ hex s
+hex_end out s i h n v = sym (take_all (2 * i) out (omega (arith, h, n))) ∙ v ∙ ap hex (take_all i s h)
+
+-- bytes as digits behind a text
+pub hex_text : (text l ys s : List ℕ) → l ≡ text → ys ≡ hex s → l ++ ys ≡ text ++ hex s
+hex_text text l ys s e f = rw (e, f)
 
 -- a number's digits behind a text
 pub number_text : (text l ys : List ℕ) (n k : ℕ) → l ≡ text → ys ≡ digits k n → k ≡ places n → l ++ ys ≡ text ++ decimal n

@@ -44,7 +44,7 @@ impl Text {
         ensures value { result ≡ length self.now }
         ensures upper_bound { result ≤ 65536 }
     {
-        self.len
+        self.as_bytes().len()
     }
 
     pub fn as_bytes(&self) -> &[u8]
@@ -119,10 +119,9 @@ impl Text {
         ensures text { self.new ≡ self.old ++ hex s.now }
         ensures value { length self.new ≡ length self.old + 2 * length s.now }
     {
-        for b in s {
-            self.push(digit(b / 16));
-            self.push(digit(b % 16));
-        }
+        let end = self.len + 2 * s.len();
+        put_pairs(&mut self.bytes[self.len..end], s);
+        self.len = end;
     }
 }
 
@@ -151,6 +150,18 @@ fn width(n: u32) -> usize
         ..100000000 => 8,
         ..1000000000 => 9,
         _ => 10,
+    }
+}
+
+// Bytes in lower-case hex, over a part of twice as many. (With a push for each character the length is stored
+// and loaded again each time: half as many instructions more.)
+fn put_pairs(out: &mut [u8], s: &[u8])
+    requires { length out.old ≡ 2 * length s.now }
+    ensures { out.new ≡ hex s.now }
+{
+    for i in 0..s.len() {
+        out[2 * i] = digit(s[i] / 16);
+        out[2 * i + 1] = digit(s[i] % 16);
     }
 }
 
