@@ -28,7 +28,7 @@ fn added(old: u8, l: usize) -> u8
 }
 
 // The table: at the spot of each link's identifier the link's place and 1, or SEVERAL; 0 where none falls.
-// Kept: docs/STATEMENTS.md names it, and it asks less than `Identifiers` keep: not that they ascend.
+// Kept: columns, since it asks less than `Identifiers` keep: not that they ascend.
 pub fn table_of(iid: &[u32; 128], links: usize) -> [u8; 1024]
     requires { links ≤ 128 }
     ensures { Spots result iid.now links }
