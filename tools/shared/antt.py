@@ -147,6 +147,19 @@ def tree(root):
     return files
 
 
+def models(root, text):
+    """The types of the code that a text of contracts names, of which a clause sees what an `impl Model` says:
+    (path, name, the lines of the type and of the `impl`, without comments)."""
+    found, known = [], set(re.findall(r"\w+", text))
+    for path in sorted((root / "crates").glob("*/src/**/*.rt")):
+        code = "\n".join(l for l in path.read_text(encoding="utf-8").splitlines() if l.strip() and not l.lstrip().startswith("//"))
+        for m in re.finditer(r"^impl(?:<.*?>)? Model for (\w+).*?^}$", code, re.M | re.S):
+            if m[1] in known:
+                declared = re.search(rf"^(?:#\[[^\n]*\]\n)*pub (?:struct|enum) {m[1]}\b.*?^}}$", code, re.M | re.S)
+                found.append((path, m[1], (declared[0] if declared else "").splitlines() + m[0].splitlines()))
+    return found
+
+
 def functions(root):
     """Every function of the code: (crate, name) -> (path, signature with its contract, imports)."""
     out = {}
