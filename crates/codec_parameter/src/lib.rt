@@ -338,7 +338,8 @@ fn once_code(first: bool, again: bool, t: u16) -> Result<(), Refusal>
 }
 
 // May a parameter stand there (Rules 2.12 to 2.14)? u1 is how identifiers stand in the message, u how this
-// tag does.
+// tag does. (By `==`, a repeated tag first: by `match` the compiler asks for it last, and the parameters of a
+// long list are mostly such.)
 #[tactic(auto, unfolding(crate::specs::Check::allowed_code))]
 fn allowed_code(u1: Usage, u: Usage, first: bool, again: bool, t: u16) -> Result<(), Refusal>
     ensures { code result ≡ allowed_code u1 u first again t }
@@ -346,11 +347,13 @@ fn allowed_code(u1: Usage, u: Usage, first: bool, again: bool, t: u16) -> Result
     if t == TEXT_ID {
         return Err(text_code(u1, first));
     }
-    match u {
-        Usage::Forbidden => Err(Refusal::UnexpectedParameter),
-        Usage::Repeated => Ok(()),
-        Usage::Optional | Usage::Mandatory => once_code(first, again, t),
+    if u == Usage::Repeated {
+        return Ok(());
     }
+    if u == Usage::Forbidden {
+        return Err(Refusal::UnexpectedParameter);
+    }
+    once_code(first, again, t)
 }
 
 // One parameter of a message of a row whose uses are packed: the first or not, its tag seen before or not,

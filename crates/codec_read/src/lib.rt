@@ -10,7 +10,7 @@ ghost use Rattle.codec_parameter.specs.Inner.Slot.{slot, info_of, packed_use};
 ghost use Rattle.codec_parameter.specs.Check.{par_code};
 ghost use Rattle.codec_read.specs.Verdict.{exactly, head, last_checks};
 ghost use Rattle.codec_read.specs.Meaning.{unreadable, meaning, outcome, reading_of, found_in, data_at, data_of};
-ghost use Rattle.codec_read.specs.Inner.Seen.{none, after, sequence_at, end_at, meaning_at, outcome_at, row_code, kind_outcome, checks_outcome, needs_none, is_bare};
+ghost use Rattle.codec_read.specs.Inner.Seen.{none, after, after_at, sequence_at, end_at, meaning_at, outcome_at, row_code, kind_outcome, checks_outcome, needs_none, is_bare};
 
 use codec_parameter::RowInfo;
 use codec_wire::{HEADER, MOST, Refusal, Step};
@@ -107,24 +107,22 @@ impl Seen {
         ensures kept { OnOk result (self.new ≡ after self.old t v.now) }
         ensures refused { OnErr result (self.new ≡ self.old) }
     {
-        self.pass_as(self.first, uses, t, v)
+        let k = codec_parameter::slot_of(t);
+        codec_parameter::par_at(uses, self.first, self.met[k], k, t, v)?;
+        self.keep(k, v);
+        Ok(())
     }
 
-    // The same, of a caller that has at hand whether it is the first: beside the tables that would lie in
-    // memory, and reading a list of identifiers took two fifths more time.
-    fn pass_as(&mut self, first: bool, uses: u64, t: u16, v: &[u8]) -> Result<(), Refusal>
-        requires { first ≡ self.old.first }
-        ensures checked { code result ≡ par_code (packed_use uses 1) (packed_use uses (slot t)) self.old.first (get_or self.old.met (slot t) false) t v.now }
-        ensures kept { OnOk result (self.new ≡ after self.old t v.now) }
-        ensures refused { OnErr result (self.new ≡ self.old) }
+    // One parameter more is kept, at the slot of its tag: the number of a slot is that of the first there.
+    fn keep(&mut self, k: usize, v: &[u8])
+        requires { k < 32 }
+        ensures { self.new ≡ after_at self.old k v.now }
     {
-        let k = codec_parameter::slot_of(t);
-        let again = self.met[k];
-        codec_parameter::par_at(uses, first, again, k, t, v)?;
-        self.words[k] = kept(again, self.words[k], v);
-        self.met[k] = true;
+        if !self.met[k] {
+            self.words[k] = head_of(v);
+            self.met[k] = true;
+        }
         self.first = false;
-        Ok(())
     }
 
     // Check 8, of a row whose mandatory slots are packed: a missing mandatory parameter, then the sequence
@@ -228,16 +226,6 @@ fn head_of(v: &[u8]) -> u32
     codec_wire::get32(v, 0)
 }
 
-// The number kept of a slot is that of its first parameter.
-fn kept(again: bool, old: u32, v: &[u8]) -> u32
-    ensures { result ≡ cond again old (head v.now) }
-{
-    if again {
-        return old;
-    }
-    head_of(v)
-}
-
 // The walk has ended, and what ended it may be a fault.
 fn finish(fault: Result<(), Refusal>, musts: u32, c: u8, t: u8, seen: &Seen) -> Reading
     ensures { result ≡ outcome_at (code fault or_else end_at musts c t seen.now.met seen.now.words) c t seen.now.met seen.now.words }
@@ -266,13 +254,14 @@ fn refused_at(s: &[u8], next: usize, r: Refusal) -> Reading
     }
 }
 
-// The checks 6 to 8 in one walk, of a message whose row is known.
+// The checks 6 to 8 in one walk, of a message whose row is known. (What `Seen::pass` does stands here in
+// full: called, its answer is put together and asked once more, which takes ten instructions for each
+// parameter.)
 fn read_pars(s: &[u8], info: RowInfo) -> Reading
     requires { (8 ≤ length s.now) × ((row_in table (get_or s.now 2 0) (get_or s.now 3 0) < 17) × (info ≡ info_of (row_in table (get_or s.now 2 0) (get_or s.now 3 0)))) }
     ensures { result ≡ outcome (last_checks s.now) s.now }
 {
     let mut seen = Seen::none();
-    let mut first = true;
     let mut at: usize = HEADER;
     loop {
         let w = codec_wire::step_at(s, at);
@@ -281,10 +270,13 @@ fn read_pars(s: &[u8], info: RowInfo) -> Reading
         };
         let start = at + 4;
         let stop = at + usize::from(len);
-        if let Err(r) = seen.pass_as(first, info.uses, tag, &s[start..stop]) {
+        let value = &s[start..stop];
+        let k = codec_parameter::slot_of(tag);
+        let met = seen.met[k];
+        if let Err(r) = codec_parameter::par_at(info.uses, seen.first, met, k, tag, value) {
             return refused_at(s, next, r);
         }
-        first = false;
+        seen.keep(k, value);
         at = next;
     }
 }

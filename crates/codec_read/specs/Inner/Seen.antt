@@ -32,14 +32,18 @@ pub record Tells (met : List Bool) (words : List ℕ) (ps : List Par) : Type 0 w
 abbrev pub none : Seen
 none = record { met = replicate 32 false; words = replicate 32 0; first = true }
 
--- and after one parameter more, of a tag and a value
-abbrev pub after : Seen → ℕ → List ℕ → Seen
-after z t v =
+-- and after one parameter more, of a tag's slot and a value
+abbrev pub after_at : Seen → ℕ → List ℕ → Seen
+after_at z k v =
     record {
-      met = set z.met (slot t) true;
-      words = set z.words (slot t) (cond (get_or z.met (slot t) false) (get_or z.words (slot t) 0) (head v));
+      met = set z.met k true;
+      words = set z.words k (cond (get_or z.met k false) (get_or z.words k 0) (head v));
       first = false;
     }
+
+-- of a tag and a value
+abbrev pub after : Seen → ℕ → List ℕ → Seen
+after z t v = after_at z (slot t) v
 
 -- the sequence number rules, of an action, a result, and whether there is a sequence number
 unfoldable pub sequence_at : ℕ → ℕ → ℕ → ℕ → Bool → ℕ
